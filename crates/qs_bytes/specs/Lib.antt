@@ -1,0 +1,5 @@
+pub mod Numbers
+pub mod Pieces
+pub mod Spans
+pub mod Errnos
+pub mod Names

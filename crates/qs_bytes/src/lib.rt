@@ -1,0 +1,17 @@
+//! Numbers in bytes, buffers, names, spans, and the words that a client's request and its answer
+//! are made of. Everything else in the repository stands on this crate.
+#![tactic(auto)]
+
+mod ask;
+mod buffer;
+mod memory;
+mod numbers;
+mod span;
+mod status;
+
+pub use ask::{Ask, Errno, Kind, Mode, Verdict};
+pub use buffer::Bytes;
+pub use memory::Memory;
+pub use numbers::{be16, be32, be64, put16, put32, put64, u16_at, u32_at, u64_at};
+pub use span::Span;
+pub use status::{Fed, OpenBad, SessionEnd, Status};
