@@ -3,3 +3,4 @@ pub mod Pieces
 pub mod Spans
 pub mod Errnos
 pub mod Names
+pub mod Stored

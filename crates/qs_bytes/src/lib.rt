@@ -5,6 +5,7 @@
 mod ask;
 mod buffer;
 mod memory;
+mod name;
 mod numbers;
 mod span;
 mod status;
@@ -12,6 +13,7 @@ mod status;
 pub use ask::{Ask, Errno, Kind, Mode, Verdict};
 pub use buffer::Bytes;
 pub use memory::Memory;
+pub use name::{Name, NameList};
 pub use numbers::{be16, be32, be64, put16, put32, put64, u16_at, u32_at, u64_at};
 pub use span::Span;
 pub use status::{Fed, OpenBad, SessionEnd, Status};
