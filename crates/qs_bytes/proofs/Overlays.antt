@@ -1,6 +1,6 @@
 -- Laws of parts of a list and of bytes written over it.
 use Rattle.std.proofs.Common.{◌≡◌, ℕ, ◌+◌, ◌-◌, ◌<◌, ◌≤◌, List, [], ◌++◌, length, take, drop, get_or, refl, sym, ap, ◌∙◌, arith, append_assoc, length-append, length-take-le, length-drop, add-zero, append-nil}
-use Rattle.std.proofs.lemmas.List.{take-append-drop, drop-drop, drop_at, take_at}
+use Rattle.std.proofs.lemmas.List.{take-append-drop, drop-drop, drop_at, take_at, get_or-take, get_or-drop, get_or_append_left, get_or-append_right}
 use Rattle.std.proofs.lemmas.Grind.{common_steps}
 use Rattle.std.proofs.Math.Seq.{take-add, drop-append_seam, take-append_seam, drop-append-add}
 use Rattle.qs_bytes.specs.Pieces.{part, overlay}
@@ -61,3 +61,35 @@ overlay-none old at =
     ap (λ (xs : List ℕ). xs ++ drop (at + 0) old) (append-nil (take at old))
     ∙ ap (λ (n : ℕ). take at old ++ drop n old) (add-zero at)
     ∙ take-append-drop at old
+
+-- a byte before the piece
+pub get_or-overlay_before : (old : List ℕ) (at : ℕ) (piece : List ℕ) (x : ℕ) → at ≤ length old → x < at →
+    get_or (overlay old at piece) x 0 ≡ get_or old x 0
+unfolding overlay
+get_or-overlay_before old at piece x inside before =
+    let front : length (take at old) ≡ at = length-take-le at old inside in
+    let rest : List ℕ = drop (at + length piece) old in
+    rw (append_assoc (take at old) piece rest)
+    (get_or_append_left (take at old) (piece ++ rest) 0 x (omega arith) ∙ get_or-take at old x 0 before)
+
+-- a byte of the piece
+pub get_or-overlay_inside : (old : List ℕ) (at : ℕ) (piece : List ℕ) (x : ℕ) → at ≤ length old → at ≤ x → x < at + length piece →
+    get_or (overlay old at piece) x 0 ≡ get_or piece (x - at) 0
+unfolding overlay
+get_or-overlay_inside old at piece x inside from below =
+    let front : length (take at old) ≡ at = length-take-le at old inside in
+    let rest : List ℕ = drop (at + length piece) old in
+    rw (append_assoc (take at old) piece rest)
+    (get_or-append_right (take at old) (piece ++ rest) at x 0 front from
+        ∙ get_or_append_left piece rest 0 (x - at) (omega arith))
+
+-- a byte behind the piece
+pub get_or-overlay_behind : (old : List ℕ) (at : ℕ) (piece : List ℕ) (x : ℕ) → at + length piece ≤ length old → at + length piece ≤ x →
+    get_or (overlay old at piece) x 0 ≡ get_or old x 0
+unfolding overlay
+get_or-overlay_behind old at piece x inside from =
+    let front : length (take at old ++ piece) ≡ at + length piece = front-overlay old at piece inside in
+    let rest : List ℕ = drop (at + length piece) old in
+    get_or-append_right (take at old ++ piece) rest (at + length piece) x 0 front from
+        ∙ get_or-drop (at + length piece) old (x - (at + length piece)) 0
+        ∙ ap (λ (i : ℕ). get_or old i 0) (omega arith)
