@@ -1,0 +1,4 @@
+pub mod Overlays
+pub mod Widths
+pub mod HeadLaws
+pub mod Reading

@@ -1,0 +1,5 @@
+pub mod Heads
+pub mod Phases
+pub mod Stages
+pub mod Messages
+pub mod Replies

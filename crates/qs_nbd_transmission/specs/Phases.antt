@@ -1,0 +1,117 @@
+-- What a reader of requests has taken of the next one, and what each call makes of it.
+use Rattle.std.specs.Prelude.{◌≡◌, ◌≢◌, ℕ, ◌+◌, ◌-◌, ◌<◌, ◌≤◌, Bool, true, false, if◌then◌else◌, List, [], ◌∷◌, ◌++◌, length, Option, Some, None}
+use Rattle.qs_bytes.specs.Numbers.{number32}
+use Rattle.qs_bytes.specs.declared.ask.Ask.{Ask}
+use Rattle.qs_bytes.specs.declared.status.SessionEnd.{SessionEnd}
+use Rattle.qs_bytes.specs.declared.status.SessionEnd.TheVariants.{Done, Truncated, BadMagic, TooLong}
+use Rattle.qs_nbd_transmission.specs.declared.head.Head.{Head}
+use Rattle.qs_nbd_transmission.specs.declared.event.Room.{Room}
+use Rattle.qs_nbd_transmission.specs.declared.event.Room.TheVariants.{Keep, Drop}
+use Rattle.qs_nbd_transmission.specs.declared.event.WireEvent.{WireEvent}
+use Rattle.qs_nbd_transmission.specs.declared.event.WireEvent.TheVariants as event
+use Rattle.qs_nbd_transmission.specs.Heads.{request_magic, head_of, ask_of, IsHead, IsHeadFront, disc, is_too_long, has_body}
+
+-- InHead: these bytes of the next head were taken. Wants: the head of a WRITE came, and its data have
+-- no room yet. Fills: so much of the data is in the buffer. Skips: so many bytes of the data are
+-- still to be passed over. Over: a DISC came. Stuck: a refusal came.
+pub data Phase : Type 0 where
+  InHead : (held : List ℕ) → Phase
+  Wants : (h : Head) → Phase
+  Fills : (h : Head) (got : List ℕ) → Phase
+  Skips : (h : Head) (left : ℕ) → Phase
+  Over : Phase
+  Stuck : (bad : SessionEnd) → Phase
+
+-- a reader, with what its session agreed on
+pub record Reader : Type 0 where
+  pub structured : Bool
+  pub phase : Phase
+
+-- bytes are awaited, or all that follows is refused
+abbrev pub CanFeed : Phase → Type 0
+CanFeed (Wants h) = ⊥
+CanFeed Over = ⊥
+CanFeed other = Unit {0}
+
+-- room for the data of a WRITE is awaited, and this has their length
+abbrev pub CanGive : Phase → Room → Type 0
+CanGive (Wants h) (Keep buffer) = length buffer ≡ h.size
+CanGive (Wants h) (Drop count) = count ≡ h.size
+CanGive other room = ⊥
+
+-- the phase once the room is given
+abbrev pub given : Phase → Room → Phase
+given (Wants h) (Keep buffer) = Fills h []
+given (Wants h) (Drop count) = Skips h h.size
+given other room = other
+
+-- the phase behind a head that is served
+abbrev pub behind_head : Head → Phase
+behind_head h = if has_body h then Wants h else InHead []
+
+-- These 28 bytes are a head that is served, and the phase behind it is `new`.
+pub record IsServed (structured : Bool) (bytes : List ℕ) (ask : Ask) (new : Phase) : Type 0 where
+  pub head : IsHead bytes (head_of bytes)
+  pub not_disc : (head_of bytes).kind ≢ disc
+  pub not_long : is_too_long (head_of bytes) ≡ false
+  pub asks : ask ≡ ask_of structured (head_of bytes)
+  pub behind : new ≡ behind_head (head_of bytes)
+
+-- These 28 bytes are a head by which the client leaves.
+pub record IsLeaving (bytes : List ℕ) (new : Phase) : Type 0 where
+  pub head : IsHead bytes (head_of bytes)
+  pub disc : (head_of bytes).kind ≡ disc
+  pub over : new ≡ Over
+
+-- These 28 bytes are the head of a WRITE of so many bytes, which are too many.
+pub record IsTooLong (bytes : List ℕ) (size : ℕ) (new : Phase) : Type 0 where
+  pub head : IsHead bytes (head_of bytes)
+  pub long : is_too_long (head_of bytes) ≡ true
+  pub told : size ≡ (head_of bytes).size
+  pub stuck : new ≡ Stuck (TooLong size)
+
+-- These four bytes spell this number, which no head begins with.
+pub record IsBadMagic (bytes : List ℕ) (found : ℕ) (new : Phase) : Type 0 where
+  pub four : length bytes ≡ 4
+  pub told : found ≡ number32 bytes 0
+  pub bad : found ≢ request_magic
+  pub stuck : new ≡ Stuck (BadMagic found)
+
+-- From the phase `old`, these bytes, with this event at their end and none before it, lead to `new`.
+-- What doesn't stand here never comes.
+abbrev pub Reaches : Bool → Phase → List ℕ → Option WireEvent → Phase → Type 0
+Reaches structured (InHead held) bytes None (InHead more) = (more ≡ held ++ bytes) × IsHeadFront more
+Reaches structured (InHead held) bytes (Some (event.Head ask)) new = IsServed structured (held ++ bytes) ask new
+Reaches structured (InHead held) bytes (Some event.Disc) new = IsLeaving (held ++ bytes) new
+Reaches structured (InHead held) bytes (Some (event.Bad (TooLong size))) new = IsTooLong (held ++ bytes) size new
+Reaches structured (InHead held) bytes (Some (event.Bad (BadMagic found))) new = IsBadMagic (held ++ bytes) found new
+Reaches structured (Fills h got) bytes None (Fills same more) = (same ≡ h) × (more ≡ got ++ bytes) × (length more < h.size)
+Reaches structured (Fills h got) bytes (Some (event.Body (Keep whole))) new =
+    (whole ≡ got ++ bytes) × (length whole ≡ h.size) × (new ≡ InHead [])
+Reaches structured (Skips h left) bytes None (Skips same fewer) = (same ≡ h) × (fewer + length bytes ≡ left) × (0 < fewer)
+Reaches structured (Skips h left) bytes (Some (event.Body (Drop count))) new =
+    (count ≡ h.size) × (length bytes ≡ left) × (new ≡ InHead [])
+Reaches structured (Stuck bad) bytes (Some (event.Bad again)) new = (again ≡ bad) × (bytes ≡ []) × (new ≡ Stuck bad)
+Reaches structured old bytes found new = ⊥
+
+-- how the session ended, where the input ends here
+abbrev pub end_at : Phase → SessionEnd
+end_at (InHead []) = Done
+end_at (InHead (byte ∷ held)) = Truncated
+end_at (Wants h) = Truncated
+end_at (Fills h got) = Truncated
+end_at (Skips h left) = Truncated
+end_at Over = Done
+end_at (Stuck bad) = bad
+
+-- a refusal came
+abbrev pub is_stuck : Phase → Bool
+is_stuck (Stuck bad) = true
+is_stuck other = false
+
+-- how many bytes are still wanted until the next event, at most
+abbrev pub need : Phase → ℕ
+need (InHead held) = 28 - length held
+need (Fills h got) = h.size - length got
+need (Skips h left) = left
+need other = 0

@@ -1,0 +1,15 @@
+//! The transmission phase of NBD: requests read from pieces of any size, and the heads of their
+//! replies. Nothing here takes memory.
+#![tactic(auto)]
+
+mod copy;
+mod event;
+mod head;
+mod reader;
+mod reply;
+mod stage;
+
+pub use event::{Room, WireEvent};
+pub use head::Head;
+pub use reader::Transmission;
+pub use reply::{ReplyHead, reply_head};
