@@ -2,10 +2,15 @@
 //! speak of, and objects in memory that tell all of them.
 #![tactic(auto)]
 
+mod calls;
 mod clock;
 mod disk;
+mod mem_sink;
+mod mem_source;
 mod stream;
 
 pub use clock::Clock;
 pub use disk::Disk;
+pub use mem_sink::MemSink;
+pub use mem_source::MemSource;
 pub use stream::{Failed, Sink, Source};
