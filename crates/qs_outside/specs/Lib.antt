@@ -1,2 +1,4 @@
 pub mod Blocks
 pub mod Faults
+pub mod Held
+pub mod Streams

@@ -1,4 +1,7 @@
 ghost use Rattle.std.specs.Prelude.{ℕ};
+ghost use Rattle.std.specs.Arc.{arc_value};
+
+use std::sync::Arc;
 
 /// What tells the time, in nanoseconds. `gives` holds of each reading that it may answer.
 pub trait Clock {
@@ -11,6 +14,14 @@ pub trait Clock {
 
 impl<C: Clock> Clock for &C {
     ghost gives = { λ clock. C.gives clock.now };
+
+    fn now(&self) -> u64 {
+        (**self).now()
+    }
+}
+
+impl<C: Clock> Clock for Arc<C> {
+    ghost gives = { λ clock. C.gives (arc_value clock) };
 
     fn now(&self) -> u64 {
         (**self).now()

@@ -2,10 +2,20 @@
 //! speak of, and objects in memory that tell all of them.
 #![tactic(auto)]
 
+mod block_store;
+mod calls;
 mod clock;
 mod disk;
+mod mem_clock;
+mod mem_sink;
+mod mem_source;
+mod quiet_disk;
 mod stream;
 
 pub use clock::Clock;
 pub use disk::Disk;
+pub use mem_clock::MemClock;
+pub use mem_sink::MemSink;
+pub use mem_source::MemSource;
+pub use quiet_disk::QuietDisk;
 pub use stream::{Failed, Sink, Source};

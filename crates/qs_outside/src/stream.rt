@@ -24,8 +24,11 @@ impl Error for Failed {}
 /// that is a sink too tells that side by the members `beside`, which a read keeps.
 pub trait Source {
     ghost left: { Self → Option (List ℕ) };
+
     ghost read_faults: { Self → ℕ };
+
     ghost sent_beside: { Self → Option (List ℕ) } = { λ _. None };
+
     ghost write_beside: { Self → ℕ } = { λ _. 0 };
 
     /// Reads at most as many bytes as `into` has, into its front, and answers how many. 0 for a
@@ -44,8 +47,11 @@ pub trait Source {
 /// that is a source too tells that side by the members `beside`, which a write keeps.
 pub trait Sink {
     ghost sent: { Self → Option (List ℕ) };
+
     ghost write_faults: { Self → ℕ };
+
     ghost left_beside: { Self → Option (List ℕ) } = { λ _. None };
+
     ghost read_beside: { Self → ℕ } = { λ _. 0 };
 
     /// Writes bytes from the front of the piece and answers how many, at least one where there is
