@@ -1,0 +1,4 @@
+pub mod Waiting
+pub mod Refusals
+pub mod Service
+pub mod Calls

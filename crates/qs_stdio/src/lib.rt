@@ -1,0 +1,6 @@
+//! One client on standard input and output: the requests that it sends are answered in order, over
+//! the image that eight disks hold.
+#![tactic(auto)]
+
+mod outbox;
+mod window;
