@@ -5,6 +5,7 @@
 mod copy;
 mod event;
 mod head;
+pub mod laws;
 mod reader;
 mod reply;
 mod stage;
