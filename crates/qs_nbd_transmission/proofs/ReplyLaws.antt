@@ -49,18 +49,25 @@ length-simple error cookie = simp (length-append, length-bytes32, length-bytes64
 error-simple : (error cookie : ℕ) (rest : List ℕ) → error < 2 ^ 32 → number32 (simple_front error cookie ++ rest) 4 ≡ error
 unfolding simple_front
 error-simple error cookie rest fits =
-  ap (λ xs. number32 xs 4) (append_assoc (bytes32 0x67446698 ++ bytes32 error) (bytes64 cookie) rest)
+    ap (λ xs. number32 xs 4) (append_assoc (bytes32 0x67446698 ++ bytes32 error) (bytes64 cookie) rest)
     ∙ number32_at (bytes32 0x67446698) (bytes64 cookie ++ rest) error 4 (length-bytes32 0x67446698) fits
 
 simple_apart : (ask : Ask) (v w : Verdict) (more : List ℕ) → CanReply ask v → CanReply ask w → simple_front (error_of w) ask.cookie ++ data_of w ≡ simple_front (error_of v) ask.cookie ++ data_of v ++ more → more ≡ []
 simple_apart ask v w more p q e =
-  let f = append_assoc (simple_front (error_of v) ask.cookie) (data_of v) more in
-  let same : error_of w ≡ error_of v =
+    let f = append_assoc (simple_front (error_of v) ask.cookie) (data_of v) more in
+    let same : error_of w ≡ error_of v =
     sym (error-simple (error_of w) ask.cookie (data_of w) (error_fits w)) ∙ ap (λ xs. number32 xs 4) (e ∙ f)
-      ∙ error-simple (error_of v) ask.cookie (data_of v ++ more) (error_fits v) in
-  nil_from_length more (omega (arith, same_length ask w v q p same, ap (λ xs. length xs) e,
-    length-append (simple_front (error_of w) ask.cookie) (data_of w), length-append (simple_front (error_of v) ask.cookie ++ data_of v) more,
-    length-append (simple_front (error_of v) ask.cookie) (data_of v), length-simple (error_of v) ask.cookie, length-simple (error_of w) ask.cookie))
+    ∙ error-simple (error_of v) ask.cookie (data_of v ++ more) (error_fits v) in
+    nil_from_length more (omega (
+      arith,
+      same_length ask w v q p same,
+      ap (λ xs. length xs) e,
+      length-append (simple_front (error_of w) ask.cookie) (data_of w),
+      length-append (simple_front (error_of v) ask.cookie ++ data_of v) more,
+      length-append (simple_front (error_of v) ask.cookie) (data_of v),
+      length-simple (error_of v) ask.cookie,
+      length-simple (error_of w) ask.cookie,
+    ))
 
 -- a chunk with a payload of so many bytes
 record IsChunk (bytes : List ℕ) (size : ℕ) : Type 0 where
@@ -78,40 +85,59 @@ length-chunk_head kind cookie size = simp (length-append, length-bytes16, length
 size-chunk : (kind cookie size : ℕ) (rest : List ℕ) → size < 2 ^ 32 → number32 (chunk_head kind cookie size ++ rest) 16 ≡ size
 unfolding chunk_head
 size-chunk kind cookie size rest fits =
-  number32_at (bytes32 0x668e33ef ++ bytes16 1 ++ bytes16 kind ++ bytes64 cookie) rest size 16
+    number32_at (bytes32 0x668e33ef ++ bytes16 1 ++ bytes16 kind ++ bytes64 cookie) rest size 16
     (simp (length-append, length-bytes16, length-bytes32, length-bytes64)) fits
 
 chunks_apart : (xs ys more : List ℕ) (m n : ℕ) → IsChunk xs m → IsChunk ys n → ys ≡ xs ++ more → more ≡ []
 chunks_apart xs ys more m n p q e =
-  let a : number32 ys 16 ≡ n = ap (λ zs. number32 zs 16) q.is ∙ size-chunk q.kind q.cookie n q.body q.fits in
-  let b : number32 (xs ++ more) 16 ≡ m =
+    let a : number32 ys 16 ≡ n = ap (λ zs. number32 zs 16) q.is ∙ size-chunk q.kind q.cookie n q.body q.fits in
+    let b : number32 (xs ++ more) 16 ≡ m =
     ap (λ zs. number32 (zs ++ more) 16) p.is ∙ ap (λ zs. number32 zs 16) (append_assoc (chunk_head p.kind p.cookie m) p.body more)
-      ∙ size-chunk p.kind p.cookie m (p.body ++ more) p.fits in
-  let same : n ≡ m = sym a ∙ ap (λ zs. number32 zs 16) e ∙ b in
-  nil_from_length more (omega (arith, same, ap (λ zs. length zs) e, length-append xs more, ap (λ zs. length zs) p.is, ap (λ zs. length zs) q.is,
-    length-append (chunk_head p.kind p.cookie m) p.body, length-append (chunk_head q.kind q.cookie n) q.body,
-    length-chunk_head p.kind p.cookie m, length-chunk_head q.kind q.cookie n, p.holds, q.holds))
+    ∙ size-chunk p.kind p.cookie m (p.body ++ more) p.fits in
+    let same : n ≡ m = sym a ∙ ap (λ zs. number32 zs 16) e ∙ b in
+    nil_from_length more (omega (
+      arith,
+      same,
+      ap (λ zs. length zs) e,
+      length-append xs more,
+      ap (λ zs. length zs) p.is,
+      ap (λ zs. length zs) q.is,
+      length-append (chunk_head p.kind p.cookie m) p.body,
+      length-append (chunk_head q.kind q.cookie n) q.body,
+      length-chunk_head p.kind p.cookie m,
+      length-chunk_head q.kind q.cookie n,
+      p.holds,
+      q.holds,
+    ))
 
 bytes_chunk : (ask : Ask) (b : List ℕ) → length b ≡ ask.length → ask.length ≤ longest → (d : Bool) → (ask.length == 0) ≡ d →
-  (size : ℕ) × IsChunk ((if d then chunk_head 0 ask.cookie 0 else chunk_head 1 ask.cookie (8 + ask.length) ++ bytes64 ask.offset) ++ b) size
+    (size : ℕ) × IsChunk ((if d then chunk_head 0 ask.cookie 0 else chunk_head 1 ask.cookie (8 + ask.length) ++ bytes64 ask.offset) ++ b) size
 bytes_chunk ask b e most true zero =
-  (0, record { kind = 0; cookie = ask.cookie; body = b; is = refl; holds = e ∙ eqb-true ask.length 0 zero; fits = lit< tt })
-bytes_chunk ask b e most false some =
-  (8 + ask.length, record {
-    kind = 1; cookie = ask.cookie; body = bytes64 ask.offset ++ b;
+    (0, record { kind = 0; cookie = ask.cookie; body = b; is = refl; holds = e ∙ eqb-true ask.length 0 zero; fits = lit< tt })
+bytes_chunk ask b e most false some = (
+  8 + ask.length,
+  record {
+    kind = 1;
+    cookie = ask.cookie;
+    body = bytes64 ask.offset ++ b;
     is = append_assoc (chunk_head 1 ask.cookie (8 + ask.length)) (bytes64 ask.offset) b;
     holds = omega (arith, length-append (bytes64 ask.offset) b, length-bytes64 ask.offset, e);
-    fits = omega (arith, most)
-  })
+    fits = omega (arith, most);
+  },
+)
 
 read_is_chunk : (ask : Ask) (v : Verdict) → CanReply ask v → is_read ask.kind ≡ true → (size : ℕ) × IsChunk (chunk_front ask v ++ data_of v) size
-read_is_chunk ask (Refused e) p read =
-  (6, record {
-    kind = 0x8001; cookie = ask.cookie; body = bytes32 (errno_number e) ++ bytes16 0;
+read_is_chunk ask (Refused e) p read = (
+  6,
+  record {
+    kind = 0x8001;
+    cookie = ask.cookie;
+    body = bytes32 (errno_number e) ++ bytes16 0;
     is = simp (append-nil, append_assoc);
     holds = simp (length-append, length-bytes16, length-bytes32);
-    fits = lit< tt
-  })
+    fits = lit< tt;
+  },
+)
 read_is_chunk ask (Got b) p read = bytes_chunk ask b p.1 p.2 (ask.length == 0) refl
 read_is_chunk ask Fine p read = bytes_chunk ask [] (sym (p read)) (omega (arith, p read)) (ask.length == 0) refl
 read_is_chunk ask Dropped p read = absurd p
@@ -121,12 +147,12 @@ second_of true b e = e
 second_of false b e = absurd (cc)
 
 by_form : (ask : Ask) (v w : Verdict) (more : List ℕ) (d : Bool) → (d ≡ true → is_read ask.kind ≡ true) → CanReply ask v → CanReply ask w →
-  (if d then chunk_front ask w else simple_front (error_of w) ask.cookie) ++ data_of w
+    (if d then chunk_front ask w else simple_front (error_of w) ask.cookie) ++ data_of w
     ≡ (if d then chunk_front ask v else simple_front (error_of v) ask.cookie) ++ data_of v ++ more → more ≡ []
 by_form ask v w more true read p q e =
-  let a = read_is_chunk ask v p (read refl) in
-  let b = read_is_chunk ask w q (read refl) in
-  chunks_apart (chunk_front ask v ++ data_of v) (chunk_front ask w ++ data_of w) more a.0 b.0 a.1 b.1 e
+    let a = read_is_chunk ask v p (read refl) in
+    let b = read_is_chunk ask w q (read refl) in
+    chunks_apart (chunk_front ask v ++ data_of v) (chunk_front ask w ++ data_of w) more a.0 b.0 a.1 b.1 e
 by_form ask v w more false read p q e = simple_apart ask v w more p q e
 
 pub replies_stand_apart : RepliesStandApart

@@ -33,10 +33,14 @@ CanFeed (Wants h) = ⊥
 CanFeed Over = ⊥
 CanFeed other = Unit {0}
 
+-- how many bytes a room is for
+abbrev pub room_size : Room → ℕ
+room_size (Keep buffer) = length buffer
+room_size (Drop count) = count
+
 -- room for the data of a WRITE is awaited, and this has their length
 abbrev pub CanGive : Phase → Room → Type 0
-CanGive (Wants h) (Keep buffer) = length buffer ≡ h.size
-CanGive (Wants h) (Drop count) = count ≡ h.size
+CanGive (Wants h) room = room_size room ≡ h.size
 CanGive other room = ⊥
 
 -- the phase once the room is given

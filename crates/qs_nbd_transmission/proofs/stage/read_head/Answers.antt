@@ -78,4 +78,4 @@ returns-clause-step c =
     ∙ take_all 28 (overlay c.args.head.now c.args.held piece) (omega (arith, length-overlay c.args.head.now c.args.held piece (omega (arith, c.requires.whole)), c.requires.whole))
     ∙ sym c.write_over.ensures in
     rw c.end_head.ensures.taken
-      (subst (λ (xs : List ℕ). Reaches c.args.structured (InHead []) xs c.end_head.result.event (phase_of c.write_over.new.buffer c.end_head.result.stage)) (sym whole) c.end_head.ensures.step)
+    (subst (λ (xs : List ℕ). Reaches c.args.structured (InHead []) xs c.end_head.result.event (phase_of c.write_over.new.buffer c.end_head.result.stage)) (sym whole) c.end_head.ensures.step)
