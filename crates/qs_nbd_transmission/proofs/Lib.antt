@@ -2,3 +2,5 @@ pub mod Overlays
 pub mod Widths
 pub mod HeadLaws
 pub mod Reading
+pub mod Streams
+pub mod ReplyLaws

@@ -3,3 +3,4 @@ pub mod Phases
 pub mod Stages
 pub mod Messages
 pub mod Replies
+pub mod Laws

@@ -33,10 +33,14 @@ CanFeed (Wants h) = ⊥
 CanFeed Over = ⊥
 CanFeed other = Unit {0}
 
+-- how many bytes a room is for
+abbrev pub room_size : Room → ℕ
+room_size (Keep buffer) = length buffer
+room_size (Drop count) = count
+
 -- room for the data of a WRITE is awaited, and this has their length
 abbrev pub CanGive : Phase → Room → Type 0
-CanGive (Wants h) (Keep buffer) = length buffer ≡ h.size
-CanGive (Wants h) (Drop count) = count ≡ h.size
+CanGive (Wants h) room = room_size room ≡ h.size
 CanGive other room = ⊥
 
 -- the phase once the room is given
@@ -77,22 +81,40 @@ pub record IsBadMagic (bytes : List ℕ) (found : ℕ) (new : Phase) : Type 0 wh
   pub bad : found ≢ request_magic
   pub stuck : new ≡ Stuck (BadMagic found)
 
+-- What stands at the end of these bytes of a head, and the phase there.
+abbrev pub HeadTells : Bool → List ℕ → Option WireEvent → Phase → Type 0
+HeadTells structured bytes None (InHead held) = (held ≡ bytes) × IsHeadFront held
+HeadTells structured bytes (Some (event.Head ask)) new = IsServed structured bytes ask new
+HeadTells structured bytes (Some event.Disc) new = IsLeaving bytes new
+HeadTells structured bytes (Some (event.Bad (TooLong size))) new = IsTooLong bytes size new
+HeadTells structured bytes (Some (event.Bad (BadMagic found))) new = IsBadMagic bytes found new
+HeadTells structured bytes told new = ⊥
+
+-- What stands at the end of these data of a WRITE that are kept, and the phase there.
+abbrev pub KeptTell : Head → List ℕ → Option WireEvent → Phase → Type 0
+KeptTell h bytes None (Fills same got) = (same ≡ h) × (got ≡ bytes) × (length got < h.size)
+KeptTell h bytes (Some (event.Body (Keep whole))) new = (whole ≡ bytes) × (length whole ≡ h.size) × (new ≡ InHead [])
+KeptTell h bytes told new = ⊥
+
+-- What stands behind so many bytes of the data of a WRITE of which `left` are to be passed over.
+abbrev pub PassedTell : Head → ℕ → ℕ → Option WireEvent → Phase → Type 0
+PassedTell h left count None (Skips same fewer) = (same ≡ h) × (fewer + count ≡ left) × (0 < fewer)
+PassedTell h left count (Some (event.Body (Drop size))) new = (size ≡ h.size) × (count ≡ left) × (new ≡ InHead [])
+PassedTell h left count told new = ⊥
+
+-- A refusal stays: nothing is taken, and it is told again.
+abbrev pub StaysStuck : SessionEnd → List ℕ → Option WireEvent → Phase → Type 0
+StaysStuck bad bytes told new = (bytes ≡ []) × (told ≡ Some (event.Bad bad)) × (new ≡ Stuck bad)
+
 -- From the phase `old`, these bytes, with this event at their end and none before it, lead to `new`.
--- What doesn't stand here never comes.
+-- Without an event, they are less than what leads to one.
 abbrev pub Reaches : Bool → Phase → List ℕ → Option WireEvent → Phase → Type 0
-Reaches structured (InHead held) bytes None (InHead more) = (more ≡ held ++ bytes) × IsHeadFront more
-Reaches structured (InHead held) bytes (Some (event.Head ask)) new = IsServed structured (held ++ bytes) ask new
-Reaches structured (InHead held) bytes (Some event.Disc) new = IsLeaving (held ++ bytes) new
-Reaches structured (InHead held) bytes (Some (event.Bad (TooLong size))) new = IsTooLong (held ++ bytes) size new
-Reaches structured (InHead held) bytes (Some (event.Bad (BadMagic found))) new = IsBadMagic (held ++ bytes) found new
-Reaches structured (Fills h got) bytes None (Fills same more) = (same ≡ h) × (more ≡ got ++ bytes) × (length more < h.size)
-Reaches structured (Fills h got) bytes (Some (event.Body (Keep whole))) new =
-    (whole ≡ got ++ bytes) × (length whole ≡ h.size) × (new ≡ InHead [])
-Reaches structured (Skips h left) bytes None (Skips same fewer) = (same ≡ h) × (fewer + length bytes ≡ left) × (0 < fewer)
-Reaches structured (Skips h left) bytes (Some (event.Body (Drop count))) new =
-    (count ≡ h.size) × (length bytes ≡ left) × (new ≡ InHead [])
-Reaches structured (Stuck bad) bytes (Some (event.Bad again)) new = (again ≡ bad) × (bytes ≡ []) × (new ≡ Stuck bad)
-Reaches structured old bytes found new = ⊥
+Reaches structured (InHead held) bytes told new = HeadTells structured (held ++ bytes) told new
+Reaches structured (Wants h) bytes told new = ⊥
+Reaches structured (Fills h got) bytes told new = KeptTell h (got ++ bytes) told new
+Reaches structured (Skips h left) bytes told new = PassedTell h left (length bytes) told new
+Reaches structured Over bytes told new = ⊥
+Reaches structured (Stuck bad) bytes told new = StaysStuck bad bytes told new
 
 -- how the session ended, where the input ends here
 abbrev pub end_at : Phase → SessionEnd

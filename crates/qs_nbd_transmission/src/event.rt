@@ -1,4 +1,7 @@
-use qs_bytes::{Ask, Bytes, SessionEnd};
+ghost use Rattle.std.specs.Prelude.{◌≡◌};
+ghost use Rattle.qs_nbd_transmission.specs.Heads.{has_data};
+
+use qs_bytes::{Ask, Bytes, Kind, SessionEnd};
 
 /// Where the data of a WRITE go: into a buffer, or nowhere. Each has room for exactly the data.
 #[derive(Debug, Drop)]
@@ -20,4 +23,11 @@ pub enum WireEvent {
     Disc,
     /// What came is refused. Nothing more is read.
     Bad(SessionEnd),
+}
+
+/// Whether data follow the head of this request: room for `length` bytes is then to be given.
+pub fn awaits_data(ask: &Ask) -> bool
+    ensures { result ≡ has_data ask.now }
+{
+    matches!(ask.kind, Kind::Write) && ask.length > 0
 }

@@ -5,11 +5,14 @@
 mod copy;
 mod event;
 mod head;
+pub mod laws;
 mod reader;
 mod reply;
 mod stage;
 
-pub use event::{Room, WireEvent};
-pub use head::Head;
+pub use event::{Room, WireEvent, awaits_data};
 pub use reader::Transmission;
 pub use reply::{ReplyHead, reply_head};
+
+#[cfg(test)]
+mod tests;

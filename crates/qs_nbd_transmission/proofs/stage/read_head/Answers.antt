@@ -7,7 +7,6 @@ use Rattle.qs_nbd_transmission.specs.Phases.{Reaches, InHead}
 use Rattle.qs_nbd_transmission.specs.Stages.{phase_of}
 use Rattle.qs_nbd_transmission.proofs.Overlays.{take-overlay, length-overlay}
 use Rattle.qs_nbd_transmission.proofs.HeadLaws.{below_four, first_four, front_more}
-use Rattle.qs_nbd_transmission.proofs.Reading.{from_held}
 use Rattle.qs_nbd_transmission.proofs.stage.read_head.Goals as goal
 use Rattle.qs_nbd_transmission.proofs.stage.read_head.Goals.{then-now-ge4+else-found-ne-REQUEST_MAGIC, else-now-ge4}
 
@@ -78,5 +77,5 @@ returns-clause-step c =
     sym (take-overlay c.args.head.now c.args.held piece 28 (omega (arith, c.requires.whole, c.requires.sound.0)) full)
     ∙ take_all 28 (overlay c.args.head.now c.args.held piece) (omega (arith, length-overlay c.args.head.now c.args.held piece (omega (arith, c.requires.whole)), c.requires.whole))
     ∙ sym c.write_over.ensures in
-    rw c.end_head.ensures.taken (from_held c.args.structured (take c.args.held c.args.head.now) piece c.end_head.result.event _ c.end_head.ensures.some
-    (subst (λ (xs : List ℕ). Reaches c.args.structured (InHead []) xs c.end_head.result.event (phase_of c.write_over.new.buffer c.end_head.result.stage)) (sym whole) c.end_head.ensures.step))
+    rw c.end_head.ensures.taken
+    (subst (λ (xs : List ℕ). Reaches c.args.structured (InHead []) xs c.end_head.result.event (phase_of c.write_over.new.buffer c.end_head.result.stage)) (sym whole) c.end_head.ensures.step)
