@@ -1,1 +1,2 @@
 mod HeldBlocks
+mod Journals

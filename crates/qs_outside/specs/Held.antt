@@ -1,5 +1,6 @@
 -- Disks in memory: the blocks of one stripe, one after another in one list of bytes.
 use Rattle.std.specs.Prelude.{◌≡◌, ℕ, ◌+◌, ◌*◌, ◌/◌, ◌%◌, ◌==◌, if◌then◌else◌, true, List, [], ◌∷◌, None, replicate}
+use Rattle.std.specs.Int.{div_ceil}
 use Rattle.qs_bytes.specs.Pieces.{part}
 use Rattle.qs_outside.specs.Blocks.{Seen, IsBlock, stripe_of}
 
@@ -17,6 +18,10 @@ rank_of b = b / 128 * 16 + b % 16
 -- what a block holds, which is nothing where it is of another stripe
 unfoldable pub block_of : Held → ℕ → List ℕ
 block_of held b = if stripe_of b == held.stripe then part held.bytes (rank_of b * held.align) held.align else []
+
+-- a stripe's blocks of zeros, in whole rounds of the eight stripes
+abbrev pub zeros_of : ℕ → ℕ → ℕ → Held
+zeros_of stripe align size = record { stripe = stripe; align = align; size = size; bytes = replicate (div_ceil (size / align) 128 * 16 * align) 0 }
 
 -- what a disk means that writes through and never fails
 abbrev pub quiet_seen : Held → Seen

@@ -1,4 +1,6 @@
 pub mod Blocks
 pub mod Faults
 pub mod Held
+pub mod Journal
+pub mod StoreLogs
 pub mod Streams

@@ -1,7 +1,7 @@
 ghost use Rattle.std.specs.Prelude.{◌≡◌, ◌+◌, ◌*◌, ◌/◌, ◌<◌, ◌≤◌, length, replicate, IfOk};
 ghost use Rattle.std.specs.Int.{div_ceil};
 ghost use Rattle.qs_outside.specs.Blocks.{Fixed, Stored, stripe_of};
-ghost use Rattle.qs_outside.specs.Held.{IsZeros, block_of, quiet_seen, rank_of};
+ghost use Rattle.qs_outside.specs.Held.{IsZeros, block_of, quiet_seen, rank_of, zeros_of};
 
 use qs_bytes::Memory;
 use std::alloc::Global;
@@ -42,7 +42,8 @@ impl BlockStore {
     /// The blocks of a stripe of an image of `length` bytes, all zeros.
     pub fn new(alloc: Global, stripe: u8, align: u32, length: u64) -> Result<Self, Memory>
         requires { 0 < align }
-        ensures { IfOk result (λ s. IsZeros stripe align length (quiet_seen s)) }
+        ensures zeros { IfOk result (λ s. IsZeros stripe align length (quiet_seen s)) }
+        ensures exact { IfOk result (λ s. s ≡ zeros_of stripe align length) }
     {
         match vec![in alloc; 0u8; room_for(align, length)] {
             Ok(bytes) => Ok(BlockStore {
@@ -101,9 +102,21 @@ impl BlockStore {
         requires whole { length bytes.now ≡ self.old.align }
         ensures stored { Stored b bytes.now (block_of self.old) (block_of self.new) }
         ensures fixed { Fixed (quiet_seen self.old) (quiet_seen self.new) }
+        ensures room { length self.new.bytes ≡ length self.old.bytes }
     {
         let at = self.place(b);
         let end = at + self.align as usize;
         self.bytes[at..end].copy_from_slice(bytes);
+    }
+
+    /// Copies every block of another store of the same stripe and image.
+    pub fn copy_from(&mut self, other: &BlockStore)
+        requires fixed { Fixed (quiet_seen self.old) (quiet_seen other.now) }
+        requires room { length self.old.bytes ≡ length other.now.bytes }
+        ensures { self.new ≡ other.now }
+    {
+        self.bytes
+            .as_mut_slice()
+            .copy_from_slice(other.bytes.as_slice());
     }
 }

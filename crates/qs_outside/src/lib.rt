@@ -7,14 +7,17 @@ mod calls;
 mod clock;
 mod disk;
 mod mem_clock;
+mod mem_disk;
 mod mem_sink;
 mod mem_source;
 mod quiet_disk;
+mod store_log;
 mod stream;
 
 pub use clock::Clock;
 pub use disk::Disk;
 pub use mem_clock::MemClock;
+pub use mem_disk::MemDisk;
 pub use mem_sink::MemSink;
 pub use mem_source::MemSource;
 pub use quiet_disk::QuietDisk;

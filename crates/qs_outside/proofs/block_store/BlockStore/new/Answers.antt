@@ -1,13 +1,14 @@
-use Rattle.std.proofs.Common.{refl, ap, ◌∙◌, ◌≡◌, ℕ, replicate, length, arith}
-use Rattle.qs_outside.proofs.block_store.BlockStore.new.Goals as goal
+use Rattle.std.proofs.Common.{◌≡◌, ℕ, List, replicate, refl, ap, ◌∙◌}
+use Rattle.qs_outside.specs.Held.{Held}
 use Rattle.qs_outside.proofs.HeldBlocks.{rank-room, block-zeros}
+use Rattle.qs_outside.proofs.block_store.BlockStore.new.Goals as goal
 
 pub invariant_of-result : goal.invariant_of-result
 invariant_of-result c = λ b here inside.
     rank-room b c.args.align c.args.length _ c.requires inside (c.in-Ok.ensures.len ∙ c.room_for.ensures)
 
-pub returns-in-Ok : goal.returns-in-Ok
-returns-in-Ok c = record {
+pub returns-in-Ok-clause-zeros : goal.returns-in-Ok-clause-zeros
+returns-in-Ok-clause-zeros c = record {
   stripe_is = refl;
   align_is = refl;
   size_is = refl;
@@ -18,3 +19,9 @@ returns-in-Ok c = record {
   past = λ b. refl;
   planned = refl;
 }
+
+pub returns-in-Ok-clause-exact : goal.returns-in-Ok-clause-exact
+returns-in-Ok-clause-exact c =
+    let zero : ℕ = 0 in
+    let held : List ℕ → Held = λ xs. record { stripe = c.args.stripe; align = c.args.align; size = c.args.length; bytes = xs } in
+    ap held (c.in-Ok.ensures.items_if_clones_equal (λ y same. same) ∙ ap (λ n. replicate n zero) c.room_for.ensures)

@@ -1,0 +1,57 @@
+-- Disks in memory that keep each store since the last sync, so that a crash can be played.
+use Rattle.std.specs.Prelude.{◌≡◌, ℕ, ◌==◌, true, List, [], ◌∷◌, None, Some, length, map, filter, take, drop, nat_le}
+use Rattle.qs_outside.specs.Blocks.{Fixed, Seen}
+use Rattle.qs_outside.specs.Held.{Held, block_of, quiet_seen}
+
+-- a store that is kept
+pub record Kept : Type 0 where
+  pub block : ℕ
+  pub bytes : List ℕ
+
+-- What the blocks hold, what they held at the last sync, the stores since then in their order, how many
+-- of them are kept at most, and how many calls failed.
+pub record Journal : Type 0 where
+  pub now : Held
+  pub synced : Held
+  pub stores : List Kept
+  pub room : ℕ
+  pub faults : ℕ
+
+-- the contents that were stored in a block, in their order
+abbrev pub contents_of : ℕ → List Kept → List (List ℕ)
+contents_of b stores = map (λ s. s.bytes) (filter (λ s. s.block == b) stores)
+
+-- what a crash may leave of a block: its content at the last sync, or one that was stored since
+abbrev pub past_of : Journal → ℕ → List (List ℕ)
+past_of disk b = block_of disk.synced b ∷ contents_of b disk.stores
+
+-- what such a disk means; it is full where it keeps as many stores as it can
+abbrev pub journal_seen : Journal → Seen
+journal_seen disk = record {
+  stripe = disk.now.stripe;
+  align = disk.now.align;
+  size = disk.now.size;
+  faults = disk.faults;
+  tells = true;
+  now = block_of disk.now;
+  past = past_of disk;
+  planned = None;
+  full = Some (nat_le disk.room (length disk.stores));
+}
+
+-- the stores that a disk keeps as the numbers of their blocks and, one after another, the blocks' bytes
+abbrev pub kept_of : ℕ → List ℕ → List ℕ → List Kept
+kept_of align [] bytes = []
+kept_of align (b ∷ blocks) bytes = record { block = b; bytes = take align bytes } ∷ kept_of align blocks (drop align bytes)
+
+-- a list of stores, each of a block of so many bytes, with a limit on their number
+pub record KeptStores : Type 0 where
+  pub align : ℕ
+  pub room : ℕ
+  pub stores : List Kept
+
+-- two sets of blocks are of one disk, and its stores are of whole blocks
+pub record IsOneDisk (now synced : Held) (align : ℕ) : Type 0 where
+  pub fixed : Fixed (quiet_seen synced) (quiet_seen now)
+  pub room : length synced.bytes ≡ length now.bytes
+  pub align_is : align ≡ now.align
