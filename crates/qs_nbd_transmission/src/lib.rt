@@ -12,7 +12,7 @@ mod stage;
 
 pub use event::{Room, WireEvent, awaits_data};
 pub use reader::Transmission;
-pub use reply::{ReplyHead, reply_head};
+pub use reply::{ReplyHead, data_head, reply_head};
 
 #[cfg(test)]
 mod tests;

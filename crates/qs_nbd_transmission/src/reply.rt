@@ -1,5 +1,6 @@
-ghost use Rattle.std.specs.Prelude.{◌≡◌, ◌+◌, ◌≤◌, true, [], ◌++◌, length};
+ghost use Rattle.std.specs.Prelude.{◌≡◌, ℕ, ◌+◌, ◌≤◌, true, List, [], ◌++◌, length};
 ghost use Rattle.qs_bytes.specs.Numbers.{bytes16, bytes32, bytes64};
+ghost use Rattle.qs_bytes.specs.declared.ask.Verdict.TheVariants.{Got};
 ghost use Rattle.qs_nbd_transmission.specs.Heads.{longest};
 ghost use Rattle.qs_nbd_transmission.specs.Replies.{CanReply, bytes_front, chunk_front, chunk_head, error_front, error_of, is_read, reply_front, simple_front};
 
@@ -48,9 +49,10 @@ impl ReplyHead {
         }
     }
 
-    /// The bytes.
+    /// The bytes, at most 64.
     pub fn as_slice(&self) -> &[u8]
-        ensures { result.now ≡ self.now }
+        ensures bytes { result.now ≡ self.now }
+        ensures short { length self.now ≤ 64 }
     {
         &self.bytes[..usize::from(self.len)]
     }
@@ -182,5 +184,19 @@ pub fn reply_head(mode: &Mode, ask: &Ask, verdict: &Verdict) -> ReplyHead
         read_chunk(ask, verdict)
     } else {
         simple(error(verdict), ask.cookie)
+    }
+}
+
+/// The bytes of a READ's reply before its data, for a caller that reads the data straight into place
+/// behind them. Whatever these are, it is what `reply_head` gives.
+pub fn data_head(mode: &Mode, ask: &Ask) -> ReplyHead
+    requires read { is_read ask.now.kind ≡ true }
+    requires short { ask.now.length ≤ longest }
+    ensures { (bytes : List ℕ) → result ≡ reply_front mode.now.structured ask.now (Got bytes) }
+{
+    if mode.structured {
+        bytes_chunk(ask)
+    } else {
+        simple(0, ask.cookie)
     }
 }
