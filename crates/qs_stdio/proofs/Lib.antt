@@ -1,2 +1,4 @@
 pub mod Windows
 pub mod Flows
+pub mod Valid
+pub mod Answering

@@ -1,11 +1,14 @@
 -- What the disks were called for, request by request.
-use Rattle.std.specs.Prelude.{◌≡◌, ℕ, Bool, true, false, List, [], ◌∷◌}
+use Rattle.std.specs.Prelude.{◌≡◌, ℕ, Bool, true, false, List, [], ◌∷◌, ◌++◌, Option, Result, Ok, Err}
 use Rattle.qs_bytes.specs.declared.ask.Errno.TheVariants.{Io, NoMem, Inval}
 use Rattle.qs_bytes.specs.declared.ask.Verdict.{Verdict}
 use Rattle.qs_bytes.specs.declared.ask.Verdict.TheVariants.{Refused}
 use Rattle.qs_outside.specs.Blocks.{Seen}
 use Rattle.qs_image.specs.Image.{content, AllTell, SameDisks, SomeRose}
-use Rattle.qs_stdio.specs.Service.{Exchange, ask, Leads}
+use Rattle.qs_stdio.specs.Service.{Exchange, ask, Leads, MayGet}
+use Rattle.qs_stdio.specs.Waiting.{Gives}
+use Rattle.qs_nbd_transmission.specs.Replies.{reply_of}
+use Rattle.qs_bytes.specs.declared.ask.Ask.{Ask}
 
 -- a refusal that was answered without a call of a disk
 abbrev pub is_uncalled : Verdict → Bool
@@ -15,13 +18,32 @@ is_uncalled other = false
 
 -- what one request made of the disks: EIO only where a count of faults rose in a call made for it, and
 -- no call at all where it was invalid or its memory was refused
-pub record Called (old : List Seen) (x : Exchange) (new : List Seen) : Type 0 where
-  pub leads : AllTell old → Leads (content old) (ask x) x.message.body x.verdict (content new)
+pub record Called (old : List Seen) (a : Ask) (body : List ℕ) (verdict : Verdict) (new : List Seen) : Type 0 where
+  pub leads : AllTell old → Leads (content old) a body verdict (content new)
   pub same : SameDisks old new
-  pub fault : x.verdict ≡ Refused Io → SomeRose old new
-  pub uncalled : is_uncalled x.verdict ≡ true → new ≡ old
+  pub fault : verdict ≡ Refused Io → SomeRose old new
+  pub uncalled : is_uncalled verdict ≡ true → new ≡ old
 
 -- one request after the other
 abbrev pub CalledAll : List Seen → List Exchange → List Seen → Type 0
 CalledAll old [] new = new ≡ old
-CalledAll old (x ∷ xs) new = (mid : List Seen) × (Called old x mid × CalledAll mid xs new)
+CalledAll old (x ∷ xs) new = (mid : List Seen) × (Called old (ask x) x.message.body x.verdict mid × CalledAll mid xs new)
+
+-- a request was answered: the disks were called for it, and its reply was put behind the bytes that wait
+pub record Puts (align size : ℕ) (a : Ask) (body : List ℕ) (old new : List Seen) (held held' : List ℕ) : Type 0 where
+  pub verdict : Verdict
+  pub may : MayGet align size a verdict
+  pub called : Called old a body verdict new
+  pub put : held' ≡ held ++ reply_of false a verdict
+
+-- a request was answered: the disks were called for it, and its reply was given to the output
+pub record Answered (align size : ℕ) (a : Ask) (body : List ℕ) (old new : List Seen) (sent : Option (List ℕ)) (held : List ℕ) (sent' : Option (List ℕ)) (held' : List ℕ) : Type 0 where
+  pub verdict : Verdict
+  pub may : MayGet align size a verdict
+  pub called : Called old a body verdict new
+  pub gives : Gives sent held (reply_of false a verdict) sent' held'
+
+-- a request was answered, or the output failed before a disk was called for it
+abbrev pub Answers : {E : Type 0} → ℕ → ℕ → Ask → List ℕ → List Seen → List Seen → Option (List ℕ) → List ℕ → Option (List ℕ) → List ℕ → Result Unit E → Type 0
+Answers align size a body old new sent held sent' held' (Ok u) = Answered align size a body old new sent held sent' held'
+Answers align size a body old new sent held sent' held' (Err failed) = (new ≡ old) × Gives sent held [] sent' held'

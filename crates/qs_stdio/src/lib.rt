@@ -2,5 +2,6 @@
 //! the image that eight disks hold.
 #![tactic(auto)]
 
+mod answer;
 mod outbox;
 mod window;

@@ -136,7 +136,8 @@ impl Window {
         requires blocks { (at % align ≡ 0) × (count % align ≡ 0) }
         requires inside { at + count ≤ size_of (map D.seen disks.old) }
         requires room { length head.now + count ≤ self.old.free }
-        ensures { PutsRead (map D.seen disks.old) self.old.held head.now at count result (map D.seen disks.new) self.new.held }
+        ensures puts { PutsRead (map D.seen disks.old) self.old.held head.now at count result (map D.seen disks.new) self.new.held }
+        ensures free { OnErr result (self.new.free ≡ self.old.free) }
     {
         let first = self.end + head.len();
         put(&mut self.bytes, self.end, head);
