@@ -11,7 +11,8 @@ use Rattle.qs_bytes.specs.Pieces.{part}
 use Rattle.qs_image.specs.Image.{Loads, Stores, content}
 use Rattle.qs_image.proofs.Striped.{same_disks_refl}
 use Rattle.qs_nbd_transmission.specs.Replies.{is_read, reply_front, reply_of}
-use Rattle.qs_stdio.specs.Service.{is_valid, is_write, MayGet, Leads}
+use Rattle.qs_stdio.specs.Service.{is_valid, MayGet, Leads}
+use Rattle.qs_nbd_transmission.specs.Heads.{is_write}
 use Rattle.qs_stdio.specs.Waiting.{Gives, PutsRead}
 use Rattle.qs_stdio.specs.Calls.{Called, Puts, Answered, Answers, is_uncalled}
 use Rattle.qs_stdio.proofs.Flows.{gives_on}

@@ -92,3 +92,6 @@ takes_read left left' waiting waiting' empty read = record {
   read = read;
   joined = ap (λ (zs : List ℕ). zs ++ waiting') empty;
 }
+
+pub takes_split : (left : Option (List ℕ)) (waiting taken waiting' : List ℕ) → waiting ≡ taken ++ waiting' → Takes left waiting taken left waiting'
+takes_split left waiting taken waiting' is = record { more = []; read = consumes_none left; joined = append-nil waiting ∙ is }

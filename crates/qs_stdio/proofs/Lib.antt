@@ -2,3 +2,4 @@ pub mod Windows
 pub mod Flows
 pub mod Valid
 pub mod Answering
+pub mod Sought

@@ -3,9 +3,9 @@ use Rattle.std.proofs.Common.{◌≡◌, ℕ, ◌+◌, ◌%◌, ◌≤◌, ◌<�
 use Rattle.std.specs.Prelude.{not, ◌&&◌, ◌||◌, ◌==◌, nat_lt, nat_le}
 use Rattle.std.proofs.lemmas.Bool.Decides.{nat_tests}
 use Rattle.qs_bytes.specs.declared.ask.Ask.{Ask}
-use Rattle.qs_nbd_transmission.specs.Heads.{longest}
+use Rattle.qs_nbd_transmission.specs.Heads.{is_write, longest}
 use Rattle.qs_nbd_transmission.specs.Replies.{is_read}
-use Rattle.qs_stdio.specs.Service.{is_valid, is_write}
+use Rattle.qs_stdio.specs.Service.{is_valid}
 
 -- whole blocks inside the image, of which a READ asks for at most 32 MiB
 pub record IsWhole (align size : ℕ) (a : Ask) : Type 0 where

@@ -2,3 +2,5 @@ pub mod Waiting
 pub mod Refusals
 pub mod Service
 pub mod Calls
+pub mod Scenes
+pub mod Events

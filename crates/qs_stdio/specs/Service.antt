@@ -4,12 +4,10 @@ use Rattle.std.specs.Prelude.{◌≡◌, ℕ, ◌+◌, ◌%◌, ◌≤◌, ◌�
 use Rattle.std.specs.List.{AllByRecursion}
 use Rattle.qs_bytes.specs.Pieces.{part, overlay}
 use Rattle.qs_bytes.specs.declared.ask.Ask.{Ask}
-use Rattle.qs_bytes.specs.declared.ask.Kind.{Kind}
-use Rattle.qs_bytes.specs.declared.ask.Kind.TheVariants.{Read, Write}
 use Rattle.qs_bytes.specs.declared.ask.Errno.TheVariants.{Io, NoMem, Inval}
 use Rattle.qs_bytes.specs.declared.ask.Verdict.{Verdict}
 use Rattle.qs_bytes.specs.declared.ask.Verdict.TheVariants.{Got, Fine, Refused}
-use Rattle.qs_nbd_transmission.specs.Heads.{ask_of, longest}
+use Rattle.qs_nbd_transmission.specs.Heads.{ask_of, is_write, longest}
 use Rattle.qs_nbd_transmission.specs.Messages.{Message, IsMessage, spelling}
 use Rattle.qs_nbd_transmission.specs.Replies.{is_read, reply_of}
 use Rattle.qs_image.specs.Image.{IsFrontWritten}
@@ -22,14 +20,6 @@ pub record Exchange : Type 0 where
 -- what the request asks for
 abbrev pub ask : Exchange → Ask
 ask x = ask_of false x.message.head
-
-abbrev pub is_write : Kind → Bool
-is_write Write = true
-is_write other = false
-
--- data follow the request
-abbrev pub wants_data : Ask → Bool
-wants_data a = is_write a.kind && nat_lt 0 a.length
 
 -- A READ or a WRITE without a flag, a READ of at most 32 MiB, of whole blocks inside the image. Every
 -- other request is refused with EINVAL.

@@ -4,7 +4,8 @@ ghost use Rattle.qs_outside.specs.Faults.{HasCause};
 ghost use Rattle.qs_image.specs.Image.{align_of, size_of};
 ghost use Rattle.qs_image.specs.Opening.{IsAlign, IsImage};
 ghost use Rattle.qs_nbd_transmission.specs.Replies.{CanReply, data_of, is_read, reply_of};
-ghost use Rattle.qs_stdio.specs.Service.{is_valid, is_write, wants_data};
+ghost use Rattle.qs_nbd_transmission.specs.Heads.{has_data, is_write};
+ghost use Rattle.qs_stdio.specs.Service.{is_valid};
 ghost use Rattle.qs_stdio.specs.Waiting.{Gives};
 ghost use Rattle.qs_stdio.specs.Calls.{Answers, Puts};
 
@@ -49,8 +50,8 @@ pub fn writes(kind: Kind) -> bool
 }
 
 /// Whether data follow the request.
-pub fn has_data(ask: &Ask) -> bool
-    ensures { result ≡ wants_data ask.now }
+pub fn data_follow(ask: &Ask) -> bool
+    ensures { result ≡ has_data ask.now }
 {
     writes(ask.kind) && ask.length > 0
 }

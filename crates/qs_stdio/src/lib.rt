@@ -3,5 +3,6 @@
 #![tactic(auto)]
 
 mod answer;
+mod event;
 mod outbox;
 mod window;
