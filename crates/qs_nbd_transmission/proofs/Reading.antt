@@ -128,7 +128,7 @@ head_never s bytes more told new (InHead held) p q =
 head_never s bytes more told new other p q = q
 
 -- data that are whole
-kept_whole : (h : Head) (bytes : List ℕ) (told : WireEvent) (new : Phase) → KeptTell h bytes (Some told) new → (length bytes ≡ h.size) × (told ≡ event.Body (Keep bytes)) × (new ≡ InHead [])
+pub kept_whole : (h : Head) (bytes : List ℕ) (told : WireEvent) (new : Phase) → KeptTell h bytes (Some told) new → (length bytes ≡ h.size) × (told ≡ event.Body (Keep bytes)) × (new ≡ InHead [])
 kept_whole h bytes (event.Body (Keep whole)) new r = (ap (λ xs. length xs) (sym r.0) ∙ r.1, ap (λ xs. event.Body (Keep xs)) r.0, r.2)
 kept_whole h bytes told new r = absurd r
 
@@ -137,7 +137,7 @@ kept_never h bytes more told new (Fills g got) p q =
     omega (arith, (kept_whole h bytes told new p).0, q.2, ap (λ xs. length xs) q.1, length-append bytes more)
 kept_never h bytes more told new other p q = q
 
-passed_whole : (h : Head) (left count : ℕ) (told : WireEvent) (new : Phase) → PassedTell h left count (Some told) new → (count ≡ left) × (told ≡ event.Body (Drop h.size)) × (new ≡ InHead [])
+pub passed_whole : (h : Head) (left count : ℕ) (told : WireEvent) (new : Phase) → PassedTell h left count (Some told) new → (count ≡ left) × (told ≡ event.Body (Drop h.size)) × (new ≡ InHead [])
 passed_whole h left count (event.Body (Drop size)) new r = (r.1, ap (λ n. event.Body (Drop n)) r.0, r.2)
 passed_whole h left count told new r = absurd r
 

@@ -142,7 +142,7 @@ read_is_chunk ask (Got b) p read = bytes_chunk ask b p.1 p.2 (ask.length == 0) r
 read_is_chunk ask Fine p read = bytes_chunk ask [] (sym (p read)) (omega (arith, p read)) (ask.length == 0) refl
 read_is_chunk ask Dropped p read = absurd p
 
-second_of : (a b : Bool) → (a && b) ≡ true → b ≡ true
+pub second_of : (a b : Bool) → (a && b) ≡ true → b ≡ true
 second_of true b e = e
 second_of false b e = absurd (cc)
 
