@@ -1,9 +1,8 @@
 -- What the calls of a session tell together, by induction on them.
-use Rattle.std.proofs.Common.{◌≡◌, ◌≢◌, ℕ, ◌+◌, ◌<◌, ◌≤◌, Bool, true, false, nat_lt, if◌then◌else◌, List, [], ◌∷◌, ◌++◌, length, replicate, Option, Some, None, refl, ap, sym, ◌∙◌, subst, append_assoc, arith}
-use Rattle.std.specs.List.{All, flat_map}
+use Rattle.std.proofs.Common.{◌≡◌, ℕ, ◌+◌, ◌<◌, Bool, true, false, nat_lt, List, [], ◌∷◌, ◌++◌, length, replicate, Some, None, refl, ap, sym, ◌∙◌, subst, append_assoc, arith}
+use Rattle.std.specs.List.{flat_map}
 use Rattle.std.proofs.lemmas.List.{length-append, append-nil, replicate_more}
 use Rattle.std.proofs.lemmas.List.Elements.{All-append, All-cons, All-nil}
-use Rattle.std.proofs.lemmas.List.Concat.{flat_map-cons}
 use Rattle.std.proofs.lemmas.Grind.{flat_map-append}
 use Rattle.std.proofs.lemmas.Bool.{ltb-true}
 use Rattle.qs_bytes.specs.declared.ask.Ask.{Ask}
@@ -14,10 +13,10 @@ use Rattle.qs_nbd_transmission.specs.declared.event.Room.{Room}
 use Rattle.qs_nbd_transmission.specs.declared.event.Room.TheVariants.{Keep, Drop}
 use Rattle.qs_nbd_transmission.specs.declared.event.WireEvent.{WireEvent}
 use Rattle.qs_nbd_transmission.specs.declared.event.WireEvent.TheVariants as event
-use Rattle.qs_nbd_transmission.specs.Heads.{FitsHead, IsHead, IsHeadFront, head_bytes, head_of, ask_of, disc, is_too_long, is_write_head, has_body}
-use Rattle.qs_nbd_transmission.specs.Phases.{Phase, InHead, Wants, Fills, Skips, Over, Stuck, CanGive, given, room_size, Reaches, HeadTells, KeptTell, PassedTell, StaysStuck, IsServed, IsLeaving}
-use Rattle.qs_nbd_transmission.specs.Messages.{Message, IsMessage, spelling}
-use Rattle.qs_nbd_transmission.specs.Sessions.{Call, Took, Gave, Makes, Runs, taken_by, told_by, Heard, HoldsBody, IsHeard, body_events, events_of, IsAwaiting, Leaves, Tells, ReadsSessions}
+use Rattle.qs_nbd_transmission.specs.Heads.{IsHeadFront, head_bytes, head_of, ask_of, is_write_head, has_body}
+use Rattle.qs_nbd_transmission.specs.Phases.{Phase, InHead, Wants, Fills, Skips, Over, Stuck, given, HeadTells, KeptTell, PassedTell, StaysStuck, IsServed, IsLeaving}
+use Rattle.qs_nbd_transmission.specs.Messages.{spelling}
+use Rattle.qs_nbd_transmission.specs.Sessions.{Call, Took, Gave, Makes, Runs, taken_by, told_by, Heard, IsHeard, events_of, IsAwaiting, Leaves, Tells, ReadsSessions}
 use Rattle.qs_nbd_transmission.proofs.Reading.{behind_wants, behind_none, kept_whole, passed_whole}
 use Rattle.qs_nbd_transmission.proofs.ReplyLaws.{second_of}
 

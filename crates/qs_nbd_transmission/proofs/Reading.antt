@@ -1,18 +1,18 @@
 -- What a reader tells depends on the bytes alone, however they are cut.
-use Rattle.std.proofs.Common.{◌≡◌, ◌≢◌, ℕ, ◌+◌, ◌-◌, ◌<◌, ◌≤◌, Bool, true, false, ◌&&◌, ◌==◌, nat_lt, if◌then◌else◌, List, [], ◌∷◌, ◌++◌, length, take, Option, Some, None, refl, ap, sym, ◌∙◌, subst, append_assoc, arith, ◌⊎◌, inl, inr}
+use Rattle.std.proofs.Common.{◌≡◌, ◌≢◌, ℕ, ◌+◌, ◌≤◌, Bool, true, false, ◌&&◌, ◌==◌, nat_lt, if◌then◌else◌, List, [], ◌++◌, length, take, Option, Some, None, refl, ap, sym, ◌∙◌, subst, append_assoc, arith, ◌⊎◌, inl, inr}
 use Rattle.std.proofs.lemmas.Bool.{eq-eqb, ne_eqb, cases_eq}
 use Rattle.std.proofs.lemmas.List.{length-append, take_at, append_cancel_left}
 use Rattle.qs_bytes.specs.Numbers.{number32}
-use Rattle.qs_bytes.specs.declared.status.SessionEnd.TheVariants.{Done, Truncated, BadMagic, BadFlags, TooLong, NotFixed, Aborted, NoExport, Crowded, Shutting, LinkFault, Memory}
+use Rattle.qs_bytes.specs.declared.status.SessionEnd.TheVariants.{BadMagic, TooLong}
 use Rattle.qs_nbd_transmission.specs.declared.head.Head.{Head}
 use Rattle.qs_nbd_transmission.specs.declared.event.Room.TheVariants.{Keep, Drop}
 use Rattle.qs_nbd_transmission.specs.declared.event.WireEvent.{WireEvent}
 use Rattle.qs_nbd_transmission.specs.declared.event.WireEvent.TheVariants as event
-use Rattle.qs_nbd_transmission.specs.Heads.{request_magic, IsHead, IsHeadFront, head_bytes, head_of, ask_of, disc, is_too_long, longest, has_body, has_data, is_write, kind_of}
+use Rattle.qs_nbd_transmission.specs.Heads.{request_magic, IsHead, IsHeadFront, head_of, ask_of, disc, is_too_long, longest, has_body, has_data, is_write, kind_of}
 use Rattle.qs_bytes.specs.declared.ask.Ask.{Ask}
 use Rattle.qs_bytes.specs.declared.ask.Kind.{Kind}
-use Rattle.qs_bytes.specs.declared.ask.Kind.TheVariants.{Read, Write, Zero, Trim, Flush, Unknown}
-use Rattle.qs_nbd_transmission.specs.Phases.{Phase, InHead, Wants, Fills, Skips, Over, Stuck, Reaches, HeadTells, KeptTell, PassedTell, IsServed, IsLeaving, IsTooLong, IsBadMagic, behind_head, need}
+use Rattle.qs_bytes.specs.declared.ask.Kind.TheVariants.{Read, Zero, Trim, Flush, Unknown}
+use Rattle.qs_nbd_transmission.specs.Phases.{Phase, InHead, Wants, Fills, Skips, Over, Stuck, Reaches, HeadTells, KeptTell, PassedTell, behind_head}
 use Rattle.qs_nbd_transmission.specs.Laws.{AsksRoom, JoinsPieces, ReadsOnce, WantsLess}
 use Rattle.qs_nbd_transmission.proofs.Widths.{number32-append}
 use Rattle.qs_nbd_transmission.proofs.HeadLaws.{length-head_bytes, magic-head_bytes}
