@@ -1,18 +1,18 @@
 -- What a reader tells depends on the bytes alone, however they are cut.
-use Rattle.std.proofs.Common.{◌≡◌, ◌≢◌, ℕ, ◌+◌, ◌-◌, ◌<◌, ◌≤◌, Bool, true, false, ◌&&◌, ◌==◌, nat_lt, if◌then◌else◌, List, [], ◌∷◌, ◌++◌, length, take, Option, Some, None, refl, ap, sym, ◌∙◌, subst, append_assoc, arith, ◌⊎◌, inl, inr}
+use Rattle.std.proofs.Common.{◌≡◌, ◌≢◌, ℕ, ◌+◌, ◌≤◌, Bool, true, false, ◌&&◌, ◌==◌, nat_lt, if◌then◌else◌, List, [], ◌++◌, length, take, Option, Some, None, refl, ap, sym, ◌∙◌, subst, append_assoc, arith, ◌⊎◌, inl, inr}
 use Rattle.std.proofs.lemmas.Bool.{eq-eqb, ne_eqb, cases_eq}
 use Rattle.std.proofs.lemmas.List.{length-append, take_at, append_cancel_left}
 use Rattle.qs_bytes.specs.Numbers.{number32}
-use Rattle.qs_bytes.specs.declared.status.SessionEnd.TheVariants.{Done, Truncated, BadMagic, BadFlags, TooLong, NotFixed, Aborted, NoExport, Crowded, Shutting, LinkFault, Memory}
+use Rattle.qs_bytes.specs.declared.status.SessionEnd.TheVariants.{BadMagic, TooLong}
 use Rattle.qs_nbd_transmission.specs.declared.head.Head.{Head}
 use Rattle.qs_nbd_transmission.specs.declared.event.Room.TheVariants.{Keep, Drop}
 use Rattle.qs_nbd_transmission.specs.declared.event.WireEvent.{WireEvent}
 use Rattle.qs_nbd_transmission.specs.declared.event.WireEvent.TheVariants as event
-use Rattle.qs_nbd_transmission.specs.Heads.{request_magic, IsHead, IsHeadFront, head_bytes, head_of, ask_of, disc, is_too_long, longest, has_body, has_data, is_write, kind_of}
+use Rattle.qs_nbd_transmission.specs.Heads.{request_magic, IsHead, IsHeadFront, head_of, ask_of, disc, is_too_long, longest, has_body, has_data, is_write, kind_of}
 use Rattle.qs_bytes.specs.declared.ask.Ask.{Ask}
 use Rattle.qs_bytes.specs.declared.ask.Kind.{Kind}
-use Rattle.qs_bytes.specs.declared.ask.Kind.TheVariants.{Read, Write, Zero, Trim, Flush, Unknown}
-use Rattle.qs_nbd_transmission.specs.Phases.{Phase, InHead, Wants, Fills, Skips, Over, Stuck, Reaches, HeadTells, KeptTell, PassedTell, IsServed, IsLeaving, IsTooLong, IsBadMagic, behind_head, need}
+use Rattle.qs_bytes.specs.declared.ask.Kind.TheVariants.{Read, Zero, Trim, Flush, Unknown}
+use Rattle.qs_nbd_transmission.specs.Phases.{Phase, InHead, Wants, Fills, Skips, Over, Stuck, Reaches, HeadTells, KeptTell, PassedTell, behind_head}
 use Rattle.qs_nbd_transmission.specs.Laws.{AsksRoom, JoinsPieces, ReadsOnce, WantsLess}
 use Rattle.qs_nbd_transmission.proofs.Widths.{number32-append}
 use Rattle.qs_nbd_transmission.proofs.HeadLaws.{length-head_bytes, magic-head_bytes}
@@ -128,7 +128,7 @@ head_never s bytes more told new (InHead held) p q =
 head_never s bytes more told new other p q = q
 
 -- data that are whole
-kept_whole : (h : Head) (bytes : List ℕ) (told : WireEvent) (new : Phase) → KeptTell h bytes (Some told) new → (length bytes ≡ h.size) × (told ≡ event.Body (Keep bytes)) × (new ≡ InHead [])
+pub kept_whole : (h : Head) (bytes : List ℕ) (told : WireEvent) (new : Phase) → KeptTell h bytes (Some told) new → (length bytes ≡ h.size) × (told ≡ event.Body (Keep bytes)) × (new ≡ InHead [])
 kept_whole h bytes (event.Body (Keep whole)) new r = (ap (λ xs. length xs) (sym r.0) ∙ r.1, ap (λ xs. event.Body (Keep xs)) r.0, r.2)
 kept_whole h bytes told new r = absurd r
 
@@ -137,7 +137,7 @@ kept_never h bytes more told new (Fills g got) p q =
     omega (arith, (kept_whole h bytes told new p).0, q.2, ap (λ xs. length xs) q.1, length-append bytes more)
 kept_never h bytes more told new other p q = q
 
-passed_whole : (h : Head) (left count : ℕ) (told : WireEvent) (new : Phase) → PassedTell h left count (Some told) new → (count ≡ left) × (told ≡ event.Body (Drop h.size)) × (new ≡ InHead [])
+pub passed_whole : (h : Head) (left count : ℕ) (told : WireEvent) (new : Phase) → PassedTell h left count (Some told) new → (count ≡ left) × (told ≡ event.Body (Drop h.size)) × (new ≡ InHead [])
 passed_whole h left count (event.Body (Drop size)) new r = (r.1, ap (λ n. event.Body (Drop n)) r.0, r.2)
 passed_whole h left count told new r = absurd r
 

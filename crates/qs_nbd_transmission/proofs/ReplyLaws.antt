@@ -1,6 +1,6 @@
 -- No reply begins another to the same request.
 use Rattle.std.proofs.Common.{◌≡◌, ℕ, ◌+◌, ◌<◌, ◌≤◌, ◌^◌, Bool, true, false, ◌&&◌, ◌==◌, if◌then◌else◌, List, [], ◌++◌, length, refl, ap, sym, ◌∙◌, append_assoc, arith, lit<}
-use Rattle.std.proofs.lemmas.Bool.{eqb-true, eq-eqb}
+use Rattle.std.proofs.lemmas.Bool.{eqb-true}
 use Rattle.std.proofs.lemmas.List.{length-append, append-nil, nil_from_length}
 use Rattle.qs_bytes.specs.Numbers.{bytes16, bytes32, bytes64, number32}
 use Rattle.qs_bytes.specs.Errnos.{errno_number}
@@ -10,7 +10,7 @@ use Rattle.qs_bytes.specs.declared.ask.Errno.TheVariants.{Perm, Io, NoMem, Inval
 use Rattle.qs_bytes.specs.declared.ask.Verdict.{Verdict}
 use Rattle.qs_bytes.specs.declared.ask.Verdict.TheVariants.{Got, Fine, Refused, Dropped}
 use Rattle.qs_nbd_transmission.specs.Heads.{longest}
-use Rattle.qs_nbd_transmission.specs.Replies.{CanReply, is_read, error_of, data_of, simple_front, chunk_head, chunk_front, reply_front, reply_of}
+use Rattle.qs_nbd_transmission.specs.Replies.{CanReply, is_read, error_of, data_of, simple_front, chunk_head, chunk_front}
 use Rattle.qs_nbd_transmission.specs.Laws.{RepliesStandApart}
 use Rattle.qs_nbd_transmission.proofs.Widths.{length-bytes16, length-bytes32, length-bytes64, number32_at}
 
@@ -142,7 +142,7 @@ read_is_chunk ask (Got b) p read = bytes_chunk ask b p.1 p.2 (ask.length == 0) r
 read_is_chunk ask Fine p read = bytes_chunk ask [] (sym (p read)) (omega (arith, p read)) (ask.length == 0) refl
 read_is_chunk ask Dropped p read = absurd p
 
-second_of : (a b : Bool) → (a && b) ≡ true → b ≡ true
+pub second_of : (a b : Bool) → (a && b) ≡ true → b ≡ true
 second_of true b e = e
 second_of false b e = absurd (cc)
 

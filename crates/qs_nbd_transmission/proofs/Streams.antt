@@ -1,13 +1,13 @@
 -- Messages and streams of them are read in one way.
-use Rattle.std.proofs.Common.{◌≡◌, ℕ, ◌+◌, ◌<◌, ◌≤◌, Bool, true, false, if◌then◌else◌, List, [], ◌∷◌, ◌++◌, length, Some, refl, ap, sym, ◌∙◌, subst, append_assoc, arith, zero, suc}
+use Rattle.std.proofs.Common.{◌≡◌, ℕ, if◌then◌else◌, List, [], ◌∷◌, ◌++◌, length, refl, ap, sym, ◌∙◌, subst, append_assoc, arith, suc}
 use Rattle.std.specs.List.{All, flat_map}
 use Rattle.std.proofs.lemmas.List.{length-append, append-nil, append_cancel_left, nil_from_length}
 use Rattle.qs_nbd_transmission.specs.declared.head.Head.{Head}
 use Rattle.qs_nbd_transmission.specs.declared.event.WireEvent.{WireEvent}
 use Rattle.qs_nbd_transmission.specs.declared.event.WireEvent.TheVariants as event
-use Rattle.qs_nbd_transmission.specs.Heads.{FitsHead, IsHead, IsHeadFront, head_bytes, head_of, ask_of, disc, has_body}
-use Rattle.qs_nbd_transmission.specs.Phases.{Phase, InHead, Reaches, IsServed, behind_head}
-use Rattle.qs_nbd_transmission.specs.Messages.{Message, IsMessage, BeginsNone, spelling}
+use Rattle.qs_nbd_transmission.specs.Heads.{FitsHead, head_bytes, head_of, ask_of, has_body}
+use Rattle.qs_nbd_transmission.specs.Phases.{InHead, behind_head}
+use Rattle.qs_nbd_transmission.specs.Messages.{Message, IsMessage, spelling}
 use Rattle.qs_nbd_transmission.specs.Laws.{SpellsOnce, TellsMessages, HasOneReading, RestsBegin, IsEnding}
 use Rattle.qs_nbd_transmission.proofs.HeadLaws.{length-head_bytes, head_of-head_bytes}
 use Rattle.qs_nbd_transmission.proofs.Reading.{same_front, reads_once}

@@ -4,3 +4,4 @@ pub mod Stages
 pub mod Messages
 pub mod Replies
 pub mod Laws
+pub mod Sessions

@@ -1,7 +1,7 @@
 -- Messages of the transmission phase, and streams of them.
-use Rattle.std.specs.Prelude.{◌≡◌, ◌≢◌, ℕ, ◌<◌, true, false, if◌then◌else◌, List, ◌++◌, length}
+use Rattle.std.specs.Prelude.{◌≡◌, ◌≢◌, ℕ, false, if◌then◌else◌, List, ◌++◌, length}
 use Rattle.qs_nbd_transmission.specs.declared.head.Head.{Head}
-use Rattle.qs_nbd_transmission.specs.Heads.{head_bytes, FitsHead, IsHeadFront, disc, is_too_long, has_body}
+use Rattle.qs_nbd_transmission.specs.Heads.{head_bytes, FitsHead, disc, is_too_long, has_body}
 
 -- a request: its head, and the data of a WRITE
 pub record Message : Type 0 where

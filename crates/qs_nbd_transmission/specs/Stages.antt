@@ -1,8 +1,8 @@
 -- The reader's own fields: the head, of which some front is held, and the stage.
-use Rattle.std.specs.Prelude.{◌≡◌, ℕ, ◌<◌, ◌≤◌, true, false, List, length, take}
+use Rattle.std.specs.Prelude.{◌≡◌, ℕ, ◌<◌, ◌≤◌, true, List, length, take}
 use Rattle.qs_nbd_transmission.specs.declared.stage.Stage.{Stage}
 use Rattle.qs_nbd_transmission.specs.declared.stage.Stage.TheVariants as stage
-use Rattle.qs_nbd_transmission.specs.Heads.{head_of, IsHeadFront, has_body, is_too_long}
+use Rattle.qs_nbd_transmission.specs.Heads.{head_of, IsHeadFront, has_body}
 use Rattle.qs_nbd_transmission.specs.Phases.{Phase, InHead, Wants, Fills, Skips, Over, Stuck}
 
 -- what a stage means, beside the head's bytes

@@ -1,5 +1,5 @@
 ghost use Rattle.std.specs.Prelude.{◌≡◌, length};
-ghost use Rattle.qs_nbd_transmission.specs.Heads.{FitsHead, ask_of, flags_fit_of, has_body, has_flag, head_of, is_too_long, is_write_head, kind_of};
+ghost use Rattle.qs_nbd_transmission.specs.Heads.{FitsHead, ask_of, flags_fit_of, has_body, has_flag, head_of, is_too_long, kind_of};
 
 use qs_bytes::{Ask, Kind, u16_at, u32_at, u64_at};
 
@@ -12,10 +12,18 @@ pub const REQUEST_MAGIC: u32 = 0x25609513;
 /// The most data of a WRITE, in bytes.
 const LONGEST: u32 = 33_554_432;
 
-const WRITE: u16 = 1;
+// Types of requests (NBD proto.md, "Request types").
+const READ: u16 = 0;
 
+const WRITE: u16 = 1;
 /// The type of the request by which a client leaves.
 pub const DISC: u16 = 2;
+
+const FLUSH: u16 = 3;
+
+const TRIM: u16 = 4;
+
+const WRITE_ZEROES: u16 = 6;
 
 // Flags of a request (NBD proto.md, "Command flags").
 const FUA: u16 = 1;
@@ -51,30 +59,33 @@ pub fn head_at(bytes: &[u8]) -> Head
     }
 }
 
+/// The kind that a type's number names.
 fn kind(number: u16) -> Kind
     ensures { result ≡ kind_of number }
 {
     match number {
-        0 => Kind::Read,
-        1 => Kind::Write,
-        3 => Kind::Flush,
-        4 => Kind::Trim,
-        6 => Kind::Zero,
+        READ => Kind::Read,
+        WRITE => Kind::Write,
+        FLUSH => Kind::Flush,
+        TRIM => Kind::Trim,
+        WRITE_ZEROES => Kind::Zero,
         _ => Kind::Unknown(number),
     }
 }
 
+/// Whether the flag is among the flags.
 fn is_set(flags: u16, flag: u16) -> bool
     ensures { result ≡ has_flag flags flag }
 {
     flags & flag != 0
 }
 
+/// Whether each flag that is set fits the kind in a session of this mode.
 fn flags_fit(structured: bool, head: &Head) -> bool
     ensures { result ≡ flags_fit_of structured head.now }
 {
-    let no_hole_fits = !is_set(head.flags, NO_HOLE) || head.kind == 6;
-    let df_fits = !is_set(head.flags, DF) || (structured && head.kind == 0);
+    let no_hole_fits = !is_set(head.flags, NO_HOLE) || head.kind == WRITE_ZEROES;
+    let df_fits = !is_set(head.flags, DF) || (structured && head.kind == READ);
     head.flags < 8 && no_hole_fits && df_fits
 }
 

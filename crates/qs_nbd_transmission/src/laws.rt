@@ -1,6 +1,7 @@
 //! Laws of the definitions, each the contract of a function with nothing to do.
 
 ghost use Rattle.qs_nbd_transmission.specs.Laws.{AsksRoom, HasOneReading, JoinsPieces, ReadsOnce, RepliesStandApart, RestsBegin, SpellsOnce, TellsMessages, WantsLess};
+ghost use Rattle.qs_nbd_transmission.specs.Sessions.{ReadsSessions};
 
 /// A head has one spelling, of 28 bytes, and these spell no other head.
 pub fn one_spelling()
@@ -45,4 +46,10 @@ pub fn replies_apart()
 /// What is wanted until the next event falls with each byte that brings none.
 pub fn progress()
     ensures { WantsLess }
+{}
+
+/// However a session's bytes are cut, its messages are told, each once and in order, and nothing
+/// else, up to a rest that is less than a message or what ends the session.
+pub fn whole_sessions()
+    ensures { ReadsSessions }
 {}

@@ -13,7 +13,7 @@ use std::mem;
 #[derive(Debug, Drop)]
 pub struct Transmission {
     structured: bool,
-    head: [u8; 28],
+    head: [u8; HEAD_BYTES],
     stage: Stage,
 }
 
@@ -36,7 +36,7 @@ impl Transmission {
     {
         Transmission {
             structured: mode.structured,
-            head: [0; 28],
+            head: [0; HEAD_BYTES],
             stage: Stage::Head(0),
         }
     }
@@ -51,7 +51,8 @@ impl Transmission {
         requires { CanFeed self.old.phase }
         ensures within { result.taken ≤ length piece.now }
         ensures whole { IfNone result.event (result.taken ≡ length piece.now) }
-        ensures step { Reaches self.old.structured self.old.phase (take result.taken piece.now) result.event self.new.phase }
+        ensures step { Reaches self.old.structured self.old.phase (take result.taken piece.now)
+            result.event self.new.phase }
         ensures mode { self.new.structured ≡ self.old.structured }
         ensures progress { is_stuck self.old.phase ≡ false → 0 < length piece.now → 0 < result.taken }
     {
@@ -72,8 +73,11 @@ impl Transmission {
         ensures { self.new ≡ record self.old { phase = given self.old.phase room } }
     {
         self.stage = match room {
-            Room::Keep(buffer) => Stage::Fills(buffer.into_vec(), 0),
-            Room::Drop(size) => Stage::Skips(size, size),
+            Room::Keep(buffer) => Stage::Fills {
+                buffer: buffer.into_vec(),
+                got: 0,
+            },
+            Room::Drop(size) => Stage::Skips { size, left: size },
         };
     }
 

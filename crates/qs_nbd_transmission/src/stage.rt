@@ -16,10 +16,10 @@ pub enum Stage {
     Head(usize),
     /// The head of a WRITE, whose data have no room yet.
     Wants,
-    /// The head of a WRITE, a buffer for its data, and how many of them are in it.
-    Fills(Vec<u8>, usize),
-    /// The head of a WRITE whose data are passed over, how many they are and how many are left.
-    Skips(u64, u64),
+    /// The head of a WRITE, a buffer for its data, and how many of them it has got.
+    Fills { buffer: Vec<u8>, got: usize },
+    /// The head of a WRITE whose data are passed over, of which so many are left.
+    Skips { size: u64, left: u64 },
     /// A DISC came.
     Over,
     /// A refusal came.
@@ -41,14 +41,15 @@ pub fn take_piece(structured: bool, head: &mut [u8], stage: Stage, piece: &[u8])
     requires can { CanFeed (phase_of head.old stage) }
     ensures within { result.taken ≤ length piece.now }
     ensures all { IfNone result.event (result.taken ≡ length piece.now) }
-    ensures step { Reaches structured (phase_of head.old stage) (take result.taken piece.now) result.event (phase_of head.new result.stage) }
+    ensures step { Reaches structured (phase_of head.old stage) (take result.taken piece.now)
+        result.event (phase_of head.new result.stage) }
     ensures sound { IsSound head.new result.stage }
     ensures progress { is_stuck (phase_of head.old stage) ≡ false → 0 < length piece.now → 0 < result.taken }
 {
     match stage {
         Stage::Head(held) => read_head(structured, head, held, piece),
-        Stage::Fills(buffer, got) => fill(head, buffer, got, piece),
-        Stage::Skips(size, left) => skip(head, size, left, piece),
+        Stage::Fills { buffer, got } => fill(head, buffer, got, piece),
+        Stage::Skips { size, left } => skip(head, size, left, piece),
         Stage::Stuck(bad) => Advance {
             taken: 0,
             event: Some(WireEvent::Bad(bad)),
@@ -64,7 +65,8 @@ fn read_head(structured: bool, head: &mut [u8], held: usize, piece: &[u8]) -> Ad
     requires sound { IsSound head.old (Stage.Head held) }
     ensures within { result.taken ≤ length piece.now }
     ensures all { IfNone result.event (result.taken ≡ length piece.now) }
-    ensures step { Reaches structured (InHead (take held head.old)) (take result.taken piece.now) result.event (phase_of head.new result.stage) }
+    ensures step { Reaches structured (InHead (take held head.old)) (take result.taken piece.now)
+        result.event (phase_of head.new result.stage) }
     ensures sound { IsSound head.new result.stage }
     ensures progress { 0 < length piece.now → 0 < result.taken }
 {
@@ -135,7 +137,8 @@ fn fill(head: &[u8], mut buffer: Vec<u8>, got: usize, piece: &[u8]) -> Advance
     requires sound { IsSound head.now (Stage.Fills buffer got) }
     ensures within { result.taken ≤ length piece.now }
     ensures all { IfNone result.event (result.taken ≡ length piece.now) }
-    ensures step { (structured : Bool) → Reaches structured (Fills (head_of head.now) (take got buffer.items)) (take result.taken piece.now) result.event (phase_of head.now result.stage) }
+    ensures step { (structured : Bool) → Reaches structured (Fills (head_of head.now) (take got buffer.items))
+        (take result.taken piece.now) result.event (phase_of head.now result.stage) }
     ensures sound { IsSound head.now result.stage }
     ensures progress { 0 < length piece.now → 0 < result.taken }
 {
@@ -146,7 +149,10 @@ fn fill(head: &[u8], mut buffer: Vec<u8>, got: usize, piece: &[u8]) -> Advance
         return Advance {
             taken,
             event: None,
-            stage: Stage::Fills(buffer, got + taken),
+            stage: Stage::Fills {
+                buffer,
+                got: got + taken,
+            },
         };
     }
     Advance {
@@ -161,7 +167,8 @@ fn skip(head: &[u8], size: u64, left: u64, piece: &[u8]) -> Advance
     requires sound { IsSound head.now (Stage.Skips size left) }
     ensures within { result.taken ≤ length piece.now }
     ensures all { IfNone result.event (result.taken ≡ length piece.now) }
-    ensures step { (structured : Bool) → Reaches structured (Skips (head_of head.now) left) (take result.taken piece.now) result.event (phase_of head.now result.stage) }
+    ensures step { (structured : Bool) → Reaches structured (Skips (head_of head.now) left)
+        (take result.taken piece.now) result.event (phase_of head.now result.stage) }
     ensures sound { IsSound head.now result.stage }
     ensures progress { 0 < length piece.now → 0 < result.taken }
 {
@@ -170,7 +177,10 @@ fn skip(head: &[u8], size: u64, left: u64, piece: &[u8]) -> Advance
         return Advance {
             taken: piece.len(),
             event: None,
-            stage: Stage::Skips(size, left - fed),
+            stage: Stage::Skips {
+                size,
+                left: left - fed,
+            },
         };
     }
     Advance {

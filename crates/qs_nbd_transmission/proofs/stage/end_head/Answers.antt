@@ -1,7 +1,5 @@
-use Rattle.std.proofs.Common.{◌≡◌, ℕ, ◌<◌, refl, ap, sym, ◌∙◌, arith, true, false}
-use Rattle.qs_nbd_transmission.specs.declared.head.Head.{Head}
-use Rattle.qs_nbd_transmission.specs.Heads.{IsHead, head_of, has_body}
-use Rattle.qs_nbd_transmission.specs.Phases.{behind_head}
+use Rattle.std.proofs.Common.{refl, sym, ◌∙◌, arith}
+use Rattle.qs_nbd_transmission.specs.Heads.{head_of}
 use Rattle.qs_nbd_transmission.proofs.HeadLaws.{head_is}
 use Rattle.qs_nbd_transmission.proofs.Reading.{behind_wants, behind_none}
 use Rattle.qs_nbd_transmission.proofs.stage.end_head.Goals as goal

@@ -1,8 +1,7 @@
-use Rattle.std.proofs.Common.{◌≡◌, ℕ, ◌+◌, ◌-◌, ◌<◌, ◌≤◌, List, [], ◌++◌, length, take, refl, subst, ap, sym, ◌∙◌, arith}
+use Rattle.std.proofs.Common.{◌≡◌, ℕ, ◌+◌, ◌-◌, ◌<◌, List, [], ◌++◌, length, take, refl, subst, ap, sym, ◌∙◌, arith}
 use Rattle.std.proofs.lemmas.List.{length-take, length-append, length-take-le, take-take, take_all}
 use Rattle.qs_bytes.specs.Numbers.{number32}
 use Rattle.qs_bytes.specs.Pieces.{overlay}
-use Rattle.qs_nbd_transmission.specs.Heads.{IsHeadFront, request_magic}
 use Rattle.qs_nbd_transmission.specs.Phases.{Reaches, InHead}
 use Rattle.qs_nbd_transmission.specs.Stages.{phase_of}
 use Rattle.qs_nbd_transmission.proofs.Overlays.{take-overlay, length-overlay}

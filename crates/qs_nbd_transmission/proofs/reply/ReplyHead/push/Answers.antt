@@ -1,4 +1,4 @@
-use Rattle.std.proofs.Common.{◌≡◌, ℕ, ◌+◌, ◌≤◌, List, ◌++◌, length, take, refl, ap, sym, ◌∙◌, arith}
+use Rattle.std.proofs.Common.{refl, arith}
 use Rattle.qs_nbd_transmission.proofs.Overlays.{take-overlay}
 use Rattle.qs_nbd_transmission.proofs.reply.ReplyHead.push.Goals as goal
 

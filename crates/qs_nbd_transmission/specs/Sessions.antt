@@ -1,0 +1,99 @@
+-- All calls of a reader in one session, and what they tell together.
+use Rattle.std.specs.Prelude.{◌≡◌, ◌≢◌, ℕ, ◌+◌, ◌<◌, Bool, true, false, List, [], ◌∷◌, ◌++◌, length, replicate, All, Option, Some, None}
+use Rattle.std.specs.List.{flat_map}
+use Rattle.qs_nbd_transmission.specs.declared.head.Head.{Head}
+use Rattle.qs_nbd_transmission.specs.declared.event.Room.{Room}
+use Rattle.qs_nbd_transmission.specs.declared.event.Room.TheVariants.{Keep, Drop}
+use Rattle.qs_nbd_transmission.specs.declared.event.WireEvent.{WireEvent}
+use Rattle.qs_nbd_transmission.specs.declared.event.WireEvent.TheVariants as event
+use Rattle.qs_nbd_transmission.specs.Heads.{FitsHead, IsHeadFront, head_bytes, ask_of, disc, is_too_long, has_body}
+use Rattle.qs_nbd_transmission.specs.Phases.{Phase, InHead, Wants, Fills, Skips, Over, Stuck, CanGive, given, Reaches, HeadTells}
+use Rattle.qs_nbd_transmission.specs.Messages.{Message, IsMessage, spelling}
+
+-- Took: a feed took these bytes, with what it told at their end. Gave: room was given.
+pub data Call : Type 0 where
+  Took : (bytes : List ℕ) (told : Option WireEvent) → Call
+  Gave : (room : Room) → Call
+
+-- a call leads from one phase to another
+abbrev pub Makes : Bool → Phase → Call → Phase → Type 0
+Makes structured old (Took bytes told) new = Reaches structured old bytes told new
+Makes structured old (Gave room) new = CanGive old room × (new ≡ given old room)
+
+-- the calls lead, one after the other, from one phase to another
+abbrev pub Runs : Bool → Phase → List Call → Phase → Type 0
+Runs structured old [] new = new ≡ old
+Runs structured old (call ∷ calls) new = (middle : Phase) × (Makes structured old call middle × Runs structured middle calls new)
+
+-- the bytes that a call took
+abbrev pub taken_by : Call → List ℕ
+taken_by (Took bytes told) = bytes
+taken_by (Gave room) = []
+
+-- what a call told
+abbrev pub told_by : Call → List WireEvent
+told_by (Took bytes None) = []
+told_by (Took bytes (Some event)) = event ∷ []
+told_by (Gave room) = []
+
+-- a message, and the room in which its data were told
+pub record Heard : Type 0 where
+  pub message : Message
+  pub room : Option Room
+
+-- there is room where there are data: a buffer that holds them, or their number
+abbrev pub HoldsBody : Message → Option Room → Type 0
+HoldsBody m None = has_body m.head ≡ false
+HoldsBody m (Some (Keep buffer)) = (has_body m.head ≡ true) × (buffer ≡ m.body)
+HoldsBody m (Some (Drop count)) = (has_body m.head ≡ true) × (count ≡ m.head.size)
+
+-- a message that was told whole
+pub record IsHeard (x : Heard) : Type 0 where
+  pub message : IsMessage x.message
+  pub room : HoldsBody x.message x.room
+
+-- what is told of data
+abbrev pub body_events : Option Room → List WireEvent
+body_events None = []
+body_events (Some room) = event.Body room ∷ []
+
+-- what is told of a message
+abbrev pub events_of : Bool → Heard → List WireEvent
+events_of structured x = event.Head (ask_of structured x.message.head) ∷ body_events x.room
+
+-- the head of a WRITE whose data aren't whole
+pub record IsAwaiting (h : Head) : Type 0 where
+  pub fits : FitsHead h
+  pub not_disc : h.kind ≢ disc
+  pub not_long : is_too_long h ≡ false
+  pub body : has_body h ≡ true
+
+-- What was taken behind the last whole message, and what was told of it: less than a head; a WRITE's
+-- head and less than its data; a DISC; or what is refused, which is told once or more often.
+abbrev pub Leaves : Bool → Phase → List ℕ → List WireEvent → Type 0
+Leaves structured (InHead held) rest last = (rest ≡ held) × IsHeadFront held × (last ≡ [])
+Leaves structured (Wants h) rest last = IsAwaiting h × (rest ≡ head_bytes h) × (last ≡ event.Head (ask_of structured h) ∷ [])
+Leaves structured (Fills h got) rest last =
+    IsAwaiting h × (rest ≡ head_bytes h ++ got) × (length got < h.size) × (last ≡ event.Head (ask_of structured h) ∷ [])
+Leaves structured (Skips h left) rest last =
+    IsAwaiting h × ((got : List ℕ) × ((rest ≡ head_bytes h ++ got) × (length got + left ≡ h.size))) × (0 < left) × (last ≡ event.Head (ask_of structured h) ∷ [])
+Leaves structured Over rest last = HeadTells structured rest (Some event.Disc) Over × (last ≡ event.Disc ∷ [])
+Leaves structured (Stuck bad) rest last =
+    HeadTells structured rest (Some (event.Bad bad)) (Stuck bad) × ((again : ℕ) × (last ≡ replicate (again + 1) (event.Bad bad)))
+
+-- The bytes that were taken are the spellings of whole messages and a rest; what was told is told of
+-- these messages, each once and in order, and of the rest.
+pub record Tells (structured : Bool) (phase : Phase) (bytes : List ℕ) (events : List WireEvent) : Type 0 where
+  pub heard : List Heard
+  pub rest : List ℕ
+  pub last : List WireEvent
+  pub each : All IsHeard heard
+  pub taken : bytes ≡ flat_map (λ x. spelling x.message) heard ++ rest
+  pub told : events ≡ flat_map (events_of structured) heard ++ last
+  pub leaves : Leaves structured phase rest last
+
+-- however a stream is cut, its messages are told, and nothing else
+abbrev pub ReadsSessions : Type 0
+ReadsSessions =
+    (structured : Bool) → (calls : List Call) → (new : Phase) → Runs structured (InHead []) calls new →
+    Tells structured new (flat_map taken_by calls) (flat_map told_by calls)
