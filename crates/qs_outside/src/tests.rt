@@ -50,7 +50,13 @@ fn reads_are_cut_and_fail_as_told(rt: HostRuntime) -> Result<(), Fail> {
     let cuts = [2, 0, 9].to_vec(rt.alloc())?;
     let fails = [2].to_vec(rt.alloc())?;
     let mut source = MemSource::new(bytes, cuts, fails);
-    for (want, front) in [(Ok(2), [1, 2, 0, 0]), (Ok(1), [3, 0, 0, 0]), (Err(Failed), [0, 0, 0, 0]), (Ok(3), [4, 5, 6, 0]), (Ok(0), [0, 0, 0, 0])] {
+    for (want, front) in [
+        (Ok(2), [1, 2, 0, 0]),
+        (Ok(1), [3, 0, 0, 0]),
+        (Err(Failed), [0, 0, 0, 0]),
+        (Ok(3), [4, 5, 6, 0]),
+        (Ok(0), [0, 0, 0, 0]),
+    ] {
         let mut into = [0u8; 4];
         assert_eq!(rt; read_from(&mut source, &mut into), want);
         assert_eq!(rt; into, front);
@@ -62,7 +68,12 @@ fn reads_are_cut_and_fail_as_told(rt: HostRuntime) -> Result<(), Fail> {
 fn a_full_sink_fails(rt: HostRuntime) -> Result<(), Fail> {
     let fails = [0].to_vec(rt.alloc())?;
     let mut sink = MemSink::new(rt.alloc(), 3, fails)?;
-    for (piece, want) in [([7, 7], Err(Failed)), ([1, 2], Ok(2)), ([3, 4], Ok(1)), ([5, 6], Err(Failed))] {
+    for (piece, want) in [
+        ([7, 7], Err(Failed)),
+        ([1, 2], Ok(2)),
+        ([3, 4], Ok(1)),
+        ([5, 6], Err(Failed)),
+    ] {
         assert_eq!(rt; write_to(&mut sink, &piece), want);
     }
     assert_eq!(rt; sink.sent(), [1, 2, 3].as_slice());
