@@ -1,13 +1,12 @@
 -- Laws of the stores that a disk in memory keeps.
-use Rattle.std.proofs.Common.{◌≡◌, ◌≢◌, ℕ, suc, ◌+◌, ◌*◌, ◌≤◌, ◌⊎◌, List, [], ◌∷◌, ◌++◌, ◌==◌, length, take, drop, map, refl, sym, ap, subst, ◌∙◌, inl, inr, arith, append-nil}
-use Rattle.std.specs.List.{filter, AllByRecursion, Contains}
-use Rattle.std.proofs.lemmas.List.{map-append, take_all, take-append-le, length-append, length-take, length-drop}
+use Rattle.std.proofs.Common.{◌≡◌, ◌≢◌, ℕ, suc, ◌*◌, ◌≤◌, ◌⊎◌, List, [], ◌∷◌, ◌++◌, ◌==◌, length, take, drop, map, refl, sym, ap, subst, ◌∙◌, inl, inr, arith, append-nil}
+use Rattle.std.specs.List.{AllByRecursion, Contains}
+use Rattle.std.proofs.lemmas.List.{map-append, take_all, take-append-le, length-drop}
 use Rattle.std.proofs.lemmas.List.Elements.{filter-append, recursion_from_All, All-contains_itself, Contains-push}
 use Rattle.std.proofs.lemmas.Bool.{eq-eqb, ne_eqb}
 use Rattle.std.proofs.Math.Seq.{drop-append-le}
-use Rattle.std.proofs.Math.Nat.{mul-le-mul_right}
-use Rattle.qs_outside.specs.Blocks.{MayLeave, Same}
-use Rattle.qs_outside.specs.Held.{Held, block_of}
+use Rattle.qs_outside.specs.Blocks.{MayLeave}
+use Rattle.qs_outside.specs.Held.{block_of}
 use Rattle.qs_outside.specs.Journal.{Journal, Kept, contents_of, kept_of, past_of}
 
 pub length-kept : (align : ℕ) (blocks bytes : List ℕ) → length (kept_of align blocks bytes) ≡ length blocks

@@ -1,5 +1,5 @@
 -- What a disk means: one of eight that hold an image in turn, sixteen blocks at a time.
-use Rattle.std.specs.Prelude.{◌≡◌, ◌≢◌, ℕ, ◌+◌, ◌*◌, ◌/◌, ◌%◌, ◌≤◌, ◌⊎◌, Bool, false, List, [], Option, None, Some, Contains}
+use Rattle.std.specs.Prelude.{◌≡◌, ◌≢◌, ℕ, ◌+◌, ◌*◌, ◌/◌, ◌%◌, ◌≤◌, ◌⊎◌, Bool, false, List, Option, None, Some, Contains}
 use Rattle.std.specs.List.{AllByRecursion}
 
 -- the failures that are planned: the next load, the next store, and whether it reaches the disk all the same, the next sync

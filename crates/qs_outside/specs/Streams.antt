@@ -1,5 +1,5 @@
 -- What a stream in memory means beyond its bytes: which of its calls fail, and how its reads are cut.
-use Rattle.std.specs.Prelude.{ℕ, ◌+◌, ◌-◌, ◌^◌, min, max, Bool, List, ◌++◌, length, take, drop, slice_index_or, Result, Ok, Err}
+use Rattle.std.specs.Prelude.{ℕ, ◌+◌, ◌-◌, ◌^◌, min, max, List, ◌++◌, length, take, drop, slice_index_or, Result, Ok, Err}
 
 -- one more, up to the last value of 64 bits
 abbrev pub next_count : ℕ → ℕ

@@ -22,3 +22,6 @@ pub use mem_sink::MemSink;
 pub use mem_source::MemSource;
 pub use quiet_disk::QuietDisk;
 pub use stream::{Failed, Sink, Source};
+
+#[cfg(test)]
+mod tests;

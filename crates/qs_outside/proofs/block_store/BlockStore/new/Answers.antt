@@ -1,4 +1,4 @@
-use Rattle.std.proofs.Common.{◌≡◌, ℕ, List, replicate, refl, ap, ◌∙◌}
+use Rattle.std.proofs.Common.{ℕ, List, replicate, refl, ap, ◌∙◌}
 use Rattle.qs_outside.specs.Held.{Held}
 use Rattle.qs_outside.proofs.HeldBlocks.{rank-room, block-zeros}
 use Rattle.qs_outside.proofs.block_store.BlockStore.new.Goals as goal

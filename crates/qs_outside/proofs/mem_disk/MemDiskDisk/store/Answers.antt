@@ -1,4 +1,4 @@
-use Rattle.std.proofs.Common.{◌≡◌, List, [], ◌∷◌, ◌++◌, ap, ◌∙◌}
+use Rattle.std.proofs.Common.{List, [], ◌∷◌, ◌++◌, ap, ◌∙◌}
 use Rattle.qs_outside.specs.Journal.{Journal, Kept, KeptStores}
 use Rattle.qs_outside.proofs.Journals.{may_leave-stored, may_leave-kept, past-now}
 use Rattle.qs_outside.proofs.mem_disk.MemDiskDisk.store.Goals as goal

@@ -1,6 +1,6 @@
-use Rattle.std.proofs.Common.{◌≡◌, ◌+◌, ◌*◌, ◌<◌, ◌≤◌, List, ◌++◌, [], ◌∷◌, length, ap, ◌∙◌, arith}
+use Rattle.std.proofs.Common.{◌≡◌, ◌+◌, ◌*◌, ◌≤◌, List, ◌++◌, [], ◌∷◌, length, ap, ◌∙◌, arith}
 use Rattle.std.proofs.Math.Nat.{mul-le-mul_right}
-use Rattle.qs_outside.specs.Journal.{Kept, KeptStores, kept_of}
+use Rattle.qs_outside.specs.Journal.{Kept, KeptStores}
 use Rattle.qs_outside.proofs.Journals.{length-kept, kept-push}
 use Rattle.qs_outside.proofs.store_log.StoreLog.push.Goals as goal
 use Rattle.qs_outside.proofs.store_log.StoreLog.push.Goals.{In-Err, In-Err-extend_from_slice}

@@ -1,0 +1,120 @@
+ghost use Rattle.std.specs.Prelude.{◌≡◌, length};
+ghost use Rattle.qs_outside.specs.Blocks.{Fixed, IsBlock};
+
+use super::*;
+use qs_bytes::Bytes;
+use std::sync::Arc;
+use std::test::Fail;
+
+fn read_from<S: Source>(source: &mut S, into: &mut [u8]) -> Result<usize, Failed> {
+    source.read(into)
+}
+
+fn write_to<S: Sink>(sink: &mut S, piece: &[u8]) -> Result<usize, Failed> {
+    sink.write(piece)
+}
+
+fn time_of<C: Clock>(clock: &C) -> u64 {
+    clock.now()
+}
+
+fn shape_of<D: Disk>(disk: &D) -> (u8, u32, u64) {
+    (disk.stripe(), disk.align(), disk.length())
+}
+
+fn store_to<D: Disk>(disk: &mut D, b: u64, bytes: &[u8]) -> Result<(), Failed>
+    requires block { IsBlock (D.seen disk.old) b }
+    requires whole { length bytes.now ≡ (D.seen disk.old).align }
+    ensures { Fixed (D.seen disk.old) (D.seen disk.new) }
+{
+    disk.store(b, bytes)
+}
+
+fn load_from<D: Disk>(disk: &mut D, b: u64, into: &mut [u8]) -> Result<(), Failed>
+    requires block { IsBlock (D.seen disk.old) b }
+    requires whole { length into.old ≡ (D.seen disk.old).align }
+    ensures { Fixed (D.seen disk.old) (D.seen disk.new) }
+{
+    disk.load(b, into)
+}
+
+fn sync_of<D: Disk>(disk: &mut D) -> Result<(), Failed>
+    ensures { Fixed (D.seen disk.old) (D.seen disk.new) }
+{
+    disk.sync()
+}
+
+#[test]
+fn reads_are_cut_and_fail_as_told(rt: HostRuntime) -> Result<(), Fail> {
+    let bytes = Bytes::of([1, 2, 3, 4, 5, 6].to_vec(rt.alloc())?);
+    let cuts = [2, 0, 9].to_vec(rt.alloc())?;
+    let fails = [2].to_vec(rt.alloc())?;
+    let mut source = MemSource::new(bytes, cuts, fails);
+    for (want, front) in [
+        (Ok(2), [1, 2, 0, 0]),
+        (Ok(1), [3, 0, 0, 0]),
+        (Err(Failed), [0, 0, 0, 0]),
+        (Ok(3), [4, 5, 6, 0]),
+        (Ok(0), [0, 0, 0, 0]),
+    ] {
+        let mut into = [0u8; 4];
+        assert_eq!(rt; read_from(&mut source, &mut into), want);
+        assert_eq!(rt; into, front);
+    }
+    Ok(())
+}
+
+#[test]
+fn a_full_sink_fails(rt: HostRuntime) -> Result<(), Fail> {
+    let fails = [0].to_vec(rt.alloc())?;
+    let mut sink = MemSink::new(rt.alloc(), 3, fails)?;
+    for (piece, want) in [
+        ([7, 7], Err(Failed)),
+        ([1, 2], Ok(2)),
+        ([3, 4], Ok(1)),
+        ([5, 6], Err(Failed)),
+    ] {
+        assert_eq!(rt; write_to(&mut sink, &piece), want);
+    }
+    assert_eq!(rt; sink.sent(), [1, 2, 3].as_slice());
+    Ok(())
+}
+
+#[test]
+fn clocks_stand_still(rt: HostRuntime) -> Result<(), Fail> {
+    let clock = MemClock::new(7);
+    assert_eq!(rt; time_of(&clock), 7);
+    assert_eq!(rt; time_of(&&clock), 7);
+    assert_eq!(rt; time_of(&Arc::new(rt.alloc(), clock)?), 7);
+    Ok(())
+}
+
+#[test]
+fn a_store_is_loaded_back(rt: HostRuntime) -> Result<(), Fail> {
+    let mut disk = QuietDisk::new(rt.alloc(), 1, 2, 256)?;
+    assert_eq!(rt; shape_of(&disk), (1, 2, 256));
+    let mut into = [0u8; 2];
+    assert_eq!(rt; store_to(&mut disk, 17, &[8, 9]), Ok(()));
+    assert_eq!(rt; load_from(&mut disk, 17, &mut into), Ok(()));
+    assert_eq!(rt; into, [8, 9]);
+    assert_eq!(rt; load_from(&mut disk, 16, &mut into), Ok(()));
+    assert_eq!(rt; into, [0, 0]);
+    assert_eq!(rt; sync_of(&mut disk), Ok(()));
+    Ok(())
+}
+
+#[test]
+fn a_full_disk_fails_until_its_sync(rt: HostRuntime) -> Result<(), Fail> {
+    let mut disk = MemDisk::new(rt.alloc(), 0, 2, 256, 1)?;
+    assert_eq!(rt; shape_of(&disk), (0, 2, 256));
+    let mut into = [0u8; 2];
+    assert_eq!(rt; store_to(&mut disk, 3, &[1, 2]), Ok(()));
+    assert_eq!(rt; store_to(&mut disk, 3, &[3, 4]), Err(Failed));
+    assert_eq!(rt; load_from(&mut disk, 3, &mut into), Ok(()));
+    assert_eq!(rt; into, [1, 2]);
+    assert_eq!(rt; sync_of(&mut disk), Ok(()));
+    assert_eq!(rt; store_to(&mut disk, 3, &[3, 4]), Ok(()));
+    assert_eq!(rt; load_from(&mut disk, 3, &mut into), Ok(()));
+    assert_eq!(rt; into, [3, 4]);
+    Ok(())
+}
