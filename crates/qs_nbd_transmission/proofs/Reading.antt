@@ -209,7 +209,7 @@ is_write-kind_of n =
           rw e (no_write (n == 0) Read _ refl (no_write (n == 3) Flush _ refl (no_write (n == 4) Trim _ refl (no_write (n == 6) Zero (Unknown n) refl refl))))
     ]
 
-has_data-ask_of : (s : Bool) (h : Head) → has_data (ask_of s h) ≡ has_body h
+pub has_data-ask_of : (s : Bool) (h : Head) → has_data (ask_of s h) ≡ has_body h
 has_data-ask_of s h = ap (λ b. b && nat_lt 0 h.size) (is_write-kind_of h.kind)
 
 -- what follows the head of a request

@@ -24,6 +24,7 @@ pub still_fed : (structured : Bool) (old new : Phase) (bytes : List ℕ) → Rea
 still_fed structured (InHead held) (InHead more) bytes is = (tt, refl)
 still_fed structured (Fills h got) (Fills h' more) bytes is = (tt, refl)
 still_fed structured (Skips h left) (Skips h' fewer) bytes is = (tt, refl)
+still_fed structured (Stuck bad) new bytes is = let e = is.1 in absurd (cc)
 still_fed structured old new bytes is = absurd is
 
 -- what the reader took off the bytes that wait

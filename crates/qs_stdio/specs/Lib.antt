@@ -4,3 +4,4 @@ pub mod Service
 pub mod Calls
 pub mod Scenes
 pub mod Events
+pub mod Turns

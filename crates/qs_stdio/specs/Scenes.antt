@@ -40,19 +40,19 @@ abbrev pub IsCut : List ℕ → Type 0
 IsCut bytes = (IsHeadFront bytes × (0 < length bytes)) ⊎ IsCutWrite bytes
 
 -- the input has no byte more
-abbrev pub IsUsedUp : Scene → Type 0
-IsUsedUp after = IsAtEnd after.left × (after.waiting ≡ [])
+abbrev pub IsUsedUp : Option (List ℕ) → List ℕ → Type 0
+IsUsedUp left waiting = IsAtEnd left × (waiting ≡ [])
 
--- How a session may end before a request, where these bytes of it were taken.
-abbrev pub Ending : Status → List ℕ → Scene → Type 0
-Ending Done rest after = IsLeave rest ⊎ ((rest ≡ []) × IsUsedUp after)
-Ending (Ended end.Truncated) rest after = IsCut rest × IsUsedUp after
-Ending (Ended (end.BadMagic found)) rest after = (length rest ≡ 4) × (found ≡ number32 rest 0) × (found ≢ request_magic)
-Ending (Ended (end.TooLong size)) rest after =
+-- How a session may end before a request was answered, where these bytes of it were taken.
+abbrev pub Ending : Status → List ℕ → Option (List ℕ) → List ℕ → Type 0
+Ending Done rest left waiting = IsLeave rest ⊎ ((rest ≡ []) × IsUsedUp left waiting)
+Ending (Ended end.Truncated) rest left waiting = IsCut rest × IsUsedUp left waiting
+Ending (Ended (end.BadMagic found)) rest left waiting = (length rest ≡ 4) × (found ≡ number32 rest 0) × (found ≢ request_magic)
+Ending (Ended (end.TooLong size)) rest left waiting =
     IsHead rest (head_of rest) × (is_too_long (head_of rest) ≡ true) × (size ≡ (head_of rest).size)
-Ending ReadFault rest after = Unit {0}
-Ending WriteFault rest after = Unit {0}
-Ending other rest after = ⊥
+Ending ReadFault rest left waiting = Unit {0}
+Ending WriteFault rest left waiting = Unit {0}
+Ending other rest left waiting = ⊥
 
 -- bytes were taken off the input, and others given to the output
 pub record Moves (before : Scene) (taken given : List ℕ) (after : Scene) : Type 0 where
@@ -71,4 +71,4 @@ pub record Stops (before : Scene) (status : Status) (after : Scene) : Type 0 whe
   pub rest : List ℕ
   pub moves : Moves before rest [] after
   pub disks : after.disks ≡ before.disks
-  pub ends : Ending status rest after
+  pub ends : Ending status rest after.left after.waiting

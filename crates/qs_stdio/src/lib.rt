@@ -5,4 +5,5 @@
 mod answer;
 mod event;
 mod outbox;
+mod session;
 mod window;
