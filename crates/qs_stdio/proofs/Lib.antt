@@ -3,3 +3,4 @@ pub mod Flows
 pub mod Valid
 pub mod Answering
 pub mod Sought
+pub mod Turning

@@ -5,3 +5,4 @@ pub mod Calls
 pub mod Scenes
 pub mod Events
 pub mod Turns
+pub mod Runs

@@ -10,7 +10,9 @@ use Rattle.qs_bytes.specs.declared.ask.Verdict.TheVariants.{Got, Fine, Refused}
 use Rattle.qs_nbd_transmission.specs.Heads.{ask_of, is_write, longest}
 use Rattle.qs_nbd_transmission.specs.Messages.{Message, IsMessage, spelling}
 use Rattle.qs_nbd_transmission.specs.Replies.{is_read, reply_of}
-use Rattle.qs_image.specs.Image.{IsFrontWritten}
+use Rattle.qs_outside.specs.Blocks.{Seen}
+use Rattle.qs_image.specs.Image.{IsFrontWritten, align_of, size_of}
+use Rattle.qs_stdio.specs.declared.answer.Shape.{Shape}
 
 -- a request, and its answer
 pub record Exchange : Type 0 where
@@ -64,3 +66,8 @@ reply x = reply_of false (ask x) x.verdict
 
 abbrev pub answered : List Exchange → List ℕ
 answered xs = flat_map reply xs
+
+-- the block and the length of an image, as the code holds them
+pub record IsShape (shape : Shape) (disks : List Seen) : Type 0 where
+  pub align : shape.align ≡ align_of disks
+  pub size : shape.size ≡ size_of disks

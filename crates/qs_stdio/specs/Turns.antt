@@ -9,14 +9,18 @@ use Rattle.qs_bytes.specs.declared.status.Status.TheVariants.{Done, ReadFault, W
 use Rattle.qs_nbd_transmission.specs.declared.head.Head.{Head}
 use Rattle.qs_nbd_transmission.specs.declared.event.Room.{Room}
 use Rattle.qs_nbd_transmission.specs.declared.event.Room.TheVariants.{Keep, Drop}
-use Rattle.qs_nbd_transmission.specs.Phases.{Phase, Reader, InHead, Fills, Skips, IsServed}
+use Rattle.qs_nbd_transmission.specs.Phases.{Phase, Reader, InHead, Wants, Fills, Skips, IsServed}
 use Rattle.qs_stdio.specs.declared.session.Came.{Came}
 use Rattle.qs_stdio.specs.declared.session.Came.TheVariants as came
 use Rattle.qs_stdio.specs.declared.session.Brought.{Brought}
 use Rattle.qs_stdio.specs.declared.session.Brought.TheVariants as brought
 use Rattle.qs_stdio.specs.Waiting.{Takes, Gives}
 use Rattle.qs_stdio.specs.Events.{Causes}
-use Rattle.qs_stdio.specs.Scenes.{Ending}
+use Rattle.qs_stdio.specs.declared.serve.Turn.{Turn}
+use Rattle.qs_stdio.specs.declared.serve.Turn.TheVariants as turn
+use Rattle.qs_stdio.specs.Service.{Exchange}
+use Rattle.qs_stdio.specs.Calls.{Answered}
+use Rattle.qs_stdio.specs.Scenes.{Scene, Ending, Moves, Exchanges, Stops}
 
 -- the status of a session that ended so
 abbrev pub status_at : SessionEnd → Status
@@ -56,7 +60,7 @@ awaited other = 0
 -- the bytes are the data, and stand in the room that keeps them
 abbrev pub IsData : List ℕ → ℕ → Room → Type 0
 IsData taken size (Keep whole) = (whole ≡ taken) × (length taken ≡ size)
-IsData taken size (Drop count) = length taken ≡ size
+IsData taken size (Drop count) = (count ≡ size) × (length taken ≡ size)
 
 -- how a session may end within the data of a WRITE
 abbrev pub Cutting : Status → List ℕ → ℕ → Option (List ℕ) → List ℕ → Type 0
@@ -86,3 +90,34 @@ CameCause read read' write write' result =
 abbrev pub BroughtCause : ℕ → ℕ → ℕ → ℕ → Brought → Type 0
 BroughtCause read read' write write' result =
     Causes read read' write write' (result ≡ brought.Ends ReadFault) (result ≡ brought.Ends WriteFault)
+
+-- room for the data of this WRITE is awaited
+abbrev pub AwaitsRoom : Reader → Ask → Type 0
+AwaitsRoom reader a = (h : Head) × ((reader ≡ record { structured = false; phase = Wants h }) × (h.size ≡ a.length))
+
+-- the next request is awaited
+abbrev pub between : Reader
+between = record { structured = false; phase = InHead [] }
+
+-- the data of a WRITE came and it was answered, or the session ended within them or at its reply
+abbrev pub Finishes : ℕ → ℕ → Ask → Scene → Scene → Reader → Turn → Type 0
+Finishes align size a before after new turn.Goes =
+    (body : List ℕ) × (
+        (length body ≡ a.length)
+            × Takes before.left before.waiting body after.left after.waiting
+            × Answered align size a body before.disks after.disks before.sent before.held after.sent after.held
+            × (new ≡ between)
+    )
+Finishes align size a before after new (turn.Ends status) =
+    (taken : List ℕ) × (
+        Moves before taken [] after × (after.disks ≡ before.disks) × Cutting status taken a.length after.left after.waiting
+    )
+
+-- a request came and was answered, or the session ended before
+abbrev pub TakesTurn : ℕ → ℕ → Scene → Scene → Reader → Turn → Type 0
+TakesTurn align size before after new turn.Goes = (x : Exchange) × (Exchanges align size before x after × (new ≡ between))
+TakesTurn align size before after new (turn.Ends status) = Stops before status after
+
+abbrev pub TurnCause : ℕ → ℕ → ℕ → ℕ → Turn → Type 0
+TurnCause read read' write write' result =
+    Causes read read' write write' (result ≡ turn.Ends ReadFault) (result ≡ turn.Ends WriteFault)

@@ -5,5 +5,6 @@
 mod answer;
 mod event;
 mod outbox;
+mod serve;
 mod session;
 mod window;

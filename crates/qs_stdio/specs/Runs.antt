@@ -1,0 +1,40 @@
+-- What `run_stdio` does, from its words to its status.
+use Rattle.std.specs.Prelude.{◌≡◌, ◌≢◌, ℕ, ◌^◌, Bool, true, false, List, [], ◌++◌, length, Option, None, Some}
+use Rattle.qs_bytes.specs.declared.status.Status.{Status}
+use Rattle.qs_bytes.specs.declared.status.Status.TheVariants as status
+use Rattle.qs_outside.specs.Blocks.{Seen}
+use Rattle.qs_image.specs.Image.{content, align_of, size_of, AllTell, SameDisks}
+use Rattle.qs_image.specs.Opening.{Opens}
+use Rattle.qs_stdio.specs.Service.{Exchange, AllFit, LeadsAll, asked, answered}
+use Rattle.qs_stdio.specs.Calls.{CalledAll}
+use Rattle.qs_stdio.specs.Scenes.{Scene, Ending, Moves}
+
+-- the input, or the budget of messages, brought the end: all replies were written
+abbrev pub is_whole : Status → Bool
+is_whole status.Done = true
+is_whole (status.Ended end) = true
+is_whole status.Spent = true
+is_whole other = false
+
+-- How a session ended: Spent where its whole budget of messages was read, Memory before the first, and
+-- else as the bytes behind the last answered request say.
+abbrev pub Ends : Status → ℕ → List Exchange → List ℕ → Scene → Type 0
+Ends status.Spent budget exchanges rest after = (rest ≡ []) × (length exchanges ≡ budget)
+Ends status.Memory budget exchanges rest after = (rest ≡ []) × (exchanges ≡ [])
+Ends other budget exchanges rest after = Ending other rest after.left after.waiting
+
+-- A session: requests were read one after the other, answered by the plain service, and their replies
+-- written in order, a front of them where the output failed.
+pub record Session (align size budget : ℕ) (before after : Scene) (status : Status) : Type 0 where
+  -- the requests that were answered, and the bytes that were taken behind them
+  pub exchanges : List Exchange
+  pub rest : List ℕ
+  pub fit : AllFit align size exchanges
+  -- what was read is the requests and the rest; what was written, and waits, is their replies
+  pub moves : Moves before (asked exchanges ++ rest) (answered exchanges) after
+  pub whole : is_whole status ≡ true → after.held ≡ []
+  -- the content goes on from request to request; the disks were called for these alone
+  pub service : AllTell before.disks → LeadsAll (content before.disks) exchanges (content after.disks)
+  pub calls : CalledAll before.disks exchanges after.disks
+  pub same : SameDisks before.disks after.disks
+  pub ends : Ends status budget exchanges rest after
