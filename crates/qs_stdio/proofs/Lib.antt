@@ -4,3 +4,4 @@ pub mod Valid
 pub mod Answering
 pub mod Sought
 pub mod Turning
+pub mod Serving

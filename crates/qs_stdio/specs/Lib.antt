@@ -6,3 +6,4 @@ pub mod Scenes
 pub mod Events
 pub mod Turns
 pub mod Runs
+pub mod Words

@@ -1,5 +1,5 @@
 -- What `run_stdio` does, from its words to its status.
-use Rattle.std.specs.Prelude.{◌≡◌, ◌≢◌, ℕ, ◌^◌, Bool, true, false, List, [], ◌++◌, length, Option, None, Some}
+use Rattle.std.specs.Prelude.{◌≡◌, ◌≢◌, ℕ, ◌≤◌, ◌⊎◌, Bool, true, false, List, [], ◌++◌, length, Option, None, Some}
 use Rattle.qs_bytes.specs.declared.status.Status.{Status}
 use Rattle.qs_bytes.specs.declared.status.Status.TheVariants as status
 use Rattle.qs_outside.specs.Blocks.{Seen}
@@ -7,6 +7,9 @@ use Rattle.qs_image.specs.Image.{content, align_of, size_of, AllTell, SameDisks}
 use Rattle.qs_image.specs.Opening.{Opens}
 use Rattle.qs_stdio.specs.Service.{Exchange, AllFit, LeadsAll, asked, answered}
 use Rattle.qs_stdio.specs.Calls.{CalledAll}
+use Rattle.qs_outside.specs.Faults.{Rose}
+use Rattle.qs_stdio.specs.Waiting.{Gives}
+use Rattle.qs_stdio.specs.Events.{Causes}
 use Rattle.qs_stdio.specs.Scenes.{Scene, Ending, Moves}
 
 -- the input, or the budget of messages, brought the end: all replies were written
@@ -23,9 +26,24 @@ Ends status.Spent budget exchanges rest after = (rest ≡ []) × (length exchang
 Ends status.Memory budget exchanges rest after = (rest ≡ []) × (exchanges ≡ [])
 Ends other budget exchanges rest after = Ending other rest after.left after.waiting
 
+-- what waited was written, unless the input or the output failed before
+pub record Finishing (sent : Option (List ℕ)) (held : List ℕ) (sent' : Option (List ℕ)) (held' : List ℕ) (status' result : Status) : Type 0 where
+  pub gives : Gives sent held [] sent' held'
+  pub ends : (result ≡ status') ⊎ (result ≡ status.WriteFault)
+  pub whole : is_whole result ≡ true → held' ≡ []
+
+pub record FinishCause (write write' : ℕ) (status' result : Status) : Type 0 where
+  pub later : write ≤ write'
+  pub rose : result ≡ status.WriteFault → (status' ≡ status.WriteFault) ⊎ Rose write write'
+
+-- the counts never fall, and a fault ends the run only where its count rose
+abbrev pub StatusCause : ℕ → ℕ → ℕ → ℕ → Status → Type 0
+StatusCause read read' write write' result =
+    Causes read read' write write' (result ≡ status.ReadFault) (result ≡ status.WriteFault)
+
 -- A session: requests were read one after the other, answered by the plain service, and their replies
 -- written in order, a front of them where the output failed.
-pub record Session (align size budget : ℕ) (before after : Scene) (status : Status) : Type 0 where
+pub record Sitting (align size budget : ℕ) (before after : Scene) (status : Status) : Type 0 where
   -- the requests that were answered, and the bytes that were taken behind them
   pub exchanges : List Exchange
   pub rest : List ℕ

@@ -5,6 +5,10 @@
 mod answer;
 mod event;
 mod outbox;
+mod run;
 mod serve;
 mod session;
 mod window;
+mod words;
+
+pub use words::{StdioWords, stdio_words};

@@ -1,0 +1,80 @@
+-- Requests served one after the other.
+use Rattle.std.proofs.Common.{◌≡◌, ℕ, ◌+◌, Bool, true, false, List, [], ◌∷◌, ◌++◌, length, refl, sym, ap, ◌∙◌, subst, append-nil, append_assoc, length-append}
+use Rattle.std.specs.Prelude.{Option, flat_map}
+use Rattle.std.specs.List.{AllByRecursion}
+use Rattle.std.proofs.lemmas.Grind.{flat_map-append}
+use Rattle.qs_bytes.specs.declared.ask.Verdict.{Verdict}
+use Rattle.qs_nbd_transmission.specs.Messages.{IsMessage, spelling}
+use Rattle.qs_outside.specs.Blocks.{Seen}
+use Rattle.qs_image.specs.Image.{content, AllTell, SameDisks}
+use Rattle.qs_image.proofs.Striped.{same_disks_refl, same_disks_trans, still_tell}
+use Rattle.qs_stdio.specs.Service.{Exchange, MayGet, AllFit, LeadsAll, ask, asked, answered, reply}
+use Rattle.qs_stdio.specs.Waiting.{Takes, Gives}
+use Rattle.qs_stdio.specs.Calls.{Called, CalledAll}
+use Rattle.qs_stdio.specs.Scenes.{Scene, Moves, Exchanges, Stops}
+use Rattle.qs_stdio.proofs.Flows.{takes_on, takes_none, gives_on, gives_none}
+
+-- so many requests were served
+pub record Served (align size : ℕ) (before now : Scene) (count : ℕ) : Type 0 where
+  pub exchanges : List Exchange
+  pub fit : AllFit align size exchanges
+  pub moves : Moves before (asked exchanges) (answered exchanges) now
+  pub calls : CalledAll before.disks exchanges now.disks
+  pub same : SameDisks before.disks now.disks
+  pub counted : length exchanges ≡ count
+
+pub served_none : (align size : ℕ) (scene : Scene) → Served align size scene scene 0
+served_none align size scene = record {
+  exchanges = [];
+  fit = tt;
+  moves = record { takes = takes_none scene.left scene.waiting; gives = gives_none scene.sent scene.held };
+  calls = refl;
+  same = same_disks_refl scene.disks;
+  counted = refl;
+}
+
+fit_more : (align size : ℕ) (xs : List Exchange) (x : Exchange) → AllFit align size xs → IsMessage x.message → MayGet align size (ask x) x.verdict →
+    AllFit align size (xs ++ x ∷ [])
+fit_more align size [] x fit message may = ((message, may), tt)
+fit_more align size (y ∷ xs) x fit message may = (fit.0, fit_more align size xs x fit.1 message may)
+
+called_more : (old mid new : List Seen) (xs : List Exchange) (x : Exchange) → CalledAll old xs mid → Called mid (ask x) x.message.body x.verdict new →
+    CalledAll old (xs ++ x ∷ []) new
+called_more old mid new [] x calls called = (new, (subst (λ (d : List Seen). Called d (ask x) x.message.body x.verdict new) calls called, refl))
+called_more old mid new (y ∷ xs) x calls called = (calls.0, (calls.1.0, called_more calls.0 mid new xs x calls.1.1 called))
+
+asked_more : (xs : List Exchange) (x : Exchange) → asked (xs ++ x ∷ []) ≡ asked xs ++ spelling x.message
+asked_more xs x = flat_map-append (λ y. spelling y.message) xs (x ∷ []) ∙ ap (λ (bytes : List ℕ). asked xs ++ bytes) (append-nil (spelling x.message))
+
+answered_more : (xs : List Exchange) (x : Exchange) → answered (xs ++ x ∷ []) ≡ answered xs ++ reply x
+answered_more xs x = flat_map-append reply xs (x ∷ []) ∙ ap (λ (bytes : List ℕ). answered xs ++ bytes) (append-nil (reply x))
+
+-- and one more
+pub served_more : (align size : ℕ) (before mid now : Scene) (count : ℕ) → Served align size before mid count →
+    (one : (x : Exchange) × Exchanges align size mid x now) → Served align size before now (count + 1)
+served_more align size before mid now count served one =
+    let xs : List Exchange = served.exchanges in
+    let x : Exchange = one.0 in
+    record {
+      exchanges = xs ++ x ∷ [];
+      fit = fit_more align size xs x served.fit one.1.message one.1.may;
+      moves = record {
+        takes =
+            subst (λ (bytes : List ℕ). Takes before.left before.waiting bytes now.left now.waiting) (sym (asked_more xs x))
+            (takes_on before.left mid.left now.left before.waiting mid.waiting now.waiting (asked xs) (spelling x.message) served.moves.takes one.1.moves.takes);
+        gives =
+            subst (λ (bytes : List ℕ). Gives before.sent before.held bytes now.sent now.held) (sym (answered_more xs x))
+            (gives_on before.sent mid.sent now.sent before.held mid.held now.held (answered xs) (reply x) served.moves.gives one.1.moves.gives);
+      };
+      calls = called_more before.disks mid.disks now.disks xs x served.calls one.1.called;
+      same = same_disks_trans before.disks mid.disks now.disks served.same one.1.called.same;
+      counted = simp length-append (ap (λ (n : ℕ). n + 1) served.counted);
+    }
+
+-- the content goes on from request to request
+pub calls_lead : (old new : List Seen) (xs : List Exchange) → CalledAll old xs new → AllTell old → LeadsAll (content old) xs (content new)
+calls_lead old new [] calls tell = ap content calls
+calls_lead old new (x ∷ xs) calls tell =
+    let mid : List Seen = calls.0 in
+    let called : Called old (ask x) x.message.body x.verdict mid = calls.1.0 in
+    (content mid, (called.leads tell, calls_lead mid new xs calls.1.1 (still_tell old mid called.same tell)))
