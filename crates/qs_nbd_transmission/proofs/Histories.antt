@@ -14,7 +14,7 @@ use Rattle.qs_nbd_transmission.specs.declared.event.Room.TheVariants.{Keep, Drop
 use Rattle.qs_nbd_transmission.specs.declared.event.WireEvent.{WireEvent}
 use Rattle.qs_nbd_transmission.specs.declared.event.WireEvent.TheVariants as event
 use Rattle.qs_nbd_transmission.specs.Heads.{IsHeadFront, head_bytes, head_of, ask_of, is_write_head, has_body}
-use Rattle.qs_nbd_transmission.specs.Phases.{Phase, InHead, Wants, Fills, Skips, Over, Stuck, given, HeadTells, KeptTell, PassedTell, StaysStuck, IsServed, IsLeaving}
+use Rattle.qs_nbd_transmission.specs.Phases.{Phase, InHead, Wants, Fills, Skips, Over, Stuck, phase_with_room, HeadTells, KeptTell, PassedTell, StaysStuck, IsServed, IsLeaving}
 use Rattle.qs_nbd_transmission.specs.Messages.{spelling}
 use Rattle.qs_nbd_transmission.specs.Sessions.{Call, Took, Gave, Makes, Runs, taken_by, told_by, Heard, IsHeard, events_of, IsAwaiting, Leaves, Tells, ReadsSessions}
 use Rattle.qs_nbd_transmission.proofs.Reading.{behind_wants, behind_none, kept_whole, passed_whole}
@@ -110,7 +110,7 @@ ends_head s held bytes more events told new p r = absurd r
 some_size : (h : Head) → has_body h ≡ true → 0 < h.size
 some_size h e = ltb-true 0 h.size (second_of (is_write_head h) (nat_lt 0 h.size) e)
 
-room_given : (s : Bool) (h : Head) (bytes : List ℕ) (events : List WireEvent) (room : Room) (new : Phase) → Tells s (Wants h) bytes events → new ≡ given (Wants h) room → Tells s new (bytes ++ []) (events ++ [])
+room_given : (s : Bool) (h : Head) (bytes : List ℕ) (events : List WireEvent) (room : Room) (new : Phase) → Tells s (Wants h) bytes events → new ≡ phase_with_room (Wants h) room → Tells s new (bytes ++ []) (events ++ [])
 room_given s h bytes events (Keep buffer) new p r =
     let l = p.leaves in
     subst (λ (q : Phase). Tells s q (bytes ++ []) (events ++ [])) (sym r)

@@ -1,6 +1,6 @@
 -- Laws of `overlay`.
 use Rattle.std.proofs.Common.{◌≡◌, ℕ, ◌+◌, ◌-◌, ◌≤◌, List, ◌++◌, length, take, drop, ap, sym, ◌∙◌, arith}
-use Rattle.std.proofs.lemmas.List.{take-append-le, take_at, take-take, length-append, length-take-le, length-drop}
+use Rattle.std.proofs.lemmas.List.{take-append-le, take_at, take-take, length-append, length-take-le}
 use Rattle.std.proofs.Math.Seq.{take-append-add}
 use Rattle.qs_bytes.specs.Pieces.{overlay}
 
@@ -19,11 +19,6 @@ take-overlay_below old at piece n within below =
     take-append-le n (take at old ++ piece) (drop (at + length piece) old) (omega (arith, e, length-append (take at old) piece))
     ∙ take-append-le n (take at old) piece (omega (arith, e))
     ∙ take-take n at old below
-
-pub length-overlay : (old : List ℕ) (at : ℕ) (piece : List ℕ) → at + length piece ≤ length old → length (overlay old at piece) ≡ length old
-unfolding overlay
-length-overlay old at piece within =
-    omega (arith, length-take-le at old (omega arith), length-append (take at old) piece, length-append (take at old ++ piece) (drop (at + length piece) old), length-drop (at + length piece) old)
 
 -- within the piece
 pub take-overlay_within : (old : List ℕ) (at : ℕ) (piece : List ℕ) (n : ℕ) → at ≤ length old → at ≤ n → n ≤ at + length piece → take n (overlay old at piece) ≡ take at old ++ take (n - at) piece

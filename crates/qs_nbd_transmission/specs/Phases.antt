@@ -44,10 +44,10 @@ CanGive (Wants h) room = room_size room ≡ h.size
 CanGive other room = ⊥
 
 -- the phase once the room is given
-abbrev pub given : Phase → Room → Phase
-given (Wants h) (Keep buffer) = Fills h []
-given (Wants h) (Drop count) = Skips h h.size
-given other room = other
+abbrev pub phase_with_room : Phase → Room → Phase
+phase_with_room (Wants h) (Keep buffer) = Fills h []
+phase_with_room (Wants h) (Drop count) = Skips h h.size
+phase_with_room other room = other
 
 -- the phase behind a head that is served
 abbrev pub behind_head : Head → Phase

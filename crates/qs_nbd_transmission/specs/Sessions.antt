@@ -7,7 +7,7 @@ use Rattle.qs_nbd_transmission.specs.declared.event.Room.TheVariants.{Keep, Drop
 use Rattle.qs_nbd_transmission.specs.declared.event.WireEvent.{WireEvent}
 use Rattle.qs_nbd_transmission.specs.declared.event.WireEvent.TheVariants as event
 use Rattle.qs_nbd_transmission.specs.Heads.{FitsHead, IsHeadFront, head_bytes, ask_of, disc, is_too_long, has_body}
-use Rattle.qs_nbd_transmission.specs.Phases.{Phase, InHead, Wants, Fills, Skips, Over, Stuck, CanGive, given, Reaches, HeadTells}
+use Rattle.qs_nbd_transmission.specs.Phases.{Phase, InHead, Wants, Fills, Skips, Over, Stuck, CanGive, phase_with_room, Reaches, HeadTells}
 use Rattle.qs_nbd_transmission.specs.Messages.{Message, IsMessage, spelling}
 
 -- Took: a feed took these bytes, with what it told at their end. Gave: room was given.
@@ -18,7 +18,7 @@ pub data Call : Type 0 where
 -- a call leads from one phase to another
 abbrev pub Makes : Bool → Phase → Call → Phase → Type 0
 Makes structured old (Took bytes told) new = Reaches structured old bytes told new
-Makes structured old (Gave room) new = CanGive old room × (new ≡ given old room)
+Makes structured old (Gave room) new = CanGive old room × (new ≡ phase_with_room old room)
 
 -- the calls lead, one after the other, from one phase to another
 abbrev pub Runs : Bool → Phase → List Call → Phase → Type 0

@@ -1,5 +1,5 @@
 ghost use Rattle.std.specs.Prelude.{◌≡◌, ◌<◌, ◌≤◌, [], false, length, take, IfNone};
-ghost use Rattle.qs_nbd_transmission.specs.Phases.{CanFeed, CanGive, Reaches, InHead, end_at, given, is_stuck};
+ghost use Rattle.qs_nbd_transmission.specs.Phases.{CanFeed, CanGive, Reaches, InHead, end_at, is_stuck, phase_with_room};
 
 use crate::event::{Room, WireEvent};
 use crate::head::HEAD_BYTES;
@@ -46,7 +46,8 @@ impl Transmission {
     ///
     /// A request that doesn't begin with the magic is refused at its fourth byte, a WRITE of more
     /// than 33,554,432 bytes at the end of its head. After a refusal nothing is taken, and the
-    /// refusal is told again. After a DISC the reader is fed no more.
+    /// refusal is told again. Behind the head of a WRITE of some length, `give` comes before the
+    /// next feed; after a DISC the reader is fed no more.
     pub fn feed(&mut self, piece: &[u8]) -> Fed<WireEvent>
         requires { CanFeed self.old.phase }
         ensures within { result.taken ≤ length piece.now }
@@ -70,7 +71,7 @@ impl Transmission {
     /// announced. A buffer's bytes are overwritten by the data.
     pub fn give(&mut self, room: Room)
         requires { CanGive self.old.phase room }
-        ensures { self.new ≡ record self.old { phase = given self.old.phase room } }
+        ensures { self.new ≡ record self.old { phase = phase_with_room self.old.phase room } }
     {
         self.stage = match room {
             Room::Keep(buffer) => Stage::Fills {

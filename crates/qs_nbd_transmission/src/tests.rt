@@ -2,7 +2,7 @@ ghost use Rattle.std.specs.Prelude.{◌≡◌, ◌<◌, IfOk};
 ghost use Rattle.qs_nbd_transmission.specs.Phases.{room_size};
 ghost use Rattle.qs_nbd_transmission.specs.Replies.{CanReply};
 
-use crate::{ReplyHead, Room, Transmission, WireEvent, awaits_data, reply_head};
+use crate::{ReplyHead, Room, Transmission, WireEvent, awaits_data, data_head, reply_head};
 use qs_bytes::{Ask, Bytes, Errno, Kind, Mode, SessionEnd, Verdict};
 use std::alloc::{AllocError, Global};
 use std::process::Abort;
@@ -323,6 +323,15 @@ fn heads_of_replies(rt: HostRuntime) -> Result<(), Fail> {
         READ_AT,
         Verdict::Refused(Errno::Inval),
         error,
+    );
+
+    assert_eq!(rt;
+        data_head(&PLAIN, &READ_AT).as_slice(),
+        simple_fine.as_slice()
+    );
+    assert_eq!(rt;
+        data_head(&STRUCTURED, &READ_AT).as_slice(),
+        data.as_slice()
     );
     Ok(())
 }
