@@ -1,13 +1,3 @@
-// A library with one function.
+//! The model of the core: sessions, requests, tracker, graph and image as one state, one operation
+//! of one actor a step, and its laws for every list of steps.
 #![tactic(auto)]
-
-ghost use Rattle.std.specs.Prelude.{◌≡◌};
-ghost use Rattle.qs_model.specs.Echo.{echo_of};
-
-// The `ensures` clause is the contract: what `echo` returns is `echo_of` of its argument, a definition
-// in `specs/Echo.antt`, which a caller's clause can cite too.
-pub fn echo(x: usize) -> usize
-    ensures { result ≡ echo_of x }
-{
-    x
-}

@@ -1,0 +1,4 @@
+pub mod Basics
+pub mod Geometry
+pub mod Facts
+pub mod Others
