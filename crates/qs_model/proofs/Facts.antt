@@ -1,6 +1,5 @@
 -- What every state of a run keeps.
-use Rattle.std.proofs.Common.{◌≡◌, ◌≢◌, ℕ, ◌+◌, ◌-◌, ◌*◌, max, ◌<◌, ◌≤◌, ◌⊎◌, Bool, true, false, List, length, Option, Some, None, IsTrue}
-use Rattle.std.specs.Prelude.{Contains}
+use Rattle.std.proofs.Common.{◌≡◌, ◌≢◌, ℕ, ◌+◌, ◌-◌, ◌*◌, max, ◌<◌, ◌≤◌, ◌⊎◌, Bool, true, false, List, [], ◌∷◌, length, Option, Some, None, IsTrue}
 use Rattle.qs_bytes.specs.Spans.{aligned_out}
 use Rattle.qs_bytes.specs.declared.ask.Verdict.{Verdict}
 use Rattle.qs_bytes.specs.declared.ask.Verdict.TheVariants.{Got, Fine, Refused, Dropped}
@@ -138,6 +137,11 @@ IsClient Away e = ⊥
 IsClient (Live d) e = d ≡ e
 IsClient (Leaving d) e = d ≡ e
 
+-- a session stands in a list
+abbrev pub Among : ℕ → List ℕ → Type 0
+Among s [] = ⊥
+Among s (x ∷ xs) = (x ≡ s) ⊎ Among s xs
+
 -- all that is kept
 pub record Ok (A : ℕ) (w : World) : Type 0 where
   pub below : (r : ℕ) (q : Req) → w.req r ≡ Some q → r < w.next
@@ -145,4 +149,4 @@ pub record Ok (A : ℕ) (w : World) : Type 0 where
   pub one : (r s : ℕ) (q p : Req) (k : ℕ) → w.req r ≡ Some q → w.req s ≡ Some p → IsAt q.stage k → IsAt p.stage k → r ≡ s
   pub owned : (b : ℕ) (h : Hold) → w.image.holder b ≡ Some h → Owner A w.req h b
   pub tracker : InOrder w.tracker
-  pub sessions : (s e : ℕ) → IsClient (w.session s) e → Contains (w.graph.clients e) s
+  pub sessions : (s e : ℕ) → IsClient (w.session s) e → Among s (w.graph.clients e)

@@ -2,3 +2,8 @@ pub mod Basics
 pub mod Geometry
 pub mod Facts
 pub mod Others
+pub mod Machine
+pub mod Places
+pub mod Held
+pub mod Holders
+pub mod Kept

@@ -10,12 +10,12 @@ use Rattle.qs_model.specs.Acts.{Act, Answers, Waits, Enters, Routes, Shuts, List
 use Rattle.qs_model.specs.Guards.{MayDo, SameSeat, Numbered, CanStore, CanHold}
 use Rattle.qs_model.specs.Steps.{tracked, imaged, listing}
 use Rattle.qs_model.proofs.Basics.{put_here, put_other, put_tells}
-use Rattle.qs_model.proofs.Facts.{Sits, Goes, Seated, Seats, Held, Keeps, IsOpen}
+use Rattle.qs_model.proofs.Facts.{Sits, Goes, Seated, Seats, Held, Keeps, IsOpen, IsAt}
 
 -- the step is by a request at another place than j
 abbrev pub Elsewhere : ℕ → {stage : Stage} → Act stage → Type 0
 Elsewhere j Answers = Unit {0}
-Elsewhere j (Waits wait) = Unit {0}
+Elsewhere j (Waits {stage = stage} wait) = IsAt stage j → ⊥
 Elsewhere j (Enters k) = j ≢ k
 Elsewhere j (Routes {k = k} route) = j ≢ k
 Elsewhere j (Shuts {k = k}) = j ≢ k
