@@ -7,3 +7,9 @@ pub mod Places
 pub mod Held
 pub mod Holders
 pub mod Kept
+pub mod Cells
+pub mod Working
+pub mod Never
+pub mod Along
+pub mod Undivided
+pub mod Between

@@ -4,7 +4,8 @@ use Rattle.qs_bytes.specs.declared.ask.Verdict.{Verdict}
 use Rattle.qs_cells.specs.declared.cell.CellEntry.{CellEntry}
 use Rattle.qs_cells.specs.declared.cell.CellEntry.TheVariants.{Read, Write, Maybe, Crash}
 use Rattle.qs_model.specs.Requests.{Client, Req, Stage, Ready, In, ToEnd, reads, writes, covers, body_at, verdict}
-use Rattle.qs_model.specs.Acts.{Act, Answers, Loads, Stores, StoreFails, Ends, Element, Asked, Did, Crashed, block_of}
+use Rattle.qs_part.specs.declared.graph.Route.{Route}
+use Rattle.qs_model.specs.Acts.{Act, Answers, Waits, Routes, Loads, Stores, StoreFails, Ends, Wait, HeldBy, Taken, Strange, NotHeld, Element, NotAttached, Asked, Did, Crashed, block_of}
 
 -- a request reads, or writes, the byte at x where it does something to block b
 abbrev pub reads_in : ℕ → Client → ℕ → ℕ → Bool
@@ -55,10 +56,53 @@ abbrev pub Answered : ℕ → Client → Verdict → Element → Type 0
 Answered r c v (Did s q act) = (s ≡ r) × (q.client ≡ c) × (answer_of q.dropped act ≡ Some v)
 Answered r c v _ = ⊥
 
+-- the request with this number is answered
+abbrev pub IsAnswer : ℕ → Element → Type 0
+IsAnswer r (Did s q act) = (s ≡ r) × ((v : Verdict) × (answer_of q.dropped act ≡ Some v))
+IsAnswer r _ = ⊥
+
 -- the request with this number is made
 abbrev pub IsAsk : ℕ → Element → Type 0
 IsAsk r (Asked s c) = s ≡ r
 IsAsk r _ = ⊥
+
+-- a row of Store, done or refused
+abbrev pub IsStoreRow : {stage : Stage} → Act stage → Type 0
+IsStoreRow (Stores bytes past) = Unit {0}
+IsStoreRow (StoreFails bytes took past) = Unit {0}
+IsStoreRow _ = ⊥
+
+-- a store by a request, done or refused
+abbrev pub IsStore : ℕ → Client → Element → Type 0
+IsStore r c (Did s q act) = (s ≡ r) × (q.client ≡ c) × IsStoreRow act
+IsStore r c _ = ⊥
+
+-- the graph gave the request this way
+abbrev pub IsRouteRow : {stage : Stage} → Act stage → Route → Type 0
+IsRouteRow (Routes given) route = given ≡ route
+IsRouteRow _ route = ⊥
+
+abbrev pub IsRouted : ℕ → Route → Element → Type 0
+IsRouted r route (Did s q act) = (s ≡ r) × IsRouteRow act route
+IsRouted r route _ = ⊥
+
+-- the answers HeldBy and Taken of a Hold or Store, Strange of List, Start and End, NotHeld of Free
+abbrev pub IsOdd : Wait → Type 0
+IsOdd (HeldBy j) = Unit {0}
+IsOdd (Taken b) = Unit {0}
+IsOdd Strange = Unit {0}
+IsOdd NotHeld = Unit {0}
+IsOdd _ = ⊥
+
+abbrev pub IsOddRow : {stage : Stage} → Act stage → Type 0
+IsOddRow (Waits wait) = IsOdd wait
+IsOddRow _ = ⊥
+
+-- such an answer, or NotAttached of a session's Detach
+abbrev pub IsOddStep : Element → Type 0
+IsOddStep (Did s q act) = IsOddRow act
+IsOddStep (NotAttached s e) = Unit {0}
+IsOddStep _ = ⊥
 
 -- a block entry of a request on block b: a row of Load, Hold, Store or Free
 abbrev pub IsEntry : ℕ → ℕ → Client → ℕ → Element → Type 0
