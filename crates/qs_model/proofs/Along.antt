@@ -162,9 +162,9 @@ passed_left c s (Some q) h =
 
 pub passed_lasts : (A : ℕ) (c : Client) → Lasts A (Passed c)
 passed_lasts A c = record {
-    own = λ d a p act h. subst (λ (x : Client). Passed x (moved A d a p act)) h.0 (late_moves A d a p act h.1);
-    left = passed_left c;
-    gone = tt
+  own = λ d a p act h. subst (λ (x : Client). Passed x (moved A d a p act)) h.0 (late_moves A d a p act h.1);
+  left = passed_left c;
+  gone = tt;
 }
 
 pub over_moves : (A : ℕ) (c : Client) (d : Bool) (p : Pads) {stage : Stage} (act : Act stage) → IsLast stage → Over (moved A c d p act)

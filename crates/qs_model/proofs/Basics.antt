@@ -32,16 +32,16 @@ same_or j k = go (j == k) refl
 pub put_cases : {X : Type 0} (P : X → Type 0) (f : ℕ → X) (k : ℕ) (v : X) (j : ℕ) → (j ≡ k → P v) → (j ≢ k → P (f j)) → P (put f k v j)
 put_cases P f k v j here there =
     elim (same_or j k) [
-    inl e ↦ subst (λ (i : ℕ). P (put f k v i)) (sym e) (subst P (sym (put_here f k v)) (here e))
-    | inr n ↦ subst P (sym (put_other f k v j n)) (there n)
+      | inl e ↦ subst (λ (i : ℕ). P (put f k v i)) (sym e) (subst P (sym (put_here f k v)) (here e))
+      | inr n ↦ subst P (sym (put_other f k v j n)) (there n)
     ]
 
 -- what a value of a changed function tells
 pub put_tells : {X : Type 0} (f : ℕ → X) (k : ℕ) (v : X) (j : ℕ) (y : X) → put f k v j ≡ y → ((j ≡ k) × (v ≡ y)) ⊎ ((j ≢ k) × (f j ≡ y))
 put_tells f k v j y is =
     elim (same_or j k) [
-    inl e ↦ inl (e, sym (put_here f k v) ∙ ap (λ (i : ℕ). put f k v i) (sym e) ∙ is)
-    | inr n ↦ inr (n, sym (put_other f k v j n) ∙ is)
+      | inl e ↦ inl (e, sym (put_here f k v) ∙ ap (λ (i : ℕ). put f k v i) (sym e) ∙ is)
+      | inr n ↦ inr (n, sym (put_other f k v j n) ∙ is)
     ]
 
 -- blocks in order

@@ -49,17 +49,19 @@ answer_gone A c d p _ v is = absurd (some_none (sym is))
 
 pub answer_ends : (A : ℕ) (w : World) (r : ℕ) (e : Element) → Ok A w → May A w e → IsAnswer r e → ((happens A w e).req r ≡ None) × (r < w.next)
 answer_ends A w r (Did s q act) ok may is =
-    let (same, (v, answer)) = is in
-    (ap (happens A w (Did s q act)).req (sym same) ∙ put_here w.req s _ ∙ answer_gone A q.client q.dropped q.pads act v answer,
-    subst (λ (n : ℕ). n < w.next) same (ok.below s q may.0))
+    let (same, (v, answer)) = is in (
+      ap (happens A w (Did s q act)).req (sym same) ∙ put_here w.req s _ ∙ answer_gone A q.client q.dropped q.pads act v answer,
+      subst (λ (n : ℕ). n < w.next) same (ok.below s q may.0),
+    )
 answer_ends A w r _ ok may is = absurd is
 
 pub unanswered : (A : ℕ) (w : World) (es : List Element) (r : ℕ) (q : Req) → 0 < A → Ok A w → Runs A w es → (after A w es).req r ≡ Some q → Unanswered r es
 unanswered A w [] r q pos ok run is = tt
-unanswered A w (e ∷ es) r q pos ok run is =
-    ((λ answer. let (none, made) = answer_ends A w r e ok run.0 answer in
-        some_none (sym is ∙ lasts_run A _ (gone_lasts A) (happens A w e) es r run.1 (next_step A w e r made) none)),
-    unanswered A (happens A w e) es r q pos (step_ok A w e pos ok run.0) run.1 is)
+unanswered A w (e ∷ es) r q pos ok run is = (
+  (λ answer. let (none, made) = answer_ends A w r e ok run.0 answer in
+      some_none (sym is ∙ lasts_run A _ (gone_lasts A) (happens A w e) es r run.1 (next_step A w e r made) none)),
+  unanswered A (happens A w e) es r q pos (step_ok A w e pos ok run.0) run.1 is,
+)
 
 pub acts_at : (A : ℕ) (w : World) (r : ℕ) (e : Element) → May A w e → Acts r e → (q : Req) × (w.req r ≡ Some q)
 acts_at A w r (Did s q act) may is = (q, ap w.req (sym is) ∙ may.0)
@@ -129,36 +131,40 @@ goer_before A w (Crowded s name) r route may g = inl g
 goer_before A w (Left s e) r route may g =
     let (q, (there, which)) = leaves_tells s (w.req r) g.request g.is in
     inl (elim which [
-        inl f ↦ record { request = q; is = there; going = subst (λ (x : Req). IsGoing x.stage) f g.going; way = ap (λ (x : Req). x.client.route) (sym f) ∙ g.way }
-        | inr f ↦ record { request = q; is = there; going = abandoned_going q.stage (subst (λ (x : Req). IsGoing x.stage) f g.going);
-            way = ap (λ (x : Req). x.client.route) (sym f) ∙ g.way }
+      | inl f ↦ record { request = q; is = there; going = subst (λ (x : Req). IsGoing x.stage) f g.going; way = ap (λ (x : Req). x.client.route) (sym f) ∙ g.way }
+      | inr f ↦ record {
+        request = q;
+        is = there;
+        going = abandoned_going q.stage (subst (λ (x : Req). IsGoing x.stage) f g.going);
+        way = ap (λ (x : Req). x.client.route) (sym f) ∙ g.way;
+      }
     ])
 goer_before A w (Detached s e) r route may g = inl (record { request = g.request; is = g.is; going = g.going; way = g.way })
 goer_before A w (NotAttached s e) r route may g = inl g
 goer_before A w (Asked s c) r route may g = elim (put_tells w.req s _ r (Some g.request) g.is) [
-    inl e ↦ absurd (asked_going c (subst (λ (x : Req). IsGoing x.stage) (sym (inside (asked c) g.request e.1)) g.going))
-    | inr e ↦ inl (record { request = g.request; is = e.1; going = g.going; way = g.way })
-    ]
+  | inl e ↦ absurd (asked_going c (subst (λ (x : Req). IsGoing x.stage) (sym (inside (asked c) g.request e.1)) g.going))
+  | inr e ↦ inl (record { request = g.request; is = e.1; going = g.going; way = g.way })
+]
   where
     inside : (x y : Req) → Some x ≡ Some y → x ≡ y
     inside x y e = cc
 goer_before A w (Did s q act) r route may g = elim (put_tells w.req s _ r (Some g.request) g.is) [
-    inl e ↦ elim (for_moved (λ x. IsGoing x.stage → (IsGoing q.stage × (q.client.route ≡ x.client.route)) ⊎ IsRouteRow act x.client.route) _ g.request
-            (back_route A q.client q.dropped q.pads act) e.1 g.going) [
-        inl f ↦ inl (record { request = q; is = ap w.req e.0 ∙ may.0; going = f.0; way = f.1 ∙ g.way })
+  | inl e ↦ elim (for_moved (λ x. IsGoing x.stage → (IsGoing q.stage × (q.client.route ≡ x.client.route)) ⊎ IsRouteRow act x.client.route) _ g.request
+      (back_route A q.client q.dropped q.pads act) e.1 g.going) [
+        | inl f ↦ inl (record { request = q; is = ap w.req e.0 ∙ may.0; going = f.0; way = f.1 ∙ g.way })
         | inr f ↦ inr (sym e.0, subst (λ (x : Route). IsRouteRow act x) g.way f)
-        ]
-    | inr e ↦ inl (record { request = g.request; is = e.1; going = g.going; way = g.way })
-    ]
+      ]
+  | inr e ↦ inl (record { request = g.request; is = e.1; going = g.going; way = g.way })
+]
 goer_before A w (Exported e x) r route may g = inl (record { request = g.request; is = g.is; going = g.going; way = g.way })
 goer_before A w (Crashed left) r route may g = absurd (some_none (sym g.is))
 
 pub was_routed : (A : ℕ) (w : World) (es : List Element) (r : ℕ) (route : Route) → Runs A w es → Goer (after A w es) r route → Goer w r route ⊎ WasRouted r route es
 was_routed A w [] r route run g = inl g
 was_routed A w (e ∷ es) r route run g = elim (was_routed A (happens A w e) es r route run.1 g) [
-    inl h ↦ elim (goer_before A w e r route run.0 h) [ inl k ↦ inl k | inr k ↦ inr (inl k) ]
-    | inr h ↦ inr (inr h)
-    ]
+  | inl h ↦ elim (goer_before A w e r route run.0 h) [ inl k ↦ inl k | inr k ↦ inr (inl k) ]
+  | inr h ↦ inr (inr h)
+]
 
 -- a row of Store is by a request that may write
 pub store_row : (A : ℕ) (c : Client) {stage : Stage} (act : Act stage) → Shaped A c stage → IsStoreRow act → (c.route.writable ≡ true) × IsGoing stage
@@ -169,9 +175,10 @@ store_row A c _ fit is = absurd is
 pub store_at : (A : ℕ) (w : World) (r : ℕ) (c : Client) (e : Element) → Ok A w → May A w e → IsStore r c e → (c.route.writable ≡ true) × Goer w r c.route
 store_at A w r c (Did s q act) ok may is =
     let (same, client, row) = is in
-    let (writable, going) = store_row A q.client act (ok.well s q may.0).shaped row in
-    (subst (λ (x : Client). x.route.writable ≡ true) client writable,
-    record { request = q; is = ap w.req (sym same) ∙ may.0; going = going; way = ap (λ (x : Client). x.route) client })
+    let (writable, going) = store_row A q.client act (ok.well s q may.0).shaped row in (
+      subst (λ (x : Client). x.route.writable ≡ true) client writable,
+      record { request = q; is = ap w.req (sym same) ∙ may.0; going = going; way = ap (λ (x : Client). x.route) client },
+    )
 store_at A w r c _ ok may is = absurd is
 
 pub writable : (A : ℕ) (w : World) (es : List Element) → 0 < A → Ok A w → ((r : ℕ) → w.req r ≡ None) → Runs A w es → Writable es
@@ -185,8 +192,8 @@ writable A w es pos ok none run r c before behind e split store =
 -- the listed spans
 pub ordered : (t : Tracker) → InOrder t → Ordered t
 ordered t order = record {
-    apart = λ j k l m a b s u conflict. started_apart t j k l m order a b s u conflict;
-    lowest = λ k l is low. record { listed = is; clear = λ j m there less conflict. let le : l.number ≤ m.number = low j m there in omega arith }
+  apart = λ j k l m a b s u conflict. started_apart t j k l m order a b s u conflict;
+  lowest = λ k l is low. record { listed = is; clear = λ j m there less conflict. let le : l.number ≤ m.number = low j m there in omega arith };
 }
 
 pub tracked : (A : ℕ) (w : World) (es : List Element) → 0 < A → Ok A w → Runs A w es → Tracked A w es

@@ -76,21 +76,21 @@ pad_byte A tells i k c p b x bytes past pos told can storing kept uncovered at =
     let low : b * A ≤ x = subst (λ (n : ℕ). n * A ≤ x) at (block_low x A pos) in
     let high : x < b * A + A = subst (λ (n : ℕ). x < n * A + A) at (block_high x A pos) in
     merged ∙ elim (outside A c b x pos storing.sound.some storing.reach low high uncovered) [
-        inl h ↦ ap (λ (bytes : List ℕ). get_or bytes (x % A) 0)
-            (ap (pad p) (ap (λ (t : Bool). cond t Head Tail) (eq-eqb b (edge A c Head) h.0))
-            ∙ sym ((kept Head (h.1, h.0)).same told) ∙ ap i.now (sym h.0 ∙ sym at))
-        | inr h ↦ ap (λ (bytes : List ℕ). get_or bytes (x % A) 0)
-            (ap (pad p) (ap (λ (t : Bool). cond t Head Tail) (ne_eqb b (edge A c Head) h.0))
-            ∙ sym ((kept Tail h.2).same told) ∙ ap i.now (sym h.1 ∙ sym at))
+      | inl h ↦ ap (λ (bytes : List ℕ). get_or bytes (x % A) 0)
+          (ap (pad p) (ap (λ (t : Bool). cond t Head Tail) (eq-eqb b (edge A c Head) h.0))
+          ∙ sym ((kept Head (h.1, h.0)).same told) ∙ ap i.now (sym h.0 ∙ sym at))
+      | inr h ↦ ap (λ (bytes : List ℕ). get_or bytes (x % A) 0)
+          (ap (pad p) (ap (λ (t : Bool). cond t Head Tail) (ne_eqb b (edge A c Head) h.0))
+          ∙ sym ((kept Tail h.2).same told) ∙ ap i.now (sym h.1 ∙ sym at))
     ]
 
 -- what a block's byte is after a store of block b, with `now` for its content
 pub stored_byte : (A : ℕ) (i : Image) (b x : ℕ) (now : List ℕ) → (x / A ≡ b → get_or now (x % A) 0 ≡ get_or (i.now (x / A)) (x % A) 0) →
     get_or (put i.now b now (x / A)) (x % A) 0 ≡ get_or (i.now (x / A)) (x % A) 0
 stored_byte A i b x now here = elim (same_or (x / A) b) [
-    inl e ↦ ap (λ (bytes : List ℕ). get_or bytes (x % A) 0) (ap (put i.now b now) e ∙ put_here i.now b now) ∙ here e
-    | inr n ↦ ap (λ (bytes : List ℕ). get_or bytes (x % A) 0) (put_other i.now b now (x / A) n)
-    ]
+  | inl e ↦ ap (λ (bytes : List ℕ). get_or bytes (x % A) 0) (ap (put i.now b now) e ∙ put_here i.now b now) ∙ here e
+  | inr n ↦ ap (λ (bytes : List ℕ). get_or bytes (x % A) 0) (put_other i.now b now (x / A) n)
+]
 
 pub written_byte : (A : ℕ) (i : Image) (b x : ℕ) (now : List ℕ) → x / A ≡ b → get_or (put i.now b now (x / A)) (x % A) 0 ≡ get_or now (x % A) 0
 written_byte A i b x now e = ap (λ (bytes : List ℕ). get_or bytes (x % A) 0) (ap (put i.now b now) e ∙ put_here i.now b now)
@@ -111,22 +111,22 @@ pub row_leads : (A x r : ℕ) (w : World) (c : Client) (p : Pads) {stage : Stage
 row_leads A x r w c p (Loads {b = b} bytes) pos told fit kept may =
     choose (λ es. Leads (byte_at A w.image x) (byte_at A w.image x) es) (reads_in A c b x) _ _
     (λ e. let (_, _, at) = three (reads c) (covers c x) (x / A == b) e in
-        leads_read r _ _ (ap (λ (bytes : List ℕ). get_or bytes (x % A) 0) (may.now told ∙ ap w.image.now (sym (same_eqb (x / A) b at)))))
+    leads_read r _ _ (ap (λ (bytes : List ℕ). get_or bytes (x % A) 0) (may.now told ∙ ap w.image.now (sym (same_eqb (x / A) b at)))))
     (λ e. leads_none _ _ refl)
 row_leads A x r w c p (Stores {k = k} {b = b} bytes past) pos told fit kept may =
     choose (λ es. Leads (byte_at A w.image x) (get_or (put w.image.now b bytes (x / A)) (x % A) 0) es) (writes_in A c b x) _ _
     (λ e. let (_, covered, at) = three (writes c) (covers c x) (x / A == b) e in
-        let here : x / A ≡ b = same_eqb (x / A) b at in
-        leads_write r _ _ _ (written_byte A w.image b x bytes here ∙ covered_byte A w.image k c p b x bytes past pos may.0 covered here))
+    let here : x / A ≡ b = same_eqb (x / A) b at in
+    leads_write r _ _ _ (written_byte A w.image b x bytes here ∙ covered_byte A w.image k c p b x bytes past pos may.0 covered here))
     (λ e. leads_none _ _ (stored_byte A w.image b x bytes
-        (λ at. pad_byte A w.tells w.image k c p b x bytes past pos told may.0 fit kept (unwritten A c b x fit.writing e at) at)))
+    (λ at. pad_byte A w.tells w.image k c p b x bytes past pos told may.0 fit kept (unwritten A c b x fit.writing e at) at)))
 row_leads A x r w c p (StoreFails {k = k} {b = b} bytes true past) pos told fit kept may =
     choose (λ es. Leads (byte_at A w.image x) (get_or (put w.image.now b bytes (x / A)) (x % A) 0) es) (writes_in A c b x) _ _
     (λ e. let (_, covered, at) = three (writes c) (covers c x) (x / A == b) e in
-        let here : x / A ≡ b = same_eqb (x / A) b at in
-        leads_maybe r _ _ _ true (written_byte A w.image b x bytes here ∙ covered_byte A w.image k c p b x bytes past pos may.0 covered here))
+    let here : x / A ≡ b = same_eqb (x / A) b at in
+    leads_maybe r _ _ _ true (written_byte A w.image b x bytes here ∙ covered_byte A w.image k c p b x bytes past pos may.0 covered here))
     (λ e. leads_none _ _ (stored_byte A w.image b x bytes
-        (λ at. pad_byte A w.tells w.image k c p b x bytes past pos told may.0 fit kept (unwritten A c b x fit.writing e at) at)))
+    (λ at. pad_byte A w.tells w.image k c p b x bytes past pos told may.0 fit kept (unwritten A c b x fit.writing e at) at)))
 row_leads A x r w c p (StoreFails {k = k} {b = b} bytes false past) pos told fit kept may =
     let same : get_or (put w.image.now b (w.image.now b) (x / A)) (x % A) 0 ≡ byte_at A w.image x =
     stored_byte A w.image b x (w.image.now b) (λ at. ap (λ (n : ℕ). get_or (w.image.now n) (x % A) 0) (sym at)) in
@@ -167,14 +167,14 @@ run_leads A x w (e ∷ es) pos told ok run =
     run_leads A x (happens A w e) es pos (told_still A w e told) (step_ok A w e pos ok run.0) run.1 in
     let from : byte_at A (happens A w e).image x ≡ value_after (byte_at A w.image x) (cell_at A x e) = here.leaves in
     record {
-        legal = legal_append (byte_at A w.image x) (cell_at A x e) (cell A x es) here.legal (subst (λ (v : ℕ). Legal v (cell A x es)) from rest.legal);
-        leaves = rest.leaves ∙ ap (λ (v : ℕ). value_after v (cell A x es)) from ∙ sym (value_append (byte_at A w.image x) (cell_at A x e) (cell A x es))
+      legal = legal_append (byte_at A w.image x) (cell_at A x e) (cell A x es) here.legal (subst (λ (v : ℕ). Legal v (cell A x es)) from rest.legal);
+      leaves = rest.leaves ∙ ap (λ (v : ℕ). value_after v (cell A x es)) from ∙ sym (value_append (byte_at A w.image x) (cell_at A x e) (cell A x es));
     }
 
 -- the law
 pub cells : (A : ℕ) (w : World) (es : List Element) → 0 < A → IsTrue w.tells → Ok A w → Runs A w es → Cells A w es
 cells A w es pos told ok run = record {
-    legal = λ x. (run_leads A x w es pos told ok run).legal;
-    now = λ x before behind e.
-        (run_leads A x w before pos told ok (runs_front A w before behind (subst (λ (l : List Element). Runs A w l) e run))).leaves
+  legal = λ x. (run_leads A x w es pos told ok run).legal;
+  now = λ x before behind e.
+      (run_leads A x w before pos told ok (runs_front A w before behind (subst (λ (l : List Element). Runs A w l) e run))).leaves;
 }

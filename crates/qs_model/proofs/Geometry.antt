@@ -123,8 +123,8 @@ behind_tail A c b x h some reach high behind =
     let same : b ≡ edge A c Tail = omega arith in
     let there : edge A c Tail * A ≡ b * A = ap (λ (n : ℕ). n * A) (sym same) in
     elim (same_or b (edge A c Head)) [
-    inl e ↦ let here : edge A c Head * A ≡ b * A = ap (λ (n : ℕ). n * A) (sym e) in inl (e, has_head A c (inr (omega arith)))
-    | inr n ↦ inr (n, same, has_tail A c (λ e. n (same ∙ e)) (omega arith))
+      | inl e ↦ let here : edge A c Head * A ≡ b * A = ap (λ (n : ℕ). n * A) (sym e) in inl (e, has_head A c (inr (omega arith)))
+      | inr n ↦ inr (n, same, has_tail A c (λ e. n (same ∙ e)) (omega arith))
     ]
 
 pub same_eqb : (a b : ℕ) → (a == b) ≡ true → a ≡ b

@@ -82,19 +82,19 @@ held_keeps A w c p k Head bytes wanted kept can =
     (λ e. elim [ Head ↦ λ open_. taken_held A w c p k Head bytes can | Tail ↦ λ open_. absurd open_ ])
     (λ e. elim [ Head ↦ λ open_. taken_held A w c p k Head bytes can | Tail ↦ λ open_. absurd (true≢false (sym open_ ∙ e)) ])
 held_keeps A w c p k Tail bytes wanted kept can = elim [
-    Head ↦ λ open_. record {
-        held = put_other w.image.holder (edge A c Tail) _ (edge A c Head) (λ e. tail_other A c wanted (sym e)) ∙ (kept Head open_.0).held;
-        same = (kept Head open_.0).same
-    }
-    | Tail ↦ λ open_. taken_held A w c p k Tail bytes can
-    ]
+  | Head ↦ λ open_. record {
+    held = put_other w.image.holder (edge A c Tail) _ (edge A c Head) (λ e. tail_other A c wanted (sym e)) ∙ (kept Head open_.0).held;
+    same = (kept Head open_.0).same;
+  }
+  | Tail ↦ λ open_. taken_held A w c p k Tail bytes can
+]
 
 -- a hold on another block than the one that was stored or freed
 pub still_held : (A : ℕ) (tells : Bool) (i : Image) (c : Client) (p : Pads) (k b : ℕ) (side : Side) (j : Image) →
     ((d : ℕ) → d ≢ b → (j.holder d ≡ i.holder d) × (j.now d ≡ i.now d)) → edge A c side ≢ b → Held A tells i c p k side → Held A tells j c p k side
 still_held A tells i c p k b side j others other h = record {
-    held = (others (edge A c side) other).0 ∙ h.held;
-    same = λ t. (others (edge A c side) other).1 ∙ h.same t
+  held = (others (edge A c side) other).0 ∙ h.held;
+  same = λ t. (others (edge A c side) other).1 ∙ h.same t;
 }
 
 pub stored_keeps : (A : ℕ) (tells : Bool) (i j : Image) (c : Client) (p : Pads) (k b : ℕ) → ((d : ℕ) → d ≢ b → (j.holder d ≡ i.holder d) × (j.now d ≡ i.now d)) →
@@ -104,8 +104,8 @@ stored_keeps A tells i j c p k b others reach kept =
     let P : Step → Type 0 = λ g. Keeps A tells j c p (In k g) in
     choose P (b == edge A c Tail) _ _ (λ e. bare_keeps A tells j c p k (ToEnd Fine) tt)
     (λ e. elim [
-        Head ↦ λ open_. let past : b + 1 ≡ edge A c Head = open_.1 in let first : edge A c Head ≤ b = reach.first in absurd (omega arith)
-        | Tail ↦ λ open_. still_held A tells i c p k b Tail j others (λ f. other_block b (edge A c Tail) e (sym f)) (kept Tail open_)
+      | Head ↦ λ open_. let past : b + 1 ≡ edge A c Head = open_.1 in let first : edge A c Head ≤ b = reach.first in absurd (omega arith)
+      | Tail ↦ λ open_. still_held A tells i c p k b Tail j others (λ f. other_block b (edge A c Tail) e (sym f)) (kept Tail open_)
     ])
 
 pub not_true : (b : Bool) → not b ≡ true → b ≡ false
@@ -119,8 +119,8 @@ store_failed_keeps A tells i j c p k b others kept =
     let P : Step → Type 0 = λ g. Keeps A tells j c p (In k g) in
     choose P (has A c Tail && not (b == edge A c Tail)) _ _
     (λ e. let (wanted, other) = both (has A c Tail) (not (b == edge A c Tail)) e in elim [
-        Head ↦ λ open_. absurd open_
-        | Tail ↦ λ open_. still_held A tells i c p k b Tail j others (λ f. other_block b (edge A c Tail) (not_true _ other) (sym f)) (kept Tail wanted)
+      | Head ↦ λ open_. absurd open_
+      | Tail ↦ λ open_. still_held A tells i c p k b Tail j others (λ f. other_block b (edge A c Tail) (not_true _ other) (sym f)) (kept Tail wanted)
     ])
     (λ e. bare_keeps A tells j c p k (ToEnd (Refused Io)) tt)
 

@@ -99,7 +99,8 @@ pub holder_before : (A : ℕ) (w : World) (c : Client) {stage : Stage} (act : Ac
     (w.image.holder b ≡ Some h) ⊎ IsTaken A c act b h
 holder_before A w c (Holds {k = k} {side = side} bytes) b h is =
     elim (put_tells w.image.holder (edge A c side) (Some (record { place = k; side = side })) b (Some h) is) [
-    inl e ↦ inr (e.0, inside h (record { place = k; side = side }) (sym e.1)) | inr e ↦ inl e.1
+      | inl e ↦ inr (e.0, inside h (record { place = k; side = side }) (sym e.1))
+      | inr e ↦ inl e.1
     ]
   where
     inside : (x y : Hold) → Some x ≡ Some y → x ≡ y

@@ -115,9 +115,9 @@ others_well A w r s q p act ok here there other may =
     let old : Well A w.tells w.tracker w.image p = ok.well s p there in
     let far : (j : ℕ) → IsAt p.stage j → Elsewhere j act = away A w r s q p act ok here there other may in
     record {
-        shaped = old.shaped;
-        seated = others_seats A w q.client q.pads act p.client p.stage may far old.seated;
-        kept = others_keeps A w q.client q.pads act p.client p.pads p.stage may far old.kept
+      shaped = old.shaped;
+      seated = others_seats A w q.client q.pads act p.client p.stage may far old.seated;
+      kept = others_keeps A w q.client q.pads act p.client p.pads p.stage may far old.kept;
     }
 
 pub own_well : (A : ℕ) (w : World) (r : ℕ) (q p : Req) (act : Act q.stage) → 0 < A → Ok A w → w.req r ≡ Some q → MayDo A w q.client q.pads act →
@@ -125,9 +125,9 @@ pub own_well : (A : ℕ) (w : World) (r : ℕ) (q p : Req) (act : Act q.stage) �
 own_well A w r q p act pos ok here may is =
     let old : Well A w.tells w.tracker w.image q = ok.well r q here in
     record {
-        shaped = for_moved (λ x. Shaped A x.client x.stage) _ p (own_shaped A w q.client q.dropped q.pads act pos old.shaped may) is;
-        seated = for_moved (λ x. Seats A (tracked A w.tracker q.client act) x.client x.stage) _ p (own_seated A w q.client q.dropped q.pads act old.seated may) is;
-        kept = for_moved (λ x. Keeps A w.tells (imaged A w.image q.client act) x.client x.pads x.stage) _ p (own_kept A w q.client q.dropped q.pads act old.shaped old.kept may) is
+      shaped = for_moved (λ x. Shaped A x.client x.stage) _ p (own_shaped A w q.client q.dropped q.pads act pos old.shaped may) is;
+      seated = for_moved (λ x. Seats A (tracked A w.tracker q.client act) x.client x.stage) _ p (own_seated A w q.client q.dropped q.pads act old.seated may) is;
+      kept = for_moved (λ x. Keeps A w.tells (imaged A w.image q.client act) x.client x.pads x.stage) _ p (own_kept A w q.client q.dropped q.pads act old.shaped old.kept may) is;
     }
 
 -- the places stay distinct
@@ -135,14 +135,14 @@ pub did_one : (A : ℕ) (w : World) (r : ℕ) (q : Req) (act : Act q.stage) → 
     (s u : ℕ) (x y : Req) (k : ℕ) → (happens A w (Did r q act)).req s ≡ Some x → (happens A w (Did r q act)).req u ≡ Some y → IsAt x.stage k → IsAt y.stage k → s ≡ u
 did_one A w r q act ok here may s u x y k a b at bt =
     elim (put_tells w.req r (moved A q.client q.dropped q.pads act) s (Some x) a) [
-    inl e ↦ elim (put_tells w.req r (moved A q.client q.dropped q.pads act) u (Some y) b) [
-        inl f ↦ e.0 ∙ sym f.0
+      | inl e ↦ elim (put_tells w.req r (moved A q.client q.dropped q.pads act) u (Some y) b) [
+        | inl f ↦ e.0 ∙ sym f.0
         | inr f ↦ absurd (clash u x y f.0 f.1 e.1 bt at)
-    ]
-    | inr e ↦ elim (put_tells w.req r (moved A q.client q.dropped q.pads act) u (Some y) b) [
-        inl f ↦ absurd (clash s y x e.0 e.1 f.1 at bt)
+      ]
+      | inr e ↦ elim (put_tells w.req r (moved A q.client q.dropped q.pads act) u (Some y) b) [
+        | inl f ↦ absurd (clash s y x e.0 e.1 f.1 at bt)
         | inr f ↦ ok.one s u x y k e.1 f.1 at bt
-    ]
+      ]
     ]
   where
     clash : (v : ℕ) (own other : Req) → v ≢ r → w.req v ≡ Some other → moved A q.client q.dropped q.pads act ≡ Some own → IsAt other.stage k → IsAt own.stage k → ⊥
@@ -153,36 +153,37 @@ did_one A w r q act ok here may s u x y k a b at bt =
 pub did_owned : (A : ℕ) (w : World) (r : ℕ) (q : Req) (act : Act q.stage) → Ok A w → w.req r ≡ Some q →
     (b : ℕ) (h : Hold) → (imaged A w.image q.client act).holder b ≡ Some h → Owner A (happens A w (Did r q act)).req h b
 did_owned A w r q act ok here b h is = elim (holder_before A w q.client act b h is) [
-    inl e ↦ old (ok.owned b h e)
-    | inr e ↦ own (has_moved _ _ (new_holder A w q.client q.dropped q.pads act b h (ok.well r q here).shaped e))
-    ]
+  | inl e ↦ old (ok.owned b h e)
+  | inr e ↦ own (has_moved _ _ (new_holder A w q.client q.dropped q.pads act b h (ok.well r q here).shaped e))
+]
   where
     own : (x : Req) × ((moved A q.client q.dropped q.pads act ≡ Some x) × IsHolder A x.client x.stage h b) → Owner A (happens A w (Did r q act)).req h b
     own m = record { number = r; request = m.0; is = put_here w.req r _ ∙ m.1.0; holds = m.1.1 }
+
     old : Owner A w.req h b → Owner A (happens A w (Did r q act)).req h b
     old o = elim (same_or o.number r) [
-        inl e ↦
-            let there : w.req r ≡ Some o.request = subst (λ (n : ℕ). w.req n ≡ Some o.request) e o.is in
-            let same : o.request ≡ q = cc in
-            own (has_moved _ _ (own_holder A w q.client q.dropped q.pads act h.place h.side b (ok.well r q here).shaped
-            (subst (λ (x : Req). IsHolder A x.client x.stage h b) same o.holds) is))
-        | inr n ↦ record { number = o.number; request = o.request; is = put_other w.req r _ o.number n ∙ o.is; holds = o.holds }
+      | inl e ↦
+          let there : w.req r ≡ Some o.request = subst (λ (n : ℕ). w.req n ≡ Some o.request) e o.is in
+          let same : o.request ≡ q = cc in
+          own (has_moved _ _ (own_holder A w q.client q.dropped q.pads act h.place h.side b (ok.well r q here).shaped
+          (subst (λ (x : Req). IsHolder A x.client x.stage h b) same o.holds) is))
+      | inr n ↦ record { number = o.number; request = o.request; is = put_other w.req r _ o.number n ∙ o.is; holds = o.holds }
     ]
 
 pub did_ok : (A : ℕ) (w : World) (r : ℕ) (q : Req) (act : Act q.stage) → 0 < A → Ok A w → May A w (Did r q act) → Ok A (happens A w (Did r q act))
 did_ok A w r q act pos ok may = record {
-    below = λ s x is. elim (put_tells w.req r _ s (Some x) is) [
-        inl e ↦ subst (λ (n : ℕ). n < w.next) (sym e.0) (ok.below r q may.0)
-        | inr e ↦ ok.below s x e.1
-    ];
-    well = λ s x is. elim (put_tells w.req r _ s (Some x) is) [
-        inl e ↦ own_well A w r q x act pos ok may.0 may.1 e.1
-        | inr e ↦ others_well A w r s q x act ok may.0 e.1 e.0 may.1
-    ];
-    one = did_one A w r q act ok may.0 may.1;
-    owned = did_owned A w r q act ok may.0;
-    tracker = stays_in_order A w q.client q.pads act may.1 ok.tracker;
-    sessions = ok.sessions
+  below = λ s x is. elim (put_tells w.req r _ s (Some x) is) [
+    | inl e ↦ subst (λ (n : ℕ). n < w.next) (sym e.0) (ok.below r q may.0)
+    | inr e ↦ ok.below s x e.1
+  ];
+  well = λ s x is. elim (put_tells w.req r _ s (Some x) is) [
+    | inl e ↦ own_well A w r q x act pos ok may.0 may.1 e.1
+    | inr e ↦ others_well A w r s q x act ok may.0 e.1 e.0 may.1
+  ];
+  one = did_one A w r q act ok may.0 may.1;
+  owned = did_owned A w r q act ok may.0;
+  tracker = stays_in_order A w q.client q.pads act may.1 ok.tracker;
+  sessions = ok.sessions;
 }
 
 -- a request that was made
@@ -207,26 +208,26 @@ asked_nowhere c k =
 
 pub asked_ok : (A : ℕ) (w : World) (r : ℕ) (c : Client) → Ok A w → CanAsk w r c → Ok A (happens A w (Asked r c))
 asked_ok A w r c ok can = record {
-    below = λ s x is. elim (put_tells w.req r _ s (Some x) is) [
-        inl e ↦ let f : r ≡ w.next = can.next in let g : s ≡ r = e.0 in omega arith
-        | inr e ↦ let lt : s < w.next = ok.below s x e.1 in omega arith
-    ];
-    well = λ s x is. elim (put_tells w.req r _ s (Some x) is) [
-        inl e ↦ subst (λ (q : Req). Well A w.tells w.tracker w.image q) (inside (asked c) x e.1) (asked_well A w c)
-        | inr e ↦ ok.well s x e.1
-    ];
-    one = λ s u x y k a b at bt. elim (put_tells w.req r _ s (Some x) a) [
-        inl e ↦ absurd (asked_nowhere c k (subst (λ (q : Req). IsAt q.stage k) (sym (inside (asked c) x e.1)) at))
-        | inr e ↦ elim (put_tells w.req r _ u (Some y) b) [
-            inl f ↦ absurd (asked_nowhere c k (subst (λ (q : Req). IsAt q.stage k) (sym (inside (asked c) y f.1)) bt))
-            | inr f ↦ ok.one s u x y k e.1 f.1 at bt
-        ]
-    ];
-    owned = λ b h is. let o : Owner A w.req h b = ok.owned b h is in
-        let other : o.number ≢ r = λ e. let lt : o.number < w.next = ok.below o.number o.request o.is in let f : r ≡ w.next = can.next in omega arith in
-        record { number = o.number; request = o.request; is = put_other w.req r _ o.number other ∙ o.is; holds = o.holds };
-    tracker = ok.tracker;
-    sessions = ok.sessions
+  below = λ s x is. elim (put_tells w.req r _ s (Some x) is) [
+    | inl e ↦ let f : r ≡ w.next = can.next in let g : s ≡ r = e.0 in omega arith
+    | inr e ↦ let lt : s < w.next = ok.below s x e.1 in omega arith
+  ];
+  well = λ s x is. elim (put_tells w.req r _ s (Some x) is) [
+    | inl e ↦ subst (λ (q : Req). Well A w.tells w.tracker w.image q) (inside (asked c) x e.1) (asked_well A w c)
+    | inr e ↦ ok.well s x e.1
+  ];
+  one = λ s u x y k a b at bt. elim (put_tells w.req r _ s (Some x) a) [
+    | inl e ↦ absurd (asked_nowhere c k (subst (λ (q : Req). IsAt q.stage k) (sym (inside (asked c) x e.1)) at))
+    | inr e ↦ elim (put_tells w.req r _ u (Some y) b) [
+      | inl f ↦ absurd (asked_nowhere c k (subst (λ (q : Req). IsAt q.stage k) (sym (inside (asked c) y f.1)) bt))
+      | inr f ↦ ok.one s u x y k e.1 f.1 at bt
+    ]
+  ];
+  owned = λ b h is. let o : Owner A w.req h b = ok.owned b h is in
+      let other : o.number ≢ r = λ e. let lt : o.number < w.next = ok.below o.number o.request o.is in let f : r ≡ w.next = can.next in omega arith in
+      record { number = o.number; request = o.request; is = put_other w.req r _ o.number other ∙ o.is; holds = o.holds };
+  tracker = ok.tracker;
+  sessions = ok.sessions;
 }
   where
     inside : (x y : Req) → Some x ≡ Some y → x ≡ y
@@ -247,6 +248,7 @@ abandoned_well A tells t i q well = record { shaped = shape q.stage well.shaped;
     shape (In k (ToStore b)) h = h
     shape (In k (ToFree side)) h = h
     shape (In k (ToEnd v)) h = h
+
     seat : (g : Stage) → Seats A t q.client g → Seats A t q.client (abandoned g)
     seat (Ready v) h = tt
     seat Entering h = tt
@@ -258,6 +260,7 @@ abandoned_well A tells t i q well = record { shaped = shape q.stage well.shaped;
     seat (In k (ToStore b)) h = h
     seat (In k (ToFree side)) h = h
     seat (In k (ToEnd v)) h = h
+
     keeps : (g : Stage) → Keeps A tells i q.client q.pads g → Keeps A tells i q.client q.pads (abandoned g)
     keeps (Ready v) h = tt
     keeps Entering h = tt
@@ -294,6 +297,7 @@ leaves_tells s (Some q) x is = (q, (refl, go (q.client.session == s) (inside (co
   where
     inside : (a b : Req) → Some a ≡ Some b → a ≡ b
     inside a b e = cc
+
     go : (b : Bool) → cond b (abandon q) q ≡ x → (x ≡ q) ⊎ (x ≡ abandon q)
     go true e = inr (sym e)
     go false e = inl (sym e)
@@ -307,28 +311,29 @@ leaves_some s o q is = (cond (q.client.session == s) (abandon q) q, (ap (leaves 
 
 pub left_ok : (A : ℕ) (w : World) (s e : ℕ) → Ok A w → w.session s ≡ Live e → Ok A (happens A w (Left s e))
 left_ok A w s e ok live = record {
-    below = λ r x is. let (q, (there, _)) = leaves_tells s (w.req r) x is in ok.below r q there;
-    well = λ r x is. let (q, (there, which)) = leaves_tells s (w.req r) x is in
-        elim which [
-            inl f ↦ subst (λ (y : Req). Well A w.tells w.tracker w.image y) (sym f) (ok.well r q there)
-            | inr f ↦ subst (λ (y : Req). Well A w.tells w.tracker w.image y) (sym f) (abandoned_well A w.tells w.tracker w.image q (ok.well r q there))
-        ];
-    one = λ r u x y k a b at bt.
-        let (q, (here, f)) = leaves_tells s (w.req r) x a in
-        let (p, (there, g)) = leaves_tells s (w.req u) y b in
-        ok.one r u q p k here there (at_before q x k f at) (at_before p y k g bt);
-    owned = λ b h is. let o : Owner A w.req h b = ok.owned b h is in
-        let (x, (there, f)) = leaves_some s (w.req o.number) o.request o.is in
-        record { number = o.number; request = x; is = there; holds = holds_after o.request x h b f o.holds };
-    tracker = ok.tracker;
-    sessions = λ t d. put_cases (λ g. IsClient g d → Among t (w.graph.clients d)) w.session s (Leaving e) t
-        (λ same is. ok.sessions t d (subst (λ (g : Session). IsClient g d) (sym (ap w.session same ∙ live)) is))
-        (λ other is. ok.sessions t d is)
+  below = λ r x is. let (q, (there, _)) = leaves_tells s (w.req r) x is in ok.below r q there;
+  well = λ r x is. let (q, (there, which)) = leaves_tells s (w.req r) x is in
+      elim which [
+        | inl f ↦ subst (λ (y : Req). Well A w.tells w.tracker w.image y) (sym f) (ok.well r q there)
+        | inr f ↦ subst (λ (y : Req). Well A w.tells w.tracker w.image y) (sym f) (abandoned_well A w.tells w.tracker w.image q (ok.well r q there))
+      ];
+  one = λ r u x y k a b at bt.
+      let (q, (here, f)) = leaves_tells s (w.req r) x a in
+      let (p, (there, g)) = leaves_tells s (w.req u) y b in
+      ok.one r u q p k here there (at_before q x k f at) (at_before p y k g bt);
+  owned = λ b h is. let o : Owner A w.req h b = ok.owned b h is in
+      let (x, (there, f)) = leaves_some s (w.req o.number) o.request o.is in
+      record { number = o.number; request = x; is = there; holds = holds_after o.request x h b f o.holds };
+  tracker = ok.tracker;
+  sessions = λ t d. put_cases (λ g. IsClient g d → Among t (w.graph.clients d)) w.session s (Leaving e) t
+      (λ same is. ok.sessions t d (subst (λ (g : Session). IsClient g d) (sym (ap w.session same ∙ live)) is))
+      (λ other is. ok.sessions t d is);
 }
   where
     at_before : (q x : Req) (k : ℕ) → (x ≡ q) ⊎ (x ≡ abandon q) → IsAt x.stage k → IsAt q.stage k
     at_before q x k (inl f) at = subst (λ (y : Req). IsAt y.stage k) f at
     at_before q x k (inr f) at = abandoned_at q.stage k (subst (λ (y : Req). IsAt y.stage k) f at)
+
     holds_after : (q x : Req) (h : Hold) (b : ℕ) → (x ≡ q) ⊎ (x ≡ abandon q) → IsHolder A q.client q.stage h b → IsHolder A x.client x.stage h b
     holds_after q x h b (inl f) holds = subst (λ (y : Req). IsHolder A y.client y.stage h b) (sym f) holds
     holds_after q x h b (inr f) holds = subst (λ (y : Req). IsHolder A y.client y.stage h b) (sym f) (abandoned_holder A q.client q.stage h b holds)
@@ -349,34 +354,42 @@ among_without s t (x ∷ xs) other among = go (x == s) refl among (among_without
 
 pub attached_ok : (A : ℕ) (w : World) (s e : ℕ) (name : List ℕ) → Ok A w → Ok A (happens A w (Attached s name e))
 attached_ok A w s e name ok = record {
-    below = ok.below; well = ok.well; one = ok.one; owned = ok.owned; tracker = ok.tracker;
-    sessions = λ t d. put_cases (λ g. IsClient g d → Among t (put w.graph.clients e (s ∷ w.graph.clients e) d)) w.session s (Live e) t
-        (λ same is. put_cases (λ xs. Among t xs) w.graph.clients e (s ∷ w.graph.clients e) d (λ f. inl (sym same)) (λ f. absurd (f (sym is))))
-        (λ other is. put_cases (λ xs. Among t xs) w.graph.clients e (s ∷ w.graph.clients e) d
-            (λ f. inr (ok.sessions t e (subst (λ (n : ℕ). IsClient (w.session t) n) f is))) (λ f. ok.sessions t d is))
+  below = ok.below;
+  well = ok.well;
+  one = ok.one;
+  owned = ok.owned;
+  tracker = ok.tracker;
+  sessions = λ t d. put_cases (λ g. IsClient g d → Among t (put w.graph.clients e (s ∷ w.graph.clients e) d)) w.session s (Live e) t
+      (λ same is. put_cases (λ xs. Among t xs) w.graph.clients e (s ∷ w.graph.clients e) d (λ f. inl (sym same)) (λ f. absurd (f (sym is))))
+      (λ other is. put_cases (λ xs. Among t xs) w.graph.clients e (s ∷ w.graph.clients e) d
+      (λ f. inr (ok.sessions t e (subst (λ (n : ℕ). IsClient (w.session t) n) f is))) (λ f. ok.sessions t d is));
 }
 
 pub detached_ok : (A : ℕ) (w : World) (s e : ℕ) → Ok A w → Ok A (happens A w (Detached s e))
 detached_ok A w s e ok = record {
-    below = ok.below; well = ok.well; one = ok.one; owned = ok.owned; tracker = ok.tracker;
-    sessions = λ t d. put_cases (λ g. IsClient g d → Among t (put w.graph.clients e (without s (w.graph.clients e)) d)) w.session s Away t
-        (λ same is. absurd is)
-        (λ other is. put_cases (λ xs. Among t xs) w.graph.clients e (without s (w.graph.clients e)) d
-            (λ f. among_without s t (w.graph.clients e) other (ok.sessions t e (subst (λ (n : ℕ). IsClient (w.session t) n) f is))) (λ f. ok.sessions t d is))
+  below = ok.below;
+  well = ok.well;
+  one = ok.one;
+  owned = ok.owned;
+  tracker = ok.tracker;
+  sessions = λ t d. put_cases (λ g. IsClient g d → Among t (put w.graph.clients e (without s (w.graph.clients e)) d)) w.session s Away t
+      (λ same is. absurd is)
+      (λ other is. put_cases (λ xs. Among t xs) w.graph.clients e (without s (w.graph.clients e)) d
+      (λ f. among_without s t (w.graph.clients e) other (ok.sessions t e (subst (λ (n : ℕ). IsClient (w.session t) n) f is))) (λ f. ok.sessions t d is));
 }
 
 pub new_ok : (A : ℕ) (tells : Bool) (n : ℕ) (now : ℕ → List ℕ) → Ok A (new_world tells n now)
 new_ok A tells n now = record {
-    below = λ r q is. absurd (some_none (sym is));
-    well = λ r q is. absurd (some_none (sym is));
-    one = λ r s q p k a b at bt. absurd (some_none (sym a));
-    owned = λ b h is. absurd (some_none (sym is));
-    tracker = record {
-        below = λ k l is. absurd (vacant l is);
-        one = λ j k l m a b e. absurd (vacant l a);
-        apart = λ j k l m a b s lt c. absurd (vacant l a)
-    };
-    sessions = λ s e is. absurd is
+  below = λ r q is. absurd (some_none (sym is));
+  well = λ r q is. absurd (some_none (sym is));
+  one = λ r s q p k a b at bt. absurd (some_none (sym a));
+  owned = λ b h is. absurd (some_none (sym is));
+  tracker = record {
+    below = λ k l is. absurd (vacant l is);
+    one = λ j k l m a b e. absurd (vacant l a);
+    apart = λ j k l m a b s lt c. absurd (vacant l a);
+  };
+  sessions = λ s e is. absurd is;
 }
   where
     vacant : (l : Listing) → Vacant ≡ Has l → ⊥

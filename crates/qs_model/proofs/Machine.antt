@@ -31,9 +31,9 @@ routed_fit A c kind =
     (λ may. choose P (nat_lt c.route.size (c.ask.offset + c.ask.length)) _ _ (λ e. tt)
     (λ inside. choose P (c.ask.length == 0) _ _ (λ e. tt)
     (λ some. record {
-        kind = kind;
-        some = let n : c.ask.length ≢ 0 = other_block c.ask.length 0 some in omega arith;
-        writable = λ w. go (writes c) c.route.writable w may
+      kind = kind;
+      some = let n : c.ask.length ≢ 0 = other_block c.ask.length 0 some in omega arith;
+      writable = λ w. go (writes c) c.route.writable w may;
     })))
   where
     go : (w m : Bool) → w ≡ true → w && not m ≡ false → m ≡ true
@@ -55,7 +55,7 @@ started_fit A c h sound =
     let P : Step → Type 0 = λ g. Fit A c g in
     choose P (reads c) _ _
     (λ e. let low : edge A c Head * A ≤ (span_of c).lo = head_low A c h in
-        record { sound = sound; reading = e; reach = reaches_edge A c Head h sound.some; so_far = omega arith })
+    record { sound = sound; reading = e; reach = reaches_edge A c Head h sound.some; so_far = omega arith })
     (λ e. choose P (has A c Head) _ _ (λ f. record { sound = sound; writing = sound.kind e; wanted = f })
     (λ f. held_fit A c Head h sound (sound.kind e)))
 

@@ -39,11 +39,12 @@ taken_never A w r c d p k side b ok is o =
     let there : w.req r ≡ Some o.request = subst (λ (n : ℕ). w.req n ≡ Some o.request) same o.is in
     let equal : o.request ≡ record { client = c; dropped = d; pads = p; stage = In k (ToHold side) } = inside _ _ (sym there ∙ is) in
     let holds : IsHolder A c (In k (ToHold side)) (record { place = k; side = side }) b =
-        subst (λ (x : Req). IsHolder A x.client x.stage (record { place = k; side = side }) b) equal o.holds in
+    subst (λ (x : Req). IsHolder A x.client x.stage (record { place = k; side = side }) b) equal o.holds in
     hold_one A c side holds.1
   where
     inside : (x y : Req) → Some x ≡ Some y → x ≡ y
     inside x y e = cc
+
     holder_at : (A : ℕ) (c : Client) (g : Stage) (k : ℕ) (side : Side) (b : ℕ) → IsHolder A c g (record { place = k; side = side }) b → IsAt g k
     holder_at A c (Ready v) k side b h = h
     holder_at A c Entering k side b h = h
@@ -60,14 +61,14 @@ wait_never A w r c d p (In k (ToHold side)) (HeldBy j) pos ok is may odd =
     let q : Req = record { client = c; dropped = d; pads = p; stage = In k (ToHold side) } in
     let well : Well A w.tells w.tracker w.image q = ok.well r q is in
     let works : Works A w.tracker c (In k (ToHold side)) k (edge A c side) =
-        record { at = refl; goes = well.seated; sound = well.shaped.sound; reach = reaches_edge A c side pos well.shaped.sound.some } in
+    record { at = refl; goes = well.seated; sound = well.shaped.sound; reach = reaches_edge A c side pos well.shaped.sound.some } in
     hold_free A c k side h.side h.place well.shaped.wanted (holder_is A w r q k (edge A c side) h pos ok is works held).1
 wait_never A w r c d p (In k (ToStore b)) (HeldBy j) pos ok is may odd =
     let (h, (held, place, other)) = may in
     let q : Req = record { client = c; dropped = d; pads = p; stage = In k (ToStore b) } in
     let well : Well A w.tells w.tracker w.image q = ok.well r q is in
     let works : Works A w.tracker c (In k (ToStore b)) k b =
-        record { at = refl; goes = well.seated; sound = well.shaped.sound; reach = well.shaped.reach } in
+    record { at = refl; goes = well.seated; sound = well.shaped.sound; reach = well.shaped.reach } in
     other (sym ((holder_is A w r q k b h pos ok is works held).0 ∙ place))
 wait_never A w r c d p (In k (ToHold side)) (Taken b) pos ok is may odd =
     let o : Owner A w.req (record { place = k; side = side }) b = ok.owned b _ may.2 in

@@ -76,10 +76,15 @@ same_has Present t l same is = absurd (cc)
 same_has (Has k) Vacant l same is = absurd same
 same_has (Has k) Present l same is = absurd same
 same_has (Has k) (Has m) l same is =
-    let e : k ≡ l = cc in
-    (m, (refl, ap (λ (n : Listing). n.span) same ∙ ap (λ (n : Listing). n.span) e,
-    ap (λ (n : Listing). n.serial) same ∙ ap (λ (n : Listing). n.serial) e,
-    ap (λ (n : Listing). n.started) same ∙ ap (λ (n : Listing). n.started) e))
+    let e : k ≡ l = cc in (
+      m,
+      (
+        refl,
+        ap (λ (n : Listing). n.span) same ∙ ap (λ (n : Listing). n.span) e,
+        ap (λ (n : Listing). n.serial) same ∙ ap (λ (n : Listing). n.serial) e,
+        ap (λ (n : Listing). n.started) same ∙ ap (λ (n : Listing). n.started) e,
+      ),
+    )
 
 pub same_sits : (A : ℕ) (t u : Tracker) (c : Client) (k : ℕ) → SameSeat (t.seat k) (u.seat k) → Sits A t c k → Sits A u c k
 same_sits A t u c k same sits =
@@ -115,13 +120,13 @@ pub others_held : (A : ℕ) (w : World) (c : Client) (p : Pads) {stage : Stage} 
     w.image.holder d ≡ Some h → Untouched w.image (imaged A w.image c act) d (Some h)
 others_held A w c p (Holds {k = k} {side = side} bytes) d h may other is =
     let away : d ≢ edge A c side = λ e. let g : w.image.holder (edge A c side) ≡ Some h = subst (λ (n : ℕ). w.image.holder n ≡ Some h) e is in
-        let f : w.image.holder (edge A c side) ≡ None = may.0.free in cc in
+    let f : w.image.holder (edge A c side) ≡ None = may.0.free in cc in
     (put_other w.image.holder (edge A c side) (Some (record { place = k; side = side })) d away ∙ is, refl)
 others_held A w c p (Stores {k = k} {b = b} bytes past) d h may other is = held_store A w.image k h.place c p b d bytes bytes past h may.0 other is
 others_held A w c p (StoreFails {k = k} {b = b} bytes took past) d h may other is = held_store A w.image k h.place c p b d bytes _ past h may.0 other is
 others_held A w c p (Frees {k = k} {side = side}) d h may other is =
     let (g, (there, place)) = may in
     let away : d ≢ edge A c side = λ e. let f : w.image.holder (edge A c side) ≡ Some h = subst (λ (n : ℕ). w.image.holder n ≡ Some h) e is in
-        let same : g ≡ h = cc in other (ap (λ (x : Hold). x.place) (sym same) ∙ place) in
+    let same : g ≡ h = cc in other (ap (λ (x : Hold). x.place) (sym same) ∙ place) in
     (put_other w.image.holder (edge A c side) None d away ∙ is, refl)
 others_held A w c p _ d h may other is = (is, refl)

@@ -78,13 +78,13 @@ starts_goes A t c k l sits is =
     let there : t.seat k ≡ Has sits.own = sits.is in
     let same : sits.own ≡ l = cc in
     record {
-        sits = record {
-            own = record l { started = true };
-            is = put_here t.seat k (Has (record l { started = true }));
-            span = ap (λ (n : Listing). n.span) (sym same) ∙ sits.span;
-            serial = ap (λ (n : Listing). n.serial) (sym same) ∙ sits.serial
-        };
-        started = refl
+      sits = record {
+        own = record l { started = true };
+        is = put_here t.seat k (Has (record l { started = true }));
+        span = ap (λ (n : Listing). n.span) (sym same) ∙ sits.span;
+        serial = ap (λ (n : Listing). n.serial) (sym same) ∙ sits.serial;
+      };
+      started = refl;
     }
 
 -- the request's own place after its step
@@ -113,9 +113,9 @@ own_seated A w c d p Ends sits may = tt
 -- fewer listed spans are in order
 pub fewer_in_order : (t u : Tracker) → ((j : ℕ) (l : Listing) → u.seat j ≡ Has l → t.seat j ≡ Has l) → u.number ≡ t.number → InOrder t → InOrder u
 fewer_in_order t u less same order = record {
-    below = λ k l is. subst (λ (n : ℕ). l.number < n) (sym same) (order.below k l (less k l is));
-    one = λ j k l m a b e. order.one j k l m (less j l a) (less k m b) e;
-    apart = λ j k l m a b s lt. order.apart j k l m (less j l a) (less k m b) s lt
+  below = λ k l is. subst (λ (n : ℕ). l.number < n) (sym same) (order.below k l (less k l is));
+  one = λ j k l m a b e. order.one j k l m (less j l a) (less k m b) e;
+  apart = λ j k l m a b s lt. order.apart j k l m (less j l a) (less k m b) s lt;
 }
 
 pub less_of_put : (t : Tracker) (k : ℕ) (s : Seat) → ((l : Listing) → s ≢ Has l) → (j : ℕ) (l : Listing) → put t.seat k s j ≡ Has l → t.seat j ≡ Has l
@@ -123,9 +123,10 @@ less_of_put t k s none j l is = elim (put_tells t.seat k s j (Has l) is) [ inl h
 
 -- conflicts are of spans and kinds alone
 pub same_conflict : (l m p n : Listing) → l.span ≡ p.span → l.serial ≡ p.serial → m.span ≡ n.span → m.serial ≡ n.serial → Conflict p n → Conflict l m
-same_conflict l m p n a b c d h =
-    (subst (λ (s : Places). Overlap s m.span) (sym a) (subst (λ (s : Places). Overlap p.span s) (sym c) h.0),
-    subst (λ (s : Bool). IsTrue s ⊎ IsTrue m.serial) (sym b) (subst (λ (s : Bool). IsTrue p.serial ⊎ IsTrue s) (sym d) h.1))
+same_conflict l m p n a b c d h = (
+  subst (λ (s : Places). Overlap s m.span) (sym a) (subst (λ (s : Places). Overlap p.span s) (sym c) h.0),
+  subst (λ (s : Bool). IsTrue s ⊎ IsTrue m.serial) (sym b) (subst (λ (s : Bool). IsTrue p.serial ⊎ IsTrue s) (sym d) h.1),
+)
 
 -- numbers that are as few below as before
 pub renumbered_has : (t u : Tracker) (k : ℕ) (m : Listing) → Renumbered t u → u.seat k ≡ Has m →
@@ -143,10 +144,15 @@ renumbered_has t u k m re is = go (t.seat k) (u.seat k) refl (re.same k) is
     go (Has l) Vacant there same is = absurd same
     go (Has l) Present there same is = absurd same
     go (Has l) (Has n) there same is =
-        let e : m ≡ n = cc in
-        (l, (there, ap (λ (x : Listing). x.span) e ∙ ap (λ (x : Listing). x.span) same,
-        ap (λ (x : Listing). x.serial) e ∙ ap (λ (x : Listing). x.serial) same,
-        ap (λ (x : Listing). x.started) e ∙ ap (λ (x : Listing). x.started) same))
+        let e : m ≡ n = cc in (
+          l,
+          (
+            there,
+            ap (λ (x : Listing). x.span) e ∙ ap (λ (x : Listing). x.span) same,
+            ap (λ (x : Listing). x.serial) e ∙ ap (λ (x : Listing). x.serial) same,
+            ap (λ (x : Listing). x.started) e ∙ ap (λ (x : Listing). x.started) same,
+          ),
+        )
 
 pub same_number : (a b c d : ℕ) → a < b ↔ c < d → b < a ↔ d < c → c ≡ d → a ≡ b
 same_number a b c d f g e =
@@ -156,17 +162,17 @@ same_number a b c d f g e =
 
 pub renumbered_in_order : (t u : Tracker) → Renumbered t u → InOrder t → InOrder u
 renumbered_in_order t u re order = record {
-    below = re.below;
-    one = λ j k p n a b e.
-        let (l, (here, _, _, _)) = renumbered_has t u j p re a in
-        let (m, (there, _, _, _)) = renumbered_has t u k n re b in
-        order.one j k l m here there
-        (same_number l.number m.number p.number n.number (re.order j k l m p n here there a b) (re.order k j m l n p there here b a) e);
-    apart = λ j k p n a b s lt conflict.
-        let (l, (here, lspan, lserial, lstarted)) = renumbered_has t u j p re a in
-        let (m, (there, mspan, mserial, mstarted)) = renumbered_has t u k n re b in
-        order.apart j k l m here there (sym mstarted ∙ s) ((re.order j k l m p n here there a b).1 lt)
-        (same_conflict l m p n (sym lspan) (sym lserial) (sym mspan) (sym mserial) conflict)
+  below = re.below;
+  one = λ j k p n a b e.
+      let (l, (here, _, _, _)) = renumbered_has t u j p re a in
+      let (m, (there, _, _, _)) = renumbered_has t u k n re b in
+      order.one j k l m here there
+      (same_number l.number m.number p.number n.number (re.order j k l m p n here there a b) (re.order k j m l n p there here b a) e);
+  apart = λ j k p n a b s lt conflict.
+      let (l, (here, lspan, lserial, lstarted)) = renumbered_has t u j p re a in
+      let (m, (there, mspan, mserial, mstarted)) = renumbered_has t u k n re b in
+      order.apart j k l m here there (sym mstarted ∙ s) ((re.order j k l m p n here there a b).1 lt)
+      (same_conflict l m p n (sym lspan) (sym lserial) (sym mspan) (sym mserial) conflict);
 }
 
 pub numbered_in_order : (t u : Tracker) → Numbered t u → InOrder t → InOrder u
@@ -177,31 +183,32 @@ numbered_in_order t u (inr h) order = renumbered_in_order t u h.1 order
 pub lists_in_order : (A : ℕ) (t : Tracker) (c : Client) (k : ℕ) → t.seat k ≡ Present → InOrder t →
     InOrder (record t { number = t.number + 1; seat = put t.seat k (Has (listing A c t.number)) })
 lists_in_order A t c k present order = record {
-    below = λ j l is. elim (put_tells t.seat k _ j (Has l) is) [
-        inl h ↦ let e : t.number ≡ l.number = new l h.1 in omega arith
-        | inr h ↦ let lt : l.number < t.number = order.below j l h.1 in omega arith
-    ];
-    one = λ i j l m a b e. elim (put_tells t.seat k _ i (Has l) a) [
-        inl f ↦ elim (put_tells t.seat k _ j (Has m) b) [
-            inl g ↦ f.0 ∙ sym g.0
-            | inr g ↦ let x : t.number ≡ l.number = new l f.1 in let lt : m.number < t.number = order.below j m g.1 in absurd (omega arith)
-        ]
-        | inr f ↦ elim (put_tells t.seat k _ j (Has m) b) [
-            inl g ↦ let x : t.number ≡ m.number = new m g.1 in let lt : l.number < t.number = order.below i l f.1 in absurd (omega arith)
-            | inr g ↦ order.one i j l m f.1 g.1 e
-        ]
-    ];
-    apart = λ i j l m a b s lt conflict. elim (put_tells t.seat k _ j (Has m) b) [
-        inl g ↦ true≢false (sym s ∙ ap (λ (n : Listing). n.started) (sym (listed m g.1)))
-        | inr g ↦ elim (put_tells t.seat k _ i (Has l) a) [
-            inl f ↦ let x : t.number ≡ l.number = new l f.1 in let le : m.number < t.number = order.below j m g.1 in omega arith
-            | inr f ↦ order.apart i j l m f.1 g.1 s lt conflict
-        ]
+  below = λ j l is. elim (put_tells t.seat k _ j (Has l) is) [
+    | inl h ↦ let e : t.number ≡ l.number = new l h.1 in omega arith
+    | inr h ↦ let lt : l.number < t.number = order.below j l h.1 in omega arith
+  ];
+  one = λ i j l m a b e. elim (put_tells t.seat k _ i (Has l) a) [
+    | inl f ↦ elim (put_tells t.seat k _ j (Has m) b) [
+      | inl g ↦ f.0 ∙ sym g.0
+      | inr g ↦ let x : t.number ≡ l.number = new l f.1 in let lt : m.number < t.number = order.below j m g.1 in absurd (omega arith)
     ]
+    | inr f ↦ elim (put_tells t.seat k _ j (Has m) b) [
+      | inl g ↦ let x : t.number ≡ m.number = new m g.1 in let lt : l.number < t.number = order.below i l f.1 in absurd (omega arith)
+      | inr g ↦ order.one i j l m f.1 g.1 e
+    ]
+  ];
+  apart = λ i j l m a b s lt conflict. elim (put_tells t.seat k _ j (Has m) b) [
+    | inl g ↦ true≢false (sym s ∙ ap (λ (n : Listing). n.started) (sym (listed m g.1)))
+    | inr g ↦ elim (put_tells t.seat k _ i (Has l) a) [
+      | inl f ↦ let x : t.number ≡ l.number = new l f.1 in let le : m.number < t.number = order.below j m g.1 in omega arith
+      | inr f ↦ order.apart i j l m f.1 g.1 s lt conflict
+    ]
+  ];
 }
   where
     listed : (l : Listing) → Has (listing A c t.number) ≡ Has l → listing A c t.number ≡ l
     listed l e = cc
+
     new : (l : Listing) → Has (listing A c t.number) ≡ Has l → t.number ≡ l.number
     new l e = ap (λ (n : Listing). n.number) (listed l e)
 
@@ -209,11 +216,18 @@ lists_in_order A t c k present order = record {
 pub before_start : (t : Tracker) (k j : ℕ) (l m : Listing) → t.seat k ≡ Has l → put t.seat k (Has (record l { started = true })) j ≡ Has m →
     (n : Listing) × ((t.seat j ≡ Has n) × (m.span ≡ n.span) × (m.serial ≡ n.serial) × (m.number ≡ n.number) × ((j ≡ k) ⊎ (m.started ≡ n.started)))
 before_start t k j l m there is = elim (put_tells t.seat k (Has (record l { started = true })) j (Has m) is) [
-    inl h ↦ let e : record l { started = true } ≡ m = inside (record l { started = true }) m h.1 in
-        (l, (subst (λ (i : ℕ). t.seat i ≡ Has l) (sym h.0) there, ap (λ (x : Listing). x.span) (sym e), ap (λ (x : Listing). x.serial) (sym e),
-        ap (λ (x : Listing). x.number) (sym e), inl h.0))
-    | inr h ↦ (m, (h.1, refl, refl, refl, inr refl))
-    ]
+  | inl h ↦ let e : record l { started = true } ≡ m = inside (record l { started = true }) m h.1 in (
+    l,
+    (
+      subst (λ (i : ℕ). t.seat i ≡ Has l) (sym h.0) there,
+      ap (λ (x : Listing). x.span) (sym e),
+      ap (λ (x : Listing). x.serial) (sym e),
+      ap (λ (x : Listing). x.number) (sym e),
+      inl h.0,
+    ),
+  )
+  | inr h ↦ (m, (h.1, refl, refl, refl, inr refl))
+]
   where
     inside : (x y : Listing) → Has x ≡ Has y → x ≡ y
     inside x y e = cc
@@ -221,25 +235,25 @@ before_start t k j l m there is = elim (put_tells t.seat k (Has (record l { star
 pub starts_in_order : (t : Tracker) (k : ℕ) (l : Listing) → CanStart t k l → InOrder t →
     InOrder (record t { seat = put t.seat k (Has (record l { started = true })) })
 starts_in_order t k l can order = record {
-    below = λ j m is. let (n, (there, _, _, number, _)) = before_start t k j l m can.listed is in
-        let lt : n.number < t.number = order.below j n there in omega arith;
-    one = λ i j x y a b e.
-        let (m, (here, _, _, low, _)) = before_start t k i l x can.listed a in
-        let (n, (there, _, _, high, _)) = before_start t k j l y can.listed b in
-        order.one i j m n here there (omega arith);
-    apart = λ i j x y a b s lt conflict.
-        let (m, (here, mspan, mserial, low, _)) = before_start t k i l x can.listed a in
-        let (n, (there, nspan, nserial, high, which)) = before_start t k j l y can.listed b in
-        let c : Conflict m n = same_conflict m n x y (sym mspan) (sym mserial) (sym nspan) (sym nserial) conflict in
-        let less : m.number < n.number = omega arith in
-        elim which [
-            inl e ↦
-                let f : t.seat k ≡ Has n = subst (λ (v : ℕ). t.seat v ≡ Has n) e there in
-                let g : t.seat k ≡ Has l = can.listed in
-                let same : n ≡ l = cc in
-                can.clear i m here (subst (λ (v : Listing). m.number < v.number) same less) (subst (λ (v : Listing). Conflict m v) same c)
-            | inr e ↦ order.apart i j m n here there (sym e ∙ s) less c
-        ]
+  below = λ j m is. let (n, (there, _, _, number, _)) = before_start t k j l m can.listed is in
+      let lt : n.number < t.number = order.below j n there in omega arith;
+  one = λ i j x y a b e.
+      let (m, (here, _, _, low, _)) = before_start t k i l x can.listed a in
+      let (n, (there, _, _, high, _)) = before_start t k j l y can.listed b in
+      order.one i j m n here there (omega arith);
+  apart = λ i j x y a b s lt conflict.
+      let (m, (here, mspan, mserial, low, _)) = before_start t k i l x can.listed a in
+      let (n, (there, nspan, nserial, high, which)) = before_start t k j l y can.listed b in
+      let c : Conflict m n = same_conflict m n x y (sym mspan) (sym mserial) (sym nspan) (sym nserial) conflict in
+      let less : m.number < n.number = omega arith in
+      elim which [
+        | inl e ↦
+            let f : t.seat k ≡ Has n = subst (λ (v : ℕ). t.seat v ≡ Has n) e there in
+            let g : t.seat k ≡ Has l = can.listed in
+            let same : n ≡ l = cc in
+            can.clear i m here (subst (λ (v : Listing). m.number < v.number) same less) (subst (λ (v : Listing). Conflict m v) same c)
+        | inr e ↦ order.apart i j m n here there (sym e ∙ s) less c
+      ];
 }
 
 -- the tracker stays in order

@@ -33,11 +33,12 @@ late_goes A t c (In k (ToEnd v)) late seats = inl tt
 pub entry_passes : (A : ℕ) (w : World) (r : ℕ) (c : Client) (m : ℕ) (e : Element) → Ok A w → May A w e → IsEntry A r c m e →
     Passed c ((happens A w e).req r) × (r < w.next)
 entry_passes A w r c m (Did s q act) ok may is =
-    let (same, client, entry) = is in
-    (subst (λ (x : Client). Passed x (( happens A w (Did s q act)).req r)) client
-    (subst (λ (o : Option Req). Passed q.client o) (sym (ap (happens A w (Did s q act)).req (sym same) ∙ put_here w.req s _))
-    (late_moves A q.client q.dropped q.pads act (entry_late A q.client act m entry))),
-    subst (λ (n : ℕ). n < w.next) same (ok.below s q may.0))
+    let (same, client, entry) = is in (
+      subst (λ (x : Client). Passed x ((happens A w (Did s q act)).req r)) client
+          (subst (λ (o : Option Req). Passed q.client o) (sym (ap (happens A w (Did s q act)).req (sym same) ∙ put_here w.req s _))
+          (late_moves A q.client q.dropped q.pads act (entry_late A q.client act m entry))),
+      subst (λ (n : ℕ). n < w.next) same (ok.below s q may.0),
+    )
 entry_passes A w r c m _ ok may is = absurd is
 
 -- a request that is over has no entry
@@ -55,9 +56,9 @@ other_entry A w r s c d b k q (Did u p act) pos ok may here client at goes is en
     let well : Well A w.tells w.tracker w.image p = ok.well u p may.0 in
     let (j, works) = entry_works A w.tracker p.client act b pos well.shaped well.seated on in
     let place : k ≡ j =
-        work_apart A w.tracker q.client p.client k j (b * A) ok.tracker goes works.goes
-        (subst (λ (x : Client). Covers (aligned_out (span_of x) A) (b * A)) (sym client) covers)
-        (reached_outward A p.client b pos works.sound.some works.reach) (subst (λ (x : Client). serial A x ≡ true) (sym client) is) in
+    work_apart A w.tracker q.client p.client k j (b * A) ok.tracker goes works.goes
+    (subst (λ (x : Client). Covers (aligned_out (span_of x) A) (b * A)) (sym client) covers)
+    (reached_outward A p.client b pos works.sound.some works.reach) (subst (λ (x : Client). serial A x ≡ true) (sym client) is) in
     sym same ∙ ok.one u r p q j may.0 here works.at (subst (λ (n : ℕ). IsAt q.stage n) place at)
 other_entry A w r s c d b k q _ pos ok may here client at goes is entry covers = absurd entry
 
@@ -69,8 +70,8 @@ split_state A w r c ok passed = go (w.req r) refl passed
     go : (o : Option Req) → w.req r ≡ o → Passed c o → Over o ⊎ ((q : Req) × (k : ℕ) × ((w.req r ≡ Some q) × (q.client ≡ c) × IsAt q.stage k × Goes A w.tracker q.client k))
     go None is passed = inl tt
     go (Some q) is passed = elim (late_goes A w.tracker q.client q.stage passed.1 (ok.well r q is).seated) [
-        inl last ↦ inl last
-        | inr h ↦ inr (q, h.0, (is, passed.0, h.1.0, h.1.1))
+      | inl last ↦ inl last
+      | inr h ↦ inr (q, h.0, (is, passed.0, h.1.0, h.1.1))
     ]
 
 pub undivided : (A : ℕ) (w : World) (es : List Element) → 0 < A → Ok A w → Runs A w es → Undivided A es
@@ -90,8 +91,8 @@ undivided A w es pos ok run r s c d m n b first other last before middle rest be
     let passed3 : Passed c (w3.req r) = lasts_run A (Passed c) (passed_lasts A c) w2 middle r front made2 passed1.0 in
     let made3 : r < w3.next = next_run A w2 middle r made2 in
     elim (split_state A w3 r c ok3 passed3) [
-        inl over ↦ absurd (over_last w3 run3 made3 over)
-        | inr h ↦ other_entry A w3 r s c d b h.1 h.0 other pos ok3 run3.0 h.2.0 h.2.1 h.2.2 h.2.3 is at_other covers
+      | inl over ↦ absurd (over_last w3 run3 made3 over)
+      | inr h ↦ other_entry A w3 r s c d b h.1 h.0 other pos ok3 run3.0 h.2.0 h.2.1 h.2.2 h.2.3 is at_other covers
     ]
   where
     over_last : (w3 : World) → Runs A w3 (other ∷ (rest ++ last ∷ behind)) → r < w3.next → Over (w3.req r) → ⊥

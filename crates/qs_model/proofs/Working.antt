@@ -59,13 +59,13 @@ pub record Opens (A : ℕ) (t : Tracker) (c : Client) (stage : Stage) (h : Hold)
 pub opens_at : (A : ℕ) (t : Tracker) (c : Client) (k : ℕ) (step : Step) (j : ℕ) (side : Side) (b : ℕ) → 0 < A → k ≡ j → edge A c side ≡ b → Goes A t c k → Sound c →
     writes c ≡ true → has A c side ≡ true → Opens A t c (In k step) (record { place = j; side = side }) b
 opens_at A t c k step j side b pos at here goes sound writing wanted = record {
-    works = record {
-        at = at;
-        goes = subst (λ (n : ℕ). Goes A t c n) at goes;
-        sound = sound;
-        reach = subst (λ (n : ℕ). Reaches A c n) here (reaches_edge A c side pos sound.some)
-    };
-    serial = has_serial A c side pos sound.some writing wanted
+  works = record {
+    at = at;
+    goes = subst (λ (n : ℕ). Goes A t c n) at goes;
+    sound = sound;
+    reach = subst (λ (n : ℕ). Reaches A c n) here (reaches_edge A c side pos sound.some);
+  };
+  serial = has_serial A c side pos sound.some writing wanted;
 }
 
 pub holder_opens : (A : ℕ) (t : Tracker) (c : Client) (stage : Stage) (j : ℕ) (side : Side) (b : ℕ) → 0 < A → Shaped A c stage → Seats A t c stage →
@@ -104,16 +104,17 @@ is_true b e = e
 pub work_apart : (A : ℕ) (t : Tracker) (c d : Client) (j k x : ℕ) → InOrder t → Goes A t c j → Goes A t d k → Covers (aligned_out (span_of c) A) x →
     Covers (aligned_out (span_of d) A) x → serial A c ≡ true → j ≡ k
 work_apart A t c d j k x order goes works here there is =
-    started_apart t j k goes.sits.own works.sits.own order goes.sits.is works.sits.is goes.started works.started
-    ((x, (subst (λ (s : Places). Covers s x) (sym goes.sits.span) here, subst (λ (s : Places). Covers s x) (sym works.sits.span) there)),
-    inl (is_true goes.sits.own.serial (goes.sits.serial ∙ is)))
+    started_apart t j k goes.sits.own works.sits.own order goes.sits.is works.sits.is goes.started works.started (
+      (x, (subst (λ (s : Places). Covers s x) (sym goes.sits.span) here, subst (λ (s : Places). Covers s x) (sym works.sits.span) there)),
+      inl (is_true goes.sits.own.serial (goes.sits.serial ∙ is)),
+    )
 
 -- two requests that work on one block, one of them serialising, are one
 pub one_works : (A : ℕ) (w : World) (r s : ℕ) (q p : Req) (j k b : ℕ) → 0 < A → Ok A w → w.req r ≡ Some q → w.req s ≡ Some p → Works A w.tracker q.client q.stage j b →
     Works A w.tracker p.client p.stage k b → serial A q.client ≡ true → (r ≡ s) × (j ≡ k)
 one_works A w r s q p j k b pos ok here there own other is =
     let same : j ≡ k = work_apart A w.tracker q.client p.client j k (b * A) ok.tracker own.goes other.goes
-        (reached_outward A q.client b pos own.sound.some own.reach) (reached_outward A p.client b pos other.sound.some other.reach) is in
+    (reached_outward A q.client b pos own.sound.some own.reach) (reached_outward A p.client b pos other.sound.some other.reach) is in
     (ok.one r s q p k here there (subst (λ (n : ℕ). IsAt q.stage n) same own.at) other.at, same)
 
 -- the request that holds a block

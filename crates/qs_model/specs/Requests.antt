@@ -117,7 +117,7 @@ asked c = record {
   stage =
       if form_error c.ask then Ready (Refused Inval)
       else if c.buffered then Entering
-      else Ready (Refused NoMem)
+      else Ready (Refused NoMem);
 }
 
 -- the answer of a request that did what it had to do

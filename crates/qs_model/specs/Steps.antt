@@ -52,7 +52,7 @@ written i b now past = record {
   now = put i.now b now;
   past = put i.past b past;
   holder = put i.holder b None;
-  clean = put i.clean (stripe_of b) false
+  clean = put i.clean (stripe_of b) false;
 }
 
 -- the image after a row of the request table
@@ -80,7 +80,7 @@ happens A w (Asked r c) = record w { next = w.next + 1; req = put w.req r (Some 
 happens A w (Did r q act) = record w {
   req = put w.req r (moved A q.client q.dropped q.pads act);
   tracker = tracked A w.tracker q.client act;
-  image = imaged A w.image q.client act
+  image = imaged A w.image q.client act;
 }
 happens A w (Exported e x) = record w { graph = record w.graph { export = put w.graph.export e (Some x) } }
 happens A w (Crashed left) = new_world w.tells w.next left

@@ -95,5 +95,5 @@ new_world tells n now = record {
   session = λ s. Away;
   graph = new_graph;
   tracker = new_tracker;
-  image = settled now
+  image = settled now;
 }
