@@ -13,3 +13,5 @@ pub mod Never
 pub mod Along
 pub mod Undivided
 pub mod Between
+pub mod Walk
+pub mod Once
