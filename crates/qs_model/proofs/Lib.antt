@@ -15,3 +15,5 @@ pub mod Undivided
 pub mod Between
 pub mod Walk
 pub mod Once
+pub mod ReadsOnce
+pub mod WritesOnce
