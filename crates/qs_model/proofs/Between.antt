@@ -1,23 +1,21 @@
 -- What a request does stands between its Ask and its answer; its stores on a way that the graph gave.
-use Rattle.std.proofs.Common.{◌≡◌, ◌≢◌, ℕ, ◌+◌, ◌<◌, ◌≤◌, ◌⊎◌, inl, inr, Bool, true, false, not, ◌&&◌, ◌==◌, cond, List, [], ◌∷◌, ◌++◌, Option, Some, None, refl, sym, ap, ◌∙◌, subst, arith}
+use Rattle.std.proofs.Common.{◌≡◌, ℕ, ◌<◌, ◌≤◌, ◌⊎◌, inl, inr, Bool, true, List, [], ◌∷◌, ◌++◌, Option, Some, None, refl, sym, ap, ◌∙◌, subst, arith}
 use Rattle.qs_bytes.specs.declared.ask.Verdict.{Verdict}
 use Rattle.qs_part.specs.declared.graph.Route.{Route}
-use Rattle.qs_part.specs.declared.stripe.Side.{Side}
-use Rattle.qs_model.specs.Puts.{put}
-use Rattle.qs_model.specs.Requests.{Client, Pads, Req, Step, Stage, ToRoute, ToList, ToStart, ToLoad, ToHold, ToStore, ToFree, ToEnd, Ready, Entering, In, asked, form_error, abandon, abandoned}
-use Rattle.qs_model.specs.Worlds.{Listing, Tracker, Has, World}
+use Rattle.qs_model.specs.Requests.{Client, Pads, Req, Stage, ToRoute, ToList, ToStart, ToLoad, ToHold, ToStore, ToFree, ToEnd, Ready, Entering, In, asked, form_error, abandoned}
+use Rattle.qs_model.specs.Worlds.{Tracker, World}
 use Rattle.qs_model.specs.Acts.{Act, Answers, Waits, Enters, Routes, Shuts, Lists, Starts, Loads, LoadFails, Holds, HoldFails, Stores, StoreFails, Frees, Ends, Element, Attached, NoExport, Crowded, Left, Detached, NotAttached, Asked, Did, Exported, Crashed}
-use Rattle.qs_model.specs.Guards.{May, CanStart}
+use Rattle.qs_model.specs.Guards.{May}
 use Rattle.qs_model.specs.Steps.{moved, leaves, happens, after, Runs}
 use Rattle.qs_model.specs.Histories.{answer_of, Acts, IsAnswer, IsAsk, IsStore, IsStoreRow, IsRouted, IsRouteRow}
 use Rattle.qs_model.specs.Laws.{Between, WasAsked, Unanswered, Writable, WasRouted, Ordered, Tracked}
 use Rattle.qs_model.proofs.Basics.{choose, put_here, put_tells}
-use Rattle.qs_model.proofs.Facts.{Shaped, InOrder, Well, Ok}
+use Rattle.qs_model.proofs.Facts.{Shaped, InOrder, Ok}
 use Rattle.qs_model.proofs.Machine.{ForMoved}
 use Rattle.qs_model.proofs.Holders.{some_none}
 use Rattle.qs_model.proofs.Kept.{step_ok, run_ok, runs_front, runs_back, for_moved, leaves_tells}
 use Rattle.qs_model.proofs.Working.{started_apart}
-use Rattle.qs_model.proofs.Along.{Lasts, gone_lasts, lasts_run, next_step}
+use Rattle.qs_model.proofs.Along.{gone_lasts, lasts_run, next_step}
 
 -- only an Ask makes a request
 pub appears : (A : ℕ) (w : World) (e : Element) (r : ℕ) (q : Req) → May A w e → w.req r ≡ None → (happens A w e).req r ≡ Some q → IsAsk r e

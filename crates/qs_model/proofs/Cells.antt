@@ -1,25 +1,22 @@
 -- Each byte's history is legal, and the byte is what it leaves.
-use Rattle.std.proofs.Common.{◌≡◌, ◌≢◌, ℕ, ◌+◌, ◌-◌, ◌*◌, ◌/◌, ◌%◌, ◌<◌, ◌≤◌, ◌⊎◌, inl, inr, Bool, true, false, not, ◌&&◌, ◌==◌, cond, List, [], ◌∷◌, ◌++◌, get_or, Option, Some, None, IsTrue, refl, sym, ap, ◌∙◌, subst, arith, true≢false, eq-eqb, ne_eqb}
+use Rattle.std.proofs.Common.{◌≡◌, ℕ, ◌+◌, ◌*◌, ◌/◌, ◌%◌, ◌<◌, ◌≤◌, inl, inr, Bool, true, false, ◌&&◌, ◌==◌, cond, List, [], ◌∷◌, ◌++◌, get_or, IsTrue, refl, sym, ap, ◌∙◌, subst, arith, true≢false, eq-eqb, ne_eqb}
 use Rattle.qs_cells.specs.declared.cell.CellEntry.{CellEntry}
 use Rattle.qs_cells.specs.declared.cell.CellEntry.TheVariants.{Read, Write, Maybe, Crash}
 use Rattle.qs_cells.specs.Cells.{value_then, value_after, Legal}
 use Rattle.qs_cells.proofs.Histories.{legal_cons, legal_rest, legal_first, legal_none}
-use Rattle.qs_part.specs.declared.graph.Route.{Route}
-use Rattle.qs_part.specs.declared.stripe.Side.{Side}
 use Rattle.qs_part.specs.declared.stripe.Side.TheVariants.{Head, Tail}
 use Rattle.qs_model.specs.Puts.{put}
-use Rattle.qs_model.specs.Requests.{Client, Pads, Req, Step, Stage, ToRoute, ToList, ToStart, ToLoad, ToHold, ToStore, ToFree, ToEnd, Ready, Entering, In, edge, has, pad, span_of, covers, writes, reads, body_at, merged_at}
+use Rattle.qs_model.specs.Requests.{Client, Pads, Stage, ToStore, In, edge, pad, covers, writes, reads, body_at}
 use Rattle.qs_model.specs.Worlds.{Image, World, byte_at}
-use Rattle.qs_model.specs.Acts.{Act, Answers, Waits, Enters, Routes, Shuts, Lists, Starts, Loads, LoadFails, Holds, HoldFails, Stores, StoreFails, Frees, Ends, Element, Attached, NoExport, Crowded, Left, Detached, NotAttached, Asked, Did, Exported, Crashed}
+use Rattle.qs_model.specs.Acts.{Act, Loads, Stores, StoreFails, Element, Attached, NoExport, Crowded, Left, Detached, NotAttached, Asked, Did, Exported, Crashed}
 use Rattle.qs_model.specs.Guards.{MayDo, May, CanStore}
 use Rattle.qs_model.specs.Steps.{imaged, happens, after, Runs}
-use Rattle.qs_model.specs.Histories.{cell_of, cell_at, cell, reads_in, writes_in}
-use Rattle.qs_model.specs.Laws.{Cells}
-use Rattle.qs_model.proofs.Basics.{choose, put_here, put_other, same_or, either, block_at, block_low, block_high}
+use Rattle.qs_model.specs.Histories.{cell_of, cell_at, cell, reads_in, writes_in, IsStoreOf}
+use Rattle.qs_model.specs.Laws.{Cells, Alters}
+use Rattle.qs_model.proofs.Basics.{choose, put_here, put_other, same_or, block_at, block_low, block_high}
 use Rattle.qs_model.proofs.Geometry.{outside, same_eqb}
-use Rattle.qs_model.proofs.Facts.{Shaped, Storing, Keeps, Well, Ok}
-use Rattle.qs_model.proofs.Machine.{both, other_block}
-use Rattle.qs_model.proofs.Kept.{step_ok, runs_front}
+use Rattle.qs_model.proofs.Facts.{Shaped, Storing, Keeps, Ok}
+use Rattle.qs_model.proofs.Kept.{step_ok, run_ok, runs_front, runs_back, after_append}
 
 -- these entries are legal from one value on, and leave another
 pub record Leads (from to : ℕ) (entries : List CellEntry) : Type 0 where
@@ -158,6 +155,10 @@ still_tells A w (Crashed left) = refl
 pub told_still : (A : ℕ) (w : World) (e : Element) → IsTrue w.tells → IsTrue (happens A w e).tells
 told_still A w e told = subst (λ (t : Bool). IsTrue t) (sym (still_tells A w e)) told
 
+pub told_run : (A : ℕ) (w : World) (es : List Element) → IsTrue w.tells → IsTrue (after A w es).tells
+told_run A w [] told = told
+told_run A w (e ∷ es) told = told_run A (happens A w e) es (told_still A w e told)
+
 pub run_leads : (A x : ℕ) (w : World) (es : List Element) → 0 < A → IsTrue w.tells → Ok A w → Runs A w es →
     Leads (byte_at A w.image x) (byte_at A (after A w es).image x) (cell A x es)
 run_leads A x w [] pos told ok run = leads_none _ _ refl
@@ -171,10 +172,32 @@ run_leads A x w (e ∷ es) pos told ok run =
       leaves = rest.leaves ∙ ap (λ (v : ℕ). value_after v (cell A x es)) from ∙ sym (value_append (byte_at A w.image x) (cell_at A x e) (cell A x es));
     }
 
+-- an entry that changes the byte is a store's by a write that covers it
+pub row_still : (A x r v : ℕ) (c : Client) {stage : Stage} (act : Act stage) → (IsStoreOf A x c act → ⊥) → value_after v (cell_of A x r c act) ≡ v
+row_still A x r v c (Loads {b = b} bytes) none = choose (λ es. value_after v es ≡ v) (reads_in A c b x) _ _ (λ e. refl) (λ e. refl)
+row_still A x r v c (Stores {b = b} bytes past) none = choose (λ es. value_after v es ≡ v) (writes_in A c b x) _ _ (λ e. absurd (none e)) (λ e. refl)
+row_still A x r v c (StoreFails {b = b} bytes took past) none = choose (λ es. value_after v es ≡ v) (writes_in A c b x) _ _ (λ e. absurd (none e)) (λ e. refl)
+row_still A x r v c _ none = refl
+
+pub step_still : (A x v : ℕ) (e : Element) → (Alters A x e → ⊥) → value_after v (cell_at A x e) ≡ v
+step_still A x v (Did r q act) none = row_still A x r v q.client act none
+step_still A x v (Crashed left) none = absurd (none tt)
+step_still A x v _ none = refl
+
 -- the law
 pub cells : (A : ℕ) (w : World) (es : List Element) → 0 < A → IsTrue w.tells → Ok A w → Runs A w es → Cells A w es
 cells A w es pos told ok run = record {
   legal = λ x. (run_leads A x w es pos told ok run).legal;
   now = λ x before behind e.
       (run_leads A x w before pos told ok (runs_front A w before behind (subst (λ (l : List Element). Runs A w l) e run))).leaves;
+  still = λ x before behind e split none.
+      let run' : Runs A w (before ++ e ∷ behind) = subst (λ (l : List Element). Runs A w l) split run in
+      let front : Runs A w before = runs_front A w before _ run' in
+      let last : Runs A (after A w before) (e ∷ behind) = runs_back A w before _ run' in
+      ap (λ (v : World). byte_at A v.image x) (after_append A w before (e ∷ []))
+      ∙ (step_leads A x (after A w before) e pos (told_after before w told) (run_ok A w before pos ok front) last.0).leaves
+      ∙ step_still A x _ e none;
 }
+  where
+    told_after : (xs : List Element) (v : World) → IsTrue v.tells → IsTrue (after A v xs).tells
+    told_after xs v t = told_run A v xs t

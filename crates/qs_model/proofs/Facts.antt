@@ -1,12 +1,12 @@
 -- What every state of a run keeps.
-use Rattle.std.proofs.Common.{◌≡◌, ◌≢◌, ℕ, ◌+◌, ◌-◌, ◌*◌, max, ◌<◌, ◌≤◌, ◌⊎◌, Bool, true, false, List, [], ◌∷◌, length, Option, Some, None, IsTrue}
+use Rattle.std.proofs.Common.{◌≡◌, ◌≢◌, ℕ, ◌-◌, ◌*◌, max, ◌<◌, ◌⊎◌, Bool, true, false, List, [], ◌∷◌, length, Option, Some, IsTrue}
 use Rattle.qs_bytes.specs.Spans.{aligned_out}
 use Rattle.qs_bytes.specs.declared.ask.Verdict.{Verdict}
 use Rattle.qs_bytes.specs.declared.ask.Verdict.TheVariants.{Got, Fine, Refused, Dropped}
 use Rattle.qs_part.specs.declared.stripe.Side.{Side}
 use Rattle.qs_part.specs.declared.stripe.Side.TheVariants.{Head, Tail}
 use Rattle.qs_model.specs.Requests.{Client, Pads, Req, Step, Stage, ToRoute, ToList, ToStart, ToLoad, ToHold, ToStore, ToFree, ToEnd, Ready, Entering, In, edge, has, span_of, serial, reads, writes, pad}
-use Rattle.qs_model.specs.Worlds.{Tracker, Listing, Seat, Vacant, Present, Has, Conflict, Hold, Image, Session, Away, Live, Leaving, World}
+use Rattle.qs_model.specs.Worlds.{Tracker, Listing, Vacant, Present, Has, Conflict, Hold, Image, Session, Away, Live, Leaving, World}
 use Rattle.qs_model.proofs.Geometry.{Reaches}
 
 -- a READ or a WRITE
@@ -42,6 +42,11 @@ pub record Storing (A : ℕ) (c : Client) (b : ℕ) : Type 0 where
   pub writing : writes c ≡ true
   pub reach : Reaches A c b
 
+-- a READ that is Got has as many bytes as were asked for
+abbrev pub IsWhole : Client → Verdict → Type 0
+IsWhole c (Got bytes) = length bytes ≡ c.ask.length
+IsWhole c _ = Unit {0}
+
 -- what the machine of one request keeps
 abbrev pub Fit : ℕ → Client → Step → Type 0
 Fit A c ToRoute = IsKind c
@@ -51,7 +56,7 @@ Fit A c (ToLoad b got) = Loading A c b got
 Fit A c (ToHold side) = Holding A c side
 Fit A c (ToStore b) = Storing A c b
 Fit A c (ToFree side) = Holding A c side
-Fit A c (ToEnd v) = Unit {0}
+Fit A c (ToEnd v) = IsWhole c v
 
 abbrev pub Shaped : ℕ → Client → Stage → Type 0
 Shaped A c (Ready v) = IsBad v

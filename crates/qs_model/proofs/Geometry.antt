@@ -1,11 +1,10 @@
 -- The blocks that a request reaches.
-use Rattle.std.proofs.Common.{◌≡◌, ◌≢◌, ℕ, zero, suc, ◌+◌, ◌-◌, ◌*◌, ◌/◌, ◌%◌, min, ◌<◌, ◌≤◌, ◌⊎◌, inl, inr, Bool, true, false, cond, not, ◌&&◌, ◌||◌, nat_lt, nat_le, ◌==◌, refl, sym, ap, ◌∙◌, subst, arith, eqb→eq, eq-eqb, ne_eqb, true≢false, lt_of_lt_of_le, lt_of_le_of_lt}
-use Rattle.std.specs.Int.{div_ceil}
-use Rattle.qs_bytes.specs.Spans.{Places, Covers, aligned_out}
+use Rattle.std.proofs.Common.{◌≡◌, ◌≢◌, ℕ, zero, suc, ◌+◌, ◌-◌, ◌*◌, ◌/◌, ◌%◌, min, ◌<◌, ◌≤◌, ◌⊎◌, inl, inr, Bool, true, false, not, ◌&&◌, ◌||◌, nat_lt, ◌==◌, refl, sym, ap, ◌∙◌, arith, true≢false, lt_of_lt_of_le, lt_of_le_of_lt}
+use Rattle.qs_bytes.specs.Spans.{Covers, aligned_out}
 use Rattle.qs_part.specs.declared.stripe.Side.{Side}
 use Rattle.qs_part.specs.declared.stripe.Side.TheVariants.{Head, Tail}
 use Rattle.qs_model.specs.Requests.{Client, span_of, covers, writes, edge, has, serial}
-use Rattle.qs_model.proofs.Basics.{blocks_le, blocks_lt, block_unique, either, same_or, block_at, block_low}
+use Rattle.qs_model.proofs.Basics.{blocks_le, blocks_lt, same_or, block_at, block_low}
 
 -- a block of the request's span, or one that it reaches at an end
 pub record Reaches (A : ℕ) (c : Client) (b : ℕ) : Type 0 where

@@ -1,20 +1,18 @@
 -- What a step leaves of the request's own holds, and of who holds what.
-use Rattle.std.proofs.Common.{◌≡◌, ◌≢◌, ℕ, ◌+◌, ◌-◌, ◌*◌, ◌<◌, ◌≤◌, ◌⊎◌, inl, inr, Bool, true, false, not, ◌&&◌, ◌==◌, nat_lt, List, [], Option, Some, None, IsTrue, refl, sym, ap, ◌∙◌, subst, arith, true≢false}
-use Rattle.qs_bytes.specs.declared.ask.Verdict.{Verdict}
+use Rattle.std.proofs.Common.{◌≡◌, ◌≢◌, ℕ, ◌+◌, ◌≤◌, Bool, true, false, not, ◌&&◌, ◌==◌, nat_lt, List, [], Some, None, refl, sym, ◌∙◌, arith, true≢false}
 use Rattle.qs_bytes.specs.declared.ask.Verdict.TheVariants.{Refused, Fine}
 use Rattle.qs_bytes.specs.declared.ask.Errno.TheVariants.{Io}
-use Rattle.qs_part.specs.declared.graph.Route.{Route}
 use Rattle.qs_part.specs.declared.stripe.Side.{Side}
 use Rattle.qs_part.specs.declared.stripe.Side.TheVariants.{Head, Tail}
 use Rattle.qs_model.specs.Puts.{put}
-use Rattle.qs_model.specs.Requests.{Client, Pads, Req, Step, Stage, ToRoute, ToList, ToStart, ToLoad, ToHold, ToStore, ToFree, ToEnd, Ready, Entering, In, edge, has, pad, keep, span_of, reads, writes, routed, held, started, loaded, stored, hold_failed, store_failed}
-use Rattle.qs_model.specs.Worlds.{Tracker, Listing, Hold, Image, World}
+use Rattle.qs_model.specs.Requests.{Client, Pads, Step, Stage, ToRoute, ToList, ToStart, ToLoad, ToHold, ToStore, ToFree, ToEnd, In, edge, has, keep, reads, writes, routed, held, started, loaded, stored, hold_failed, store_failed}
+use Rattle.qs_model.specs.Worlds.{Image, World}
 use Rattle.qs_model.specs.Acts.{Act, Answers, Waits, Enters, Routes, Shuts, Lists, Starts, Loads, LoadFails, Holds, HoldFails, Stores, StoreFails, Frees, Ends}
 use Rattle.qs_model.specs.Guards.{MayDo, CanRead}
 use Rattle.qs_model.specs.Steps.{moved, imaged}
-use Rattle.qs_model.proofs.Basics.{choose, put_here, put_other, put_tells, same_or}
+use Rattle.qs_model.proofs.Basics.{choose, put_here, put_other}
 use Rattle.qs_model.proofs.Geometry.{Reaches, tail_other}
-use Rattle.qs_model.proofs.Facts.{Shaped, Held, Keeps, IsOpen, IsHolder}
+use Rattle.qs_model.proofs.Facts.{Shaped, Held, Keeps, IsOpen}
 use Rattle.qs_model.proofs.Machine.{ForMoved, other_block, both}
 
 -- a step at which no hold is open

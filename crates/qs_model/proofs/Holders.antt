@@ -1,18 +1,14 @@
 -- Each hold is an open one of a request, after a step too.
-use Rattle.std.proofs.Common.{◌≡◌, ◌≢◌, ℕ, ◌+◌, ◌-◌, ◌*◌, ◌<◌, ◌≤◌, ◌⊎◌, inl, inr, Bool, true, false, not, ◌&&◌, ◌==◌, List, Option, Some, None, IsTrue, refl, sym, ap, ◌∙◌, subst, arith, true≢false, eq-eqb, ne_eqb}
-use Rattle.qs_bytes.specs.declared.ask.Verdict.{Verdict}
-use Rattle.qs_part.specs.declared.graph.Route.{Route}
+use Rattle.std.proofs.Common.{◌≡◌, ◌≢◌, ℕ, ◌⊎◌, inl, inr, Bool, true, false, not, ◌&&◌, ◌==◌, Option, Some, None, refl, sym, ap, ◌∙◌, subst, arith, true≢false, ne_eqb}
 use Rattle.qs_part.specs.declared.stripe.Side.{Side}
 use Rattle.qs_part.specs.declared.stripe.Side.TheVariants.{Head, Tail}
 use Rattle.qs_model.specs.Puts.{put}
-use Rattle.qs_model.specs.Requests.{Client, Pads, Req, Step, Stage, ToRoute, ToList, ToStart, ToLoad, ToHold, ToStore, ToFree, ToEnd, Ready, Entering, In, edge, has, held, stored, hold_failed, store_failed}
+use Rattle.qs_model.specs.Requests.{Client, Pads, Req, Stage, In, edge, has, held, stored, hold_failed, store_failed}
 use Rattle.qs_model.specs.Worlds.{Hold, Image, World}
 use Rattle.qs_model.specs.Acts.{Act, Answers, Waits, Enters, Routes, Shuts, Lists, Starts, Loads, LoadFails, Holds, HoldFails, Stores, StoreFails, Frees, Ends}
-use Rattle.qs_model.specs.Guards.{MayDo}
 use Rattle.qs_model.specs.Steps.{moved, imaged}
-use Rattle.qs_model.proofs.Basics.{choose, put_here, put_other, put_tells, same_or}
+use Rattle.qs_model.proofs.Basics.{choose, put_here, put_tells}
 use Rattle.qs_model.proofs.Facts.{Shaped, IsOpen, IsHolder}
-use Rattle.qs_model.proofs.Machine.{other_block}
 
 -- there still is a request, and this holds of it
 abbrev pub HasMoved : (Req → Type 0) → Option Req → Type 0

@@ -1,23 +1,18 @@
 -- Every step of a run keeps the facts.
-use Rattle.std.proofs.Common.{◌≡◌, ◌≢◌, ℕ, ◌+◌, ◌-◌, ◌*◌, ◌<◌, ◌≤◌, ◌⊎◌, inl, inr, Bool, true, false, not, ◌&&◌, ◌||◌, ◌==◌, cond, nat_lt, List, [], ◌∷◌, ◌++◌, Option, Some, None, IsTrue, refl, sym, ap, ◌∙◌, subst, arith, true≢false}
+use Rattle.std.proofs.Common.{◌≡◌, ◌≢◌, ℕ, ◌<◌, ◌⊎◌, inl, inr, Bool, true, false, not, ◌&&◌, ◌||◌, ◌==◌, cond, nat_lt, List, [], ◌∷◌, ◌++◌, Option, Some, None, refl, sym, ap, ◌∙◌, subst, arith, true≢false}
 use Rattle.qs_bytes.specs.declared.ask.Ask.{Ask}
-use Rattle.qs_bytes.specs.declared.ask.Verdict.{Verdict}
-use Rattle.qs_bytes.specs.declared.ask.Verdict.TheVariants.{Refused, Dropped}
-use Rattle.qs_bytes.specs.declared.ask.Errno.TheVariants.{Inval, NoMem}
-use Rattle.qs_part.specs.declared.graph.Route.{Route}
-use Rattle.qs_part.specs.declared.stripe.Side.{Side}
 use Rattle.qs_model.specs.Puts.{put, without}
-use Rattle.qs_model.specs.Requests.{Client, Pads, Req, Step, Stage, ToRoute, ToList, ToStart, ToLoad, ToHold, ToStore, ToFree, ToEnd, Ready, Entering, In, edge, is_read, is_write, form_error, asked, abandoned, abandoned_step, abandon, reads, writes}
-use Rattle.qs_model.specs.Worlds.{Tracker, Seat, Vacant, Present, Has, Listing, Hold, Image, Session, Away, Live, Leaving, Graph, World, new_tracker, new_world}
+use Rattle.qs_model.specs.Requests.{Client, Pads, Req, Step, Stage, ToRoute, ToList, ToStart, ToLoad, ToHold, ToStore, ToFree, ToEnd, Ready, Entering, In, edge, is_read, is_write, form_error, asked, abandoned, abandon}
+use Rattle.qs_model.specs.Worlds.{Tracker, Vacant, Has, Listing, Hold, Image, Session, Away, Live, Leaving, World, new_world}
 use Rattle.qs_model.specs.Acts.{Act, Answers, Waits, Enters, Routes, Shuts, Lists, Starts, Loads, LoadFails, Holds, HoldFails, Stores, StoreFails, Frees, Ends, Element, Attached, NoExport, Crowded, Left, Detached, NotAttached, Asked, Did, Exported, Crashed}
 use Rattle.qs_model.specs.Guards.{MayDo, May, CanAsk}
 use Rattle.qs_model.specs.Steps.{moved, tracked, imaged, leaves, happens, after, Runs}
 use Rattle.qs_model.proofs.Basics.{choose, put_here, put_other, put_tells, put_cases, same_or}
-use Rattle.qs_model.proofs.Facts.{IsKind, IsBad, Fit, Shaped, Sits, Goes, Seated, Seats, IsOpen, Held, Keeps, Well, InOrder, IsHolder, Owner, IsAt, IsClient, Among, Ok}
+use Rattle.qs_model.proofs.Facts.{Shaped, Seated, Seats, Held, Keeps, Well, IsHolder, Owner, IsAt, IsClient, Among, Ok}
 use Rattle.qs_model.proofs.Machine.{ForMoved, own_shaped}
 use Rattle.qs_model.proofs.Places.{own_seated, stays_in_order, present_taken}
 use Rattle.qs_model.proofs.Held.{own_kept}
-use Rattle.qs_model.proofs.Holders.{HasMoved, own_holder, holder_before, new_holder, some_none, IsTaken}
+use Rattle.qs_model.proofs.Holders.{HasMoved, own_holder, holder_before, new_holder, some_none}
 use Rattle.qs_model.proofs.Others.{Elsewhere, others_seat, same_seated, others_held}
 
 -- a request's place is taken

@@ -1,18 +1,17 @@
 -- What the machine of one request keeps.
-use Rattle.std.proofs.Common.{◌≡◌, ◌≢◌, ℕ, ◌+◌, ◌-◌, ◌*◌, min, max, ◌<◌, ◌≤◌, ◌⊎◌, inl, inr, Bool, true, false, cond, not, ◌&&◌, ◌==◌, nat_lt, List, [], ◌∷◌, ◌++◌, length, Option, Some, None, IsTrue, refl, sym, ap, ◌∙◌, subst, arith, true≢false, length-append}
+use Rattle.std.proofs.Common.{◌≡◌, ◌≢◌, ℕ, ◌+◌, ◌-◌, ◌*◌, min, max, ◌<◌, ◌≤◌, Bool, true, false, not, ◌&&◌, ◌==◌, nat_lt, List, [], ◌++◌, length, Option, Some, None, refl, sym, ap, ◌∙◌, arith, true≢false, length-append}
 use Rattle.qs_bytes.proofs.Overlays.{length-part}
-use Rattle.qs_bytes.specs.declared.ask.Verdict.{Verdict}
-use Rattle.qs_part.specs.declared.graph.Route.{Route}
+use Rattle.qs_bytes.specs.declared.ask.Verdict.TheVariants.{Got, Fine}
 use Rattle.qs_part.specs.declared.stripe.Side.{Side}
 use Rattle.qs_part.specs.declared.stripe.Side.TheVariants.{Head, Tail}
-use Rattle.qs_model.specs.Requests.{Client, Pads, Req, Step, Stage, ToRoute, ToList, ToStart, ToLoad, ToHold, ToStore, ToFree, ToEnd, Ready, Entering, In, edge, has, pad, span_of, reads, writes, piece, routed, held, started, loaded, stored, hold_failed, store_failed}
+use Rattle.qs_model.specs.Requests.{Client, Pads, Req, Step, Stage, edge, has, span_of, reads, writes, piece, routed, held, started, loaded, stored, hold_failed, store_failed}
 use Rattle.qs_model.specs.Worlds.{World}
 use Rattle.qs_model.specs.Acts.{Act, Answers, Waits, Enters, Routes, Shuts, Lists, Starts, Loads, LoadFails, Holds, HoldFails, Stores, StoreFails, Frees, Ends}
-use Rattle.qs_model.specs.Guards.{MayDo, CanRead}
+use Rattle.qs_model.specs.Guards.{MayDo}
 use Rattle.qs_model.specs.Steps.{moved}
 use Rattle.qs_model.proofs.Basics.{choose, blocks_le, blocks_lt}
-use Rattle.qs_model.proofs.Geometry.{Reaches, head_low, head_high, tail_low, tail_high, head_reached, reaches_edge, same_eqb}
-use Rattle.qs_model.proofs.Facts.{IsKind, Sound, Loading, Holding, Storing, Fit, Shaped}
+use Rattle.qs_model.proofs.Geometry.{Reaches, head_low, head_high, tail_low, tail_high, reaches_edge, same_eqb}
+use Rattle.qs_model.proofs.Facts.{IsKind, Sound, Loading, Holding, Storing, Fit, Shaped, IsWhole}
 
 -- a fact of the request, where there still is one
 abbrev pub ForMoved : (Req → Type 0) → Option Req → Type 0
@@ -29,7 +28,8 @@ routed_fit A c kind =
     let P : Step → Type 0 = λ g. Fit A c g in
     choose P (writes c && not c.route.writable) _ _ (λ e. tt)
     (λ may. choose P (nat_lt c.route.size (c.ask.offset + c.ask.length)) _ _ (λ e. tt)
-    (λ inside. choose P (c.ask.length == 0) _ _ (λ e. tt)
+    (λ inside. choose P (c.ask.length == 0) _ _
+    (λ e. choose (λ v. IsWhole c v) (reads c) (Got []) Fine (λ f. sym (same_eqb c.ask.length 0 e)) (λ f. tt))
     (λ some. record {
       kind = kind;
       some = let n : c.ask.length ≢ 0 = other_block c.ask.length 0 some in omega arith;
@@ -90,11 +90,26 @@ loaded_so_far A c b got bytes h l whole more =
     sums : (m n lo hi low up A : ℕ) → m ≡ max lo low - lo → n ≡ min hi (low + A) - max lo low → up ≡ low + A → lo < low + A → low + A < hi → m + n ≡ max lo up - lo
     sums m n lo hi low up A e f g k l = omega arith
 
+pub loaded_whole : (A : ℕ) (c : Client) (b : ℕ) (got bytes : List ℕ) → 0 < A → Loading A c b got → length bytes ≡ A → b ≡ edge A c Tail →
+    length (got ++ piece A c b bytes) ≡ c.ask.length
+loaded_whole A c b got bytes h l whole last =
+    let low : (span_of c).lo < edge A c Head * A + A = head_high A c h in
+    let first : edge A c Head * A ≤ b * A = blocks_le (edge A c Head) b A l.reach.first in
+    let below : edge A c Tail * A < (span_of c).hi = tail_low A c h l.sound.some in
+    let high : (span_of c).hi ≤ edge A c Tail * A + A = tail_high A c h l.sound.some in
+    let at : b * A ≡ edge A c Tail * A = ap (λ (n : ℕ). n * A) last in
+    let p : length (piece A c b bytes) ≡ min (span_of c).hi (b * A + A) - max (span_of c).lo (b * A) = length-piece A c b bytes h l.sound.some l.reach whole in
+    let g : length got ≡ max (span_of c).lo (b * A) - (span_of c).lo = l.so_far in
+    length-append got (piece A c b bytes) ∙ sums _ _ (span_of c).lo (span_of c).hi (b * A) A c.ask.length g p (omega arith) (omega arith) l.sound.some refl
+  where
+    sums : (m n lo hi low A long : ℕ) → m ≡ max lo low - lo → n ≡ min hi (low + A) - max lo low → low < hi → hi ≤ low + A → lo < hi → hi ≡ lo + long → m + n ≡ long
+    sums m n lo hi low A long e f g k l same = omega arith
+
 pub loaded_fit : (A : ℕ) (c : Client) (b : ℕ) (got bytes : List ℕ) → 0 < A → Loading A c b got → length bytes ≡ A → Fit A c (loaded A c b got bytes)
 unfolding loaded
 loaded_fit A c b got bytes h l whole =
     let P : Step → Type 0 = λ g. Fit A c g in
-    choose P (b == edge A c Tail) _ _ (λ e. tt)
+    choose P (b == edge A c Tail) _ _ (λ e. loaded_whole A c b got bytes h l whole (same_eqb b (edge A c Tail) e))
     (λ e. record { sound = l.sound; reading = l.reading; reach = next_reach A c b l.reach e; so_far = loaded_so_far A c b got bytes h l whole e })
 
 pub stored_fit : (A : ℕ) (c : Client) (b : ℕ) → Storing A c b → Fit A c (stored A c b)

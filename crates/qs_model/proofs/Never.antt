@@ -1,19 +1,16 @@
 -- Answers that the core never gets.
-use Rattle.std.proofs.Common.{◌≡◌, ◌≢◌, ℕ, ◌+◌, ◌*◌, ◌<◌, ◌≤◌, ◌⊎◌, inl, inr, Bool, true, false, List, [], ◌∷◌, ◌++◌, Option, Some, None, refl, sym, ap, ◌∙◌, subst, arith}
-use Rattle.qs_bytes.specs.declared.ask.Verdict.{Verdict}
-use Rattle.qs_part.specs.declared.graph.Route.{Route}
+use Rattle.std.proofs.Common.{◌≡◌, ◌≢◌, ℕ, ◌<◌, Bool, true, List, [], ◌∷◌, ◌++◌, Some, refl, sym, ◌∙◌, subst}
 use Rattle.qs_part.specs.declared.stripe.Side.{Side}
 use Rattle.qs_part.specs.declared.stripe.Side.TheVariants.{Head, Tail}
-use Rattle.qs_model.specs.Requests.{Client, Pads, Req, Step, Stage, ToRoute, ToList, ToStart, ToLoad, ToHold, ToStore, ToFree, ToEnd, Ready, Entering, In, edge, has, pad}
-use Rattle.qs_model.specs.Worlds.{Tracker, Listing, Seat, Vacant, Present, Has, Hold, Session, Leaving, World}
-use Rattle.qs_model.specs.Acts.{Act, Answers, Waits, Enters, Routes, Shuts, Lists, Starts, Loads, LoadFails, Holds, HoldFails, Stores, StoreFails, Frees, Ends, Wait, Quiesced, Full, NotYet, HeldBy, Taken, Strange, NotHeld, Element, Attached, NoExport, Crowded, Left, Detached, NotAttached, Asked, Did, Exported, Crashed}
+use Rattle.qs_model.specs.Requests.{Client, Pads, Req, Stage, ToList, ToStart, ToHold, ToStore, ToFree, ToEnd, Ready, Entering, In, edge, has}
+use Rattle.qs_model.specs.Worlds.{Session, Leaving, World}
+use Rattle.qs_model.specs.Acts.{Act, Waits, Wait, Quiesced, Full, NotYet, HeldBy, Taken, Strange, NotHeld, Element, NotAttached, Did}
 use Rattle.qs_model.specs.Guards.{MayWait, MayDo, May}
 use Rattle.qs_model.specs.Steps.{after, Runs}
 use Rattle.qs_model.specs.Histories.{IsOdd, IsOddRow, IsOddStep}
 use Rattle.qs_model.specs.Laws.{NeverOdd}
 use Rattle.qs_model.proofs.Geometry.{reaches_edge, tail_other}
-use Rattle.qs_model.proofs.Facts.{Shaped, Goes, Sits, Seats, IsOpen, IsHolder, Held, Keeps, Owner, IsAt, IsClient, Among, Well, Ok}
-use Rattle.qs_model.proofs.Holders.{some_none}
+use Rattle.qs_model.proofs.Facts.{Sits, IsOpen, IsHolder, Held, Owner, IsAt, IsClient, Among, Well, Ok}
 use Rattle.qs_model.proofs.Working.{Works, holder_is}
 use Rattle.qs_model.proofs.Kept.{run_ok, runs_back, runs_front}
 

@@ -1,28 +1,15 @@
 -- A READ that is Got has read each byte once, a write that is Fine has written each once.
-use Rattle.std.proofs.Common.{◌≡◌, ◌≢◌, ℕ, ◌+◌, ◌-◌, ◌*◌, ◌/◌, ◌%◌, min, max, ◌<◌, ◌≤◌, ◌⊎◌, inl, inr, Bool, true, false, not, ◌&&◌, ◌==◌, cond, nat_lt, List, [], ◌∷◌, ◌++◌, length, get_or, take, drop, Option, Some, None, refl, sym, ap, ◌∙◌, subst, arith, true≢false, eq-eqb, ne_eqb, append-nil, append_assoc, length-append}
+use Rattle.std.proofs.Common.{◌≡◌, ◌≢◌, ℕ, ◌+◌, ◌-◌, ◌*◌, ◌/◌, ◌%◌, min, max, ◌<◌, ◌≤◌, Bool, true, false, ◌&&◌, ◌==◌, cond, nat_lt, List, [], ◌∷◌, ◌++◌, length, get_or, drop, refl, sym, ap, ◌∙◌, subst, arith, true≢false, append-nil, length-append}
 use Rattle.std.specs.List.{filter}
 use Rattle.std.proofs.lemmas.List.{get_or_append_left, get_or-append-add, get_or-take, get_or-drop}
 use Rattle.qs_cells.specs.declared.cell.CellEntry.{CellEntry}
-use Rattle.qs_cells.specs.declared.cell.CellEntry.TheVariants.{Read, Write, Maybe, Crash}
-use Rattle.qs_bytes.specs.declared.ask.Verdict.{Verdict}
-use Rattle.qs_bytes.specs.declared.ask.Verdict.TheVariants.{Got, Fine, Refused, Dropped}
-use Rattle.qs_part.specs.declared.graph.Route.{Route}
-use Rattle.qs_part.specs.declared.stripe.Side.{Side}
-use Rattle.qs_part.specs.declared.stripe.Side.TheVariants.{Head, Tail}
-use Rattle.qs_model.specs.Requests.{Client, Pads, Req, Step, Stage, ToRoute, ToList, ToStart, ToLoad, ToHold, ToStore, ToFree, ToEnd, Ready, Entering, In, edge, has, span_of, covers, reads, writes, body_at, asked, abandon, form_error, piece, success, routed, held, started, loaded, stored, hold_failed, store_failed, verdict}
-use Rattle.qs_model.specs.Worlds.{World}
-use Rattle.qs_model.specs.Acts.{Act, Answers, Waits, Enters, Routes, Shuts, Lists, Starts, Loads, LoadFails, Holds, HoldFails, Stores, StoreFails, Frees, Ends, Element, Attached, NoExport, Crowded, Left, Detached, NotAttached, Asked, Did, Exported, Crashed}
-use Rattle.qs_model.specs.Guards.{May, MayDo}
-use Rattle.qs_model.specs.Steps.{moved, happens, after, Runs}
-use Rattle.qs_model.specs.Histories.{cell_of, cell, is_of, reads_in, writes_in, answer_of, Answered}
-use Rattle.qs_model.specs.Laws.{ReadsOnce, WritesOnce}
-use Rattle.qs_model.proofs.Basics.{choose, block_at, block_low, block_high, blocks_le, either}
-use Rattle.qs_model.proofs.Geometry.{Reaches, covered_reached, covers_low, covers_high, head_high, same_eqb}
-use Rattle.qs_model.proofs.Facts.{Shaped, IsBad, Loading, Storing, Well, Ok}
+use Rattle.qs_part.specs.declared.stripe.Side.TheVariants.{Head}
+use Rattle.qs_model.specs.Requests.{Client, edge, span_of, covers, piece}
+use Rattle.qs_model.specs.Histories.{is_of}
+use Rattle.qs_model.proofs.Basics.{block_at, block_low, block_high}
+use Rattle.qs_model.proofs.Geometry.{Reaches, covered_reached, covers_low, covers_high, same_eqb}
+use Rattle.qs_model.proofs.Facts.{Loading}
 use Rattle.qs_model.proofs.Machine.{other_block, length-piece}
-use Rattle.qs_model.proofs.Holders.{HasMoved, some_none}
-use Rattle.qs_model.proofs.Kept.{run_ok, runs_front, runs_back}
-use Rattle.qs_model.proofs.Walk.{Plan, Due, entries, due_run}
 
 pub lt_true : (n b : ℕ) → n < b → nat_lt n b ≡ true
 lt_true n b h = grind (arith, h)
@@ -99,6 +86,6 @@ piece_value A c b x got bytes rest pos l whole covered at =
   where
     split : (lo low x g : ℕ) → g ≡ max lo low - lo → lo ≤ x → low ≤ x → x - lo ≡ g + (x - max lo low)
     split lo low x g e h k = omega arith
+
     offset : (lo low x m : ℕ) → lo ≤ x → low ≤ x → low + m ≡ x → max lo low - low + (x - max lo low) ≡ m
     offset lo low x m h k e = omega arith
-

@@ -1,16 +1,13 @@
 -- What a step of one request leaves alone of the others.
-use Rattle.std.proofs.Common.{◌≡◌, ◌≢◌, ℕ, ◌+◌, ◌<◌, ◌≤◌, ◌⊎◌, inl, inr, Bool, true, false, List, Option, Some, None, IsTrue, refl, sym, ap, ◌∙◌, subst, arith}
-use Rattle.qs_bytes.specs.declared.ask.Verdict.{Verdict}
-use Rattle.qs_part.specs.declared.graph.Route.{Route}
-use Rattle.qs_part.specs.declared.stripe.Side.{Side}
+use Rattle.std.proofs.Common.{◌≡◌, ◌≢◌, ℕ, inl, inr, true, List, Option, Some, None, refl, sym, ap, ◌∙◌, subst}
 use Rattle.qs_model.specs.Puts.{put}
-use Rattle.qs_model.specs.Requests.{Client, Pads, Req, Step, Stage, ToRoute, ToList, ToStart, ToLoad, ToHold, ToStore, ToFree, ToEnd, Ready, Entering, In, edge, pad}
+use Rattle.qs_model.specs.Requests.{Client, Pads, Step, Stage, ToRoute, ToList, ToStart, ToLoad, ToHold, ToStore, ToFree, ToEnd, edge}
 use Rattle.qs_model.specs.Worlds.{Tracker, Listing, Seat, Vacant, Present, Has, Hold, Image, World}
 use Rattle.qs_model.specs.Acts.{Act, Answers, Waits, Enters, Routes, Shuts, Lists, Starts, Loads, LoadFails, Holds, HoldFails, Stores, StoreFails, Frees, Ends}
-use Rattle.qs_model.specs.Guards.{MayDo, SameSeat, Numbered, CanStore, CanHold}
+use Rattle.qs_model.specs.Guards.{MayDo, SameSeat, Numbered, CanStore}
 use Rattle.qs_model.specs.Steps.{tracked, imaged, listing}
-use Rattle.qs_model.proofs.Basics.{put_here, put_other, put_tells}
-use Rattle.qs_model.proofs.Facts.{Sits, Goes, Seated, Seats, Held, Keeps, IsOpen, IsAt}
+use Rattle.qs_model.proofs.Basics.{put_other}
+use Rattle.qs_model.proofs.Facts.{Sits, Goes, Seated, IsAt}
 
 -- the step is by a request at another place than j
 abbrev pub Elsewhere : ℕ → {stage : Stage} → Act stage → Type 0

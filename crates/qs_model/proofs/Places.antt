@@ -1,22 +1,20 @@
 -- What a step leaves of the request's own place, and of the order of the listed spans.
-use Rattle.std.proofs.Common.{◌≡◌, ◌≢◌, ℕ, ◌+◌, ◌-◌, ◌*◌, ◌<◌, ◌≤◌, ◌⊎◌, inl, inr, ◌↔◌, Bool, true, false, not, ◌&&◌, ◌==◌, nat_lt, List, Option, Some, None, IsTrue, refl, sym, ap, ◌∙◌, subst, arith, true≢false}
-use Rattle.qs_bytes.specs.Spans.{Places, Covers, Overlap}
-use Rattle.qs_bytes.specs.declared.ask.Verdict.{Verdict}
+use Rattle.std.proofs.Common.{◌≡◌, ◌≢◌, ℕ, ◌+◌, ◌<◌, ◌⊎◌, inl, inr, ◌↔◌, Bool, true, not, ◌&&◌, ◌==◌, nat_lt, List, IsTrue, refl, sym, ap, ◌∙◌, subst, arith, true≢false}
+use Rattle.qs_bytes.specs.Spans.{Places, Overlap}
 use Rattle.qs_bytes.specs.declared.ask.Verdict.TheVariants.{Refused}
 use Rattle.qs_bytes.specs.declared.ask.Errno.TheVariants.{Io}
-use Rattle.qs_part.specs.declared.graph.Route.{Route}
 use Rattle.qs_part.specs.declared.stripe.Side.{Side}
 use Rattle.qs_part.specs.declared.stripe.Side.TheVariants.{Head, Tail}
 use Rattle.qs_model.specs.Puts.{put}
-use Rattle.qs_model.specs.Requests.{Client, Pads, Req, Step, Stage, ToRoute, ToList, ToStart, ToLoad, ToHold, ToStore, ToFree, ToEnd, Ready, Entering, In, edge, has, reads, writes, routed, held, started, loaded, stored, hold_failed, store_failed}
+use Rattle.qs_model.specs.Requests.{Client, Pads, Step, Stage, ToRoute, ToList, ToStart, ToLoad, ToHold, ToStore, ToFree, ToEnd, edge, has, reads, writes, routed, held, started, loaded, stored, hold_failed, store_failed}
 use Rattle.qs_model.specs.Worlds.{Tracker, Listing, Seat, Vacant, Present, Has, Conflict, World}
 use Rattle.qs_model.specs.Acts.{Act, Answers, Waits, Enters, Routes, Shuts, Lists, Starts, Loads, LoadFails, Holds, HoldFails, Stores, StoreFails, Frees, Ends}
 use Rattle.qs_model.specs.Guards.{MayDo, CanStart, Renumbered, Numbered, SameSeat}
 use Rattle.qs_model.specs.Steps.{moved, tracked, listing}
-use Rattle.qs_model.proofs.Basics.{choose, put_here, put_other, put_tells}
+use Rattle.qs_model.proofs.Basics.{choose, put_here, put_tells}
 use Rattle.qs_model.proofs.Facts.{Sits, Goes, Seated, Seats, InOrder}
 use Rattle.qs_model.proofs.Machine.{ForMoved}
-use Rattle.qs_model.proofs.Others.{numbered_same, same_present, same_has}
+use Rattle.qs_model.proofs.Others.{numbered_same, same_present}
 
 -- a step after the start, or the end
 abbrev pub IsLater : Step → Type 0

@@ -1,32 +1,28 @@
 -- A READ that is Got has read each byte once, a write that is Fine has written each once.
-use Rattle.std.proofs.Common.{◌≡◌, ◌≢◌, ℕ, ◌+◌, ◌-◌, ◌*◌, ◌/◌, ◌%◌, min, max, ◌<◌, ◌≤◌, ◌⊎◌, inl, inr, Bool, true, false, not, ◌&&◌, ◌==◌, cond, nat_lt, List, [], ◌∷◌, ◌++◌, length, get_or, take, drop, Option, Some, None, refl, sym, ap, ◌∙◌, subst, arith, true≢false, eq-eqb, ne_eqb, append-nil, append_assoc, length-append}
+use Rattle.std.proofs.Common.{◌≡◌, ℕ, ◌+◌, ◌-◌, ◌/◌, ◌<◌, ◌≤◌, Bool, true, false, not, ◌&&◌, ◌==◌, cond, nat_lt, List, [], ◌∷◌, ◌++◌, length, get_or, Some, None, refl, sym, ap, ◌∙◌, subst, arith, true≢false, eq-eqb, append-nil, append_assoc}
 use Rattle.std.specs.List.{filter}
-use Rattle.std.proofs.lemmas.List.{get_or_append_left, get_or-append-add, get_or-take, get_or-drop}
 use Rattle.qs_cells.specs.declared.cell.CellEntry.{CellEntry}
-use Rattle.qs_cells.specs.declared.cell.CellEntry.TheVariants.{Read, Write, Maybe, Crash}
+use Rattle.qs_cells.specs.declared.cell.CellEntry.TheVariants.{Read}
 use Rattle.qs_bytes.specs.declared.ask.Verdict.{Verdict}
 use Rattle.qs_bytes.specs.declared.ask.Verdict.TheVariants.{Got, Fine, Refused, Dropped}
-use Rattle.qs_part.specs.declared.graph.Route.{Route}
 use Rattle.qs_part.specs.declared.stripe.Side.{Side}
 use Rattle.qs_part.specs.declared.stripe.Side.TheVariants.{Head, Tail}
-use Rattle.qs_model.specs.Requests.{Client, Pads, Req, Step, Stage, ToRoute, ToList, ToStart, ToLoad, ToHold, ToStore, ToFree, ToEnd, Ready, Entering, In, edge, has, span_of, covers, reads, writes, body_at, asked, abandon, form_error, piece, success, routed, held, started, loaded, stored, hold_failed, store_failed, verdict}
+use Rattle.qs_model.specs.Requests.{Client, Pads, Req, Step, Stage, ToRoute, ToList, ToStart, ToLoad, ToEnd, Entering, In, edge, has, span_of, covers, reads, writes, asked, form_error, piece, routed, held, started, loaded, stored, hold_failed, store_failed}
 use Rattle.qs_model.specs.Worlds.{World}
-use Rattle.qs_model.specs.Acts.{Act, Answers, Waits, Enters, Routes, Shuts, Lists, Starts, Loads, LoadFails, Holds, HoldFails, Stores, StoreFails, Frees, Ends, Element, Attached, NoExport, Crowded, Left, Detached, NotAttached, Asked, Did, Exported, Crashed}
+use Rattle.qs_model.specs.Acts.{Act, Answers, Waits, Enters, Routes, Shuts, Lists, Starts, Loads, LoadFails, Holds, HoldFails, Stores, StoreFails, Frees, Ends, Element, Did}
 use Rattle.qs_model.specs.Guards.{May, MayDo}
-use Rattle.qs_model.specs.Steps.{moved, happens, after, Runs}
-use Rattle.qs_model.specs.Histories.{cell_of, cell, is_of, reads_in, writes_in, answer_of, Answered}
-use Rattle.qs_model.specs.Laws.{ReadsOnce, WritesOnce}
-use Rattle.qs_model.proofs.Basics.{choose, block_at, block_low, block_high, blocks_le, either}
-use Rattle.qs_model.proofs.Geometry.{Reaches, covered_reached, covers_low, covers_high, head_high, same_eqb}
-use Rattle.qs_model.proofs.Facts.{Shaped, IsBad, Loading, Storing, Well, Ok}
-use Rattle.qs_model.proofs.Machine.{other_block, length-piece}
+use Rattle.qs_model.specs.Steps.{moved, after, Runs}
+use Rattle.qs_model.specs.Histories.{cell_of, is_of, answer_of, Answered}
+use Rattle.qs_model.specs.Laws.{ReadsOnce}
+use Rattle.qs_model.proofs.Basics.{choose}
+use Rattle.qs_model.proofs.Geometry.{Reaches, covers_low, covers_high, same_eqb}
+use Rattle.qs_model.proofs.Facts.{Shaped, IsBad, IsWhole, Loading, Ok}
 use Rattle.qs_model.proofs.Holders.{HasMoved, some_none}
 use Rattle.qs_model.proofs.Kept.{run_ok, runs_front, runs_back}
-use Rattle.qs_model.proofs.Walk.{Plan, Due, entries, due_run}
+use Rattle.qs_model.proofs.Walk.{Plan, due_run}
 use Rattle.qs_model.proofs.Once.{rest_of, join, join_last, place_reached, from_first, entry_here, piece_value}
 
 module _ (A : ℕ) (x : ℕ) (r : ℕ) (c : Client) (bytes : List ℕ) (pos : 0 < A) (covered : covers c x ≡ true) where
-
   -- the one entry of a READ
   abbrev pub all_read : List CellEntry
   all_read = Read r (get_or bytes (x - (span_of c).lo) 0) ∷ []
@@ -82,26 +78,31 @@ module _ (A : ℕ) (x : ℕ) (r : ℕ) (c : Client) (bytes : List ℕ) (pos : 0 
       let P : Step → Type 0 = λ g. stage_read d (In k g) es → stage_read d (In k (ToLoad b got)) (filter (is_of r) (cell_of A x r d (Loads {k = k} {b = b} {got = got} block)) ++ es) in
       choose P (b == edge A d Tail) _ _
       (λ e h.
-          let last : b ≡ edge A d Tail = same_eqb b (edge A d Tail) e in
-          let reach : Reaches A d (x / A) = place_reached A d x pos (own h.0) in
-          let le : x / A ≤ edge A d Tail = reach.last in
-          let is : got ++ piece A d b block ≡ bytes = got_inside _ _ h.1 in
-          (h.0, (piece A d b block, sym is),
-          join (x / A) b _ all_read es (entry h.0 [] (sym is ∙ sym (append-nil (got ++ piece A d b block)))) (join_last (x / A) b all_read es (omega arith) h.2)))
-      (λ e h.
-          (h.0, (piece A d b block ++ h.1.0, h.1.1 ∙ append_assoc got (piece A d b block) h.1.0),
-          join (x / A) b _ all_read es (entry h.0 h.1.0 h.1.1) h.2))
+      let last : b ≡ edge A d Tail = same_eqb b (edge A d Tail) e in
+      let reach : Reaches A d (x / A) = place_reached A d x pos (own h.0) in
+      let le : x / A ≤ edge A d Tail = reach.last in
+      let is : got ++ piece A d b block ≡ bytes = got_inside _ _ h.1 in (
+        h.0,
+        (piece A d b block, sym is),
+        join (x / A) b _ all_read es (entry h.0 [] (sym is ∙ sym (append-nil (got ++ piece A d b block)))) (join_last (x / A) b all_read es (omega arith) h.2),
+      ))
+      (λ e h. (
+        h.0,
+        (piece A d b block ++ h.1.0, h.1.1 ∙ append_assoc got (piece A d b block) h.1.0),
+        join (x / A) b _ all_read es (entry h.0 h.1.0 h.1.1) h.2,
+      ))
     where
       own : d ≡ c → covers d x ≡ true
       own same = subst (λ (y : Client). covers y x ≡ true) (sym same) covered
+
       entry : d ≡ c → (rest : List ℕ) → bytes ≡ (got ++ piece A d b block) ++ rest →
           filter (is_of r) (cell_of A x r d (Loads {k = k} {b = b} {got = got} block)) ≡ cond (x / A == b) all_read []
       entry same rest is =
           entry_here r _ _ (reads d) (covers d x) (x / A == b) l.reading (own same) (eq-eqb r r refl)
           (λ e. ap (λ (v : ℕ). Read r v)
-              (sym (piece_value A d b x got block rest pos l whole (own same) (same_eqb (x / A) b e))
-              ∙ ap (λ (l : List ℕ). get_or l (x - (span_of d).lo) 0) (sym is)
-              ∙ ap (λ (y : Client). get_or bytes (x - (span_of y).lo) 0) same))
+          (sym (piece_value A d b x got block rest pos l whole (own same) (same_eqb (x / A) b e))
+          ∙ ap (λ (l : List ℕ). get_or l (x - (span_of d).lo) 0) (sym is)
+          ∙ ap (λ (y : Client). get_or bytes (x - (span_of y).lo) 0) same))
 
   pub hold_failed_read : (d : Client) (k : ℕ) (side : Side) (es : List CellEntry) → stage_read d (In k (hold_failed A d side)) es → ⊥
   unfolding hold_failed
@@ -146,9 +147,9 @@ module _ (A : ℕ) (x : ℕ) (r : ℕ) (c : Client) (bytes : List ℕ) (pos : 0 
 
   pub plan_read : Plan A x r due_read all_read
   plan_read = record {
-      own = λ w d b p act es fit may h. own_read w d b p act es fit may h;
-      left = λ q es h. absurd (true≢false h.0);
-      made = made_read
+    own = λ w d b p act es fit may h. own_read w d b p act es fit may h;
+    left = λ q es h. absurd (true≢false h.0);
+    made = made_read;
   }
 
   -- the READ at its answer
@@ -173,12 +174,33 @@ answered_at A w r c v (Did s q act) ok may is =
     (q, act, (ap w.req (sym same) ∙ may.0, client, answer, (ok.well s q may.0).shaped))
 answered_at A w r c v _ ok may is = absurd is
 
+-- the reply is as long as was asked for
+pub answer_whole : (A : ℕ) (c : Client) (d : Bool) {stage : Stage} (act : Act stage) (bytes : List ℕ) → Shaped A c stage → answer_of d act ≡ Some (Got bytes) → length bytes ≡ c.ask.length
+answer_whole A c d (Answers {v = v}) bytes fit is = absurd (subst (λ (v : Verdict). IsBad v) (said v (Got bytes) is) fit)
+  where
+    said : (x y : Verdict) → Some x ≡ Some y → x ≡ y
+    said x y e = cc
+answer_whole A c true (Ends {v = v}) bytes fit is = let f : Some Dropped ≡ Some (Got bytes) = is in absurd (cc)
+answer_whole A c false (Ends {v = v}) bytes fit is = subst (λ (v : Verdict). IsWhole c v) (said v (Got bytes) is) fit
+  where
+    said : (x y : Verdict) → Some x ≡ Some y → x ≡ y
+    said x y e = cc
+answer_whole A c d _ bytes fit is = absurd (some_none (sym is))
+
 -- the law
 pub reads_once : (A : ℕ) (w : World) (es : List Element) → 0 < A → Ok A w → ((r : ℕ) → w.req r ≡ None) → w.next ≡ 0 → Runs A w es → ReadsOnce A es
-reads_once A w es pos ok none zero run r c bytes before behind e split answer x covered =
-    let run' : Runs A w (before ++ e ∷ behind) = subst (λ (l : List Element). Runs A w l) split run in
-    let front : Runs A w before = runs_front A w before _ run' in
-    let last : Runs A (after A w before) (e ∷ behind) = runs_back A w before _ run' in
-    let (q, act, (is, client, answer', fit)) = answered_at A (after A w before) r c (Got bytes) e (run_ok A w before pos ok front) last.0 answer in
-    (due_run A x r (due_read A x r c bytes pos covered) (all_read A x r c bytes pos covered) w before q (plan_read A x r c bytes pos covered) pos ok front is
-    (end_read A x r c bytes pos covered q.client q.dropped q.pads act fit client answer')).unmade (none r) (omega arith)
+reads_once A w es pos ok none zero run = record {
+  whole = λ r c bytes before behind e split answer.
+      let run' : Runs A w (before ++ e ∷ behind) = subst (λ (l : List Element). Runs A w l) split run in
+      let front : Runs A w before = runs_front A w before _ run' in
+      let last : Runs A (after A w before) (e ∷ behind) = runs_back A w before _ run' in
+      let (q, act, (is, client, answer', fit)) = answered_at A (after A w before) r c (Got bytes) e (run_ok A w before pos ok front) last.0 answer in
+      subst (λ (y : Client). length bytes ≡ y.ask.length) client (answer_whole A q.client q.dropped act bytes fit answer');
+  once = λ r c bytes before behind e split answer x covered.
+      let run' : Runs A w (before ++ e ∷ behind) = subst (λ (l : List Element). Runs A w l) split run in
+      let front : Runs A w before = runs_front A w before _ run' in
+      let last : Runs A (after A w before) (e ∷ behind) = runs_back A w before _ run' in
+      let (q, act, (is, client, answer', fit)) = answered_at A (after A w before) r c (Got bytes) e (run_ok A w before pos ok front) last.0 answer in
+      (due_run A x r (due_read A x r c bytes pos covered) (all_read A x r c bytes pos covered) w before q (plan_read A x r c bytes pos covered) pos ok front is
+      (end_read A x r c bytes pos covered q.client q.dropped q.pads act fit client answer')).unmade (none r) (omega arith);
+}

@@ -1,19 +1,18 @@
 -- A serialising request is undivided.
-use Rattle.std.proofs.Common.{◌≡◌, ◌≢◌, ℕ, ◌+◌, ◌*◌, ◌<◌, ◌≤◌, ◌⊎◌, inl, inr, Bool, true, false, List, [], ◌∷◌, ◌++◌, Option, Some, None, refl, sym, ap, ◌∙◌, subst, arith}
+use Rattle.std.proofs.Common.{◌≡◌, ℕ, ◌*◌, ◌<◌, ◌⊎◌, inl, inr, true, List, ◌∷◌, ◌++◌, Option, Some, None, refl, sym, ap, ◌∙◌, subst}
 use Rattle.qs_bytes.specs.Spans.{Covers, aligned_out}
-use Rattle.qs_model.specs.Requests.{Client, Pads, Req, Step, Stage, ToRoute, ToList, ToStart, ToLoad, ToHold, ToStore, ToFree, ToEnd, Ready, Entering, In, span_of, serial}
+use Rattle.qs_model.specs.Requests.{Client, Req, Stage, ToRoute, ToList, ToStart, ToLoad, ToHold, ToStore, ToFree, ToEnd, Ready, Entering, In, span_of, serial}
 use Rattle.qs_model.specs.Worlds.{Tracker, World}
-use Rattle.qs_model.specs.Acts.{Act, Element, Attached, NoExport, Crowded, Left, Detached, NotAttached, Asked, Did, Exported, Crashed, block_of}
+use Rattle.qs_model.specs.Acts.{Element, Did}
 use Rattle.qs_model.specs.Guards.{May}
-use Rattle.qs_model.specs.Steps.{moved, happens, after, Runs}
+use Rattle.qs_model.specs.Steps.{happens, after, Runs}
 use Rattle.qs_model.specs.Histories.{IsEntry}
 use Rattle.qs_model.specs.Laws.{Undivided}
-use Rattle.qs_model.proofs.Basics.{put_here, same_or}
+use Rattle.qs_model.proofs.Basics.{put_here}
 use Rattle.qs_model.proofs.Geometry.{reached_outward}
-use Rattle.qs_model.proofs.Facts.{Shaped, Seats, Goes, IsAt, Well, Ok}
-use Rattle.qs_model.proofs.Holders.{some_none}
+use Rattle.qs_model.proofs.Facts.{Seats, Goes, IsAt, Well, Ok}
 use Rattle.qs_model.proofs.Kept.{step_ok, run_ok, runs_front, runs_back}
-use Rattle.qs_model.proofs.Working.{Works, entry_works, work_apart}
+use Rattle.qs_model.proofs.Working.{entry_works, work_apart}
 use Rattle.qs_model.proofs.Along.{IsLate, IsLast, Passed, Over, entry_late, late_moves, passed_lasts, over_lasts, last_entry, lasts_run, lasts_step, next_step, next_run}
 
 -- a request at its blocks has its place, where it has started, or does its End next

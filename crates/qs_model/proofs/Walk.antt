@@ -1,21 +1,16 @@
 -- One request's entries of one byte, from its Ask to its answer.
-use Rattle.std.proofs.Common.{◌≡◌, ◌≢◌, ℕ, ◌+◌, ◌-◌, ◌*◌, ◌/◌, ◌%◌, ◌<◌, ◌≤◌, ◌⊎◌, inl, inr, Bool, true, false, not, ◌&&◌, ◌==◌, cond, nat_lt, List, [], ◌∷◌, ◌++◌, get_or, Option, Some, None, refl, sym, ap, ◌∙◌, subst, arith, true≢false, eq-eqb, ne_eqb}
+use Rattle.std.proofs.Common.{◌≡◌, ◌≢◌, ℕ, ◌<◌, ◌≤◌, inl, inr, Bool, true, false, ◌==◌, cond, List, [], ◌∷◌, ◌++◌, Option, Some, None, refl, sym, ap, ◌∙◌, subst, arith, ne_eqb}
 use Rattle.std.specs.List.{filter}
 use Rattle.std.proofs.lemmas.List.Elements.{filter-append}
 use Rattle.qs_cells.specs.declared.cell.CellEntry.{CellEntry}
-use Rattle.qs_cells.specs.declared.cell.CellEntry.TheVariants.{Read, Write, Maybe, Crash}
-use Rattle.qs_bytes.specs.declared.ask.Verdict.{Verdict}
-use Rattle.qs_part.specs.declared.graph.Route.{Route}
-use Rattle.qs_part.specs.declared.stripe.Side.{Side}
-use Rattle.qs_model.specs.Puts.{put}
-use Rattle.qs_model.specs.Requests.{Client, Pads, Req, Step, Stage, Ready, Entering, In, covers, reads, writes, body_at, asked, abandon}
+use Rattle.qs_model.specs.Requests.{Client, Pads, Req, Stage, asked, abandon}
 use Rattle.qs_model.specs.Worlds.{World}
-use Rattle.qs_model.specs.Acts.{Act, Answers, Waits, Enters, Routes, Shuts, Lists, Starts, Loads, LoadFails, Holds, HoldFails, Stores, StoreFails, Frees, Ends, Element, Attached, NoExport, Crowded, Left, Detached, NotAttached, Asked, Did, Exported, Crashed}
+use Rattle.qs_model.specs.Acts.{Act, Loads, Stores, StoreFails, Element, Attached, NoExport, Crowded, Left, Detached, NotAttached, Asked, Did, Exported, Crashed}
 use Rattle.qs_model.specs.Guards.{May, MayDo}
 use Rattle.qs_model.specs.Steps.{moved, leaves, happens, after, Runs}
 use Rattle.qs_model.specs.Histories.{cell_of, cell_at, cell, is_of, reads_in, writes_in}
-use Rattle.qs_model.proofs.Basics.{choose, put_here, put_other, same_or}
-use Rattle.qs_model.proofs.Facts.{Shaped, Well, Ok}
+use Rattle.qs_model.proofs.Basics.{put_here, put_other, same_or}
+use Rattle.qs_model.proofs.Facts.{Shaped, Ok}
 use Rattle.qs_model.proofs.Holders.{HasMoved, some_none}
 use Rattle.qs_model.proofs.Kept.{step_ok}
 use Rattle.qs_model.proofs.Along.{lasts_run, gone_lasts, next_step}
@@ -62,16 +57,16 @@ inside x y e = cc
 pub due_same : (A x r : ℕ) (due : Req → List CellEntry → Type 0) (all es : List CellEntry) (w v : World) → v.req r ≡ w.req r → w.next ≡ v.next →
     Due A x r due all v es → Due A x r due all w es
 due_same A x r due all es w v same next h = record {
-    there = λ q is. h.there q (same ∙ is);
-    unmade = λ none old. h.unmade (same ∙ none) (subst (λ (n : ℕ). n ≤ r) next old)
+  there = λ q is. h.there q (same ∙ is);
+  unmade = λ none old. h.unmade (same ∙ none) (subst (λ (n : ℕ). n ≤ r) next old);
 }
 
 -- a session leaves
 pub due_left : (A x r : ℕ) (due : Req → List CellEntry → Type 0) (all es : List CellEntry) (w v : World) (s : ℕ) → Plan A x r due all → v.req r ≡ leaves s (w.req r) → w.next ≡ v.next →
     Due A x r due all v es → Due A x r due all w es
 due_left A x r due all es w v s plan same next h = record {
-    there = λ q is. go q (q.client.session == s) (h.there _ (same ∙ ap (leaves s) is));
-    unmade = λ none old. h.unmade (same ∙ ap (leaves s) none) (subst (λ (n : ℕ). n ≤ r) next old)
+  there = λ q is. go q (q.client.session == s) (h.there _ (same ∙ ap (leaves s) is));
+  unmade = λ none old. h.unmade (same ∙ ap (leaves s) none) (subst (λ (n : ℕ). n ≤ r) next old);
 }
   where
     go : (q : Req) (b : Bool) → due (cond b (abandon q) q) es → due q es
@@ -82,18 +77,19 @@ due_left A x r due all es w v s plan same next h = record {
 pub due_did : (A x r s : ℕ) (due : Req → List CellEntry → Type 0) (all es : List CellEntry) (w : World) (p : Req) (act : Act p.stage) → Plan A x r due all → Ok A w → May A w (Did s p act) →
     ((happens A w (Did s p act)).req r ≡ None → r < w.next → ⊥) → Due A x r due all (happens A w (Did s p act)) es → Due A x r due all w (filter (is_of r) (cell_of A x s p.client act) ++ es)
 due_did A x r s due all es w p act plan ok may gone h = elim (same_or s r) [
-    inl e ↦ record {
-        there = λ q is. subst (λ (n : ℕ). due q (filter (is_of r) (cell_of A x n p.client act) ++ es)) (sym e)
-            (subst (λ (y : Req). due y (filter (is_of r) (cell_of A x r p.client act) ++ es)) (inside p q (sym may.0 ∙ ap w.req e ∙ is)) (own e));
-        unmade = λ none old. absurd (some_none (sym may.0 ∙ ap w.req e ∙ none))
-    }
-    | inr n ↦ subst (λ (es' : List CellEntry). Due A x r due all w (es' ++ es)) (sym (foreign A x r s p.client act n))
-        (due_same A x r due all es w (happens A w (Did s p act)) (put_other w.req s _ r (λ f. n (sym f))) refl h)
-    ]
+  | inl e ↦ record {
+    there = λ q is. subst (λ (n : ℕ). due q (filter (is_of r) (cell_of A x n p.client act) ++ es)) (sym e)
+        (subst (λ (y : Req). due y (filter (is_of r) (cell_of A x r p.client act) ++ es)) (inside p q (sym may.0 ∙ ap w.req e ∙ is)) (own e));
+    unmade = λ none old. absurd (some_none (sym may.0 ∙ ap w.req e ∙ none));
+  }
+  | inr n ↦ subst (λ (es' : List CellEntry). Due A x r due all w (es' ++ es)) (sym (foreign A x r s p.client act n))
+      (due_same A x r due all es w (happens A w (Did s p act)) (put_other w.req s _ r (λ f. n (sym f))) refl h)
+]
   where
     moves : (o : Option Req) → moved A p.client p.dropped p.pads act ≡ o → s ≡ r → HasMoved (λ q. due q es) o
     moves None is e = gone (ap (happens A w (Did s p act)).req (sym e) ∙ put_here w.req s _ ∙ is) (subst (λ (n : ℕ). n < w.next) e (ok.below s p may.0))
     moves (Some q) is e = h.there q (ap (happens A w (Did s p act)).req (sym e) ∙ put_here w.req s _ ∙ is)
+
     own : s ≡ r → due p (filter (is_of r) (cell_of A x r p.client act) ++ es)
     own e = plan.own w p.client p.dropped p.pads act es (ok.well s p may.0).shaped may.1 (moves _ refl e)
 
@@ -101,15 +97,15 @@ due_did A x r s due all es w p act plan ok may gone h = elim (same_or s r) [
 pub due_asked : (A x r s : ℕ) (due : Req → List CellEntry → Type 0) (all es : List CellEntry) (w : World) (c : Client) → Plan A x r due all → May A w (Asked s c) → Ok A w →
     Due A x r due all (happens A w (Asked s c)) es → Due A x r due all w es
 due_asked A x r s due all es w c plan may ok h = elim (same_or s r) [
-    inl e ↦ record {
-        there = λ q is. let lt : r < w.next = ok.below r q is in let f : s ≡ w.next = may.next in absurd (omega arith);
-        unmade = λ none old. plan.made c es (h.there (asked c) (ap (happens A w (Asked s c)).req (sym e) ∙ put_here w.req s _))
-    }
-    | inr n ↦ record {
-        there = λ q is. h.there q (put_other w.req s _ r (λ f. n (sym f)) ∙ is);
-        unmade = λ none old. h.unmade (put_other w.req s _ r (λ f. n (sym f)) ∙ none) (let f : s ≡ w.next = may.next in omega arith)
-    }
-    ]
+  | inl e ↦ record {
+    there = λ q is. let lt : r < w.next = ok.below r q is in let f : s ≡ w.next = may.next in absurd (omega arith);
+    unmade = λ none old. plan.made c es (h.there (asked c) (ap (happens A w (Asked s c)).req (sym e) ∙ put_here w.req s _));
+  }
+  | inr n ↦ record {
+    there = λ q is. h.there q (put_other w.req s _ r (λ f. n (sym f)) ∙ is);
+    unmade = λ none old. h.unmade (put_other w.req s _ r (λ f. n (sym f)) ∙ none) (let f : s ≡ w.next = may.next in omega arith);
+  }
+]
 
 pub due_step : (A x r : ℕ) (due : Req → List CellEntry → Type 0) (all es : List CellEntry) (w : World) (e : Element) → Plan A x r due all → Ok A w → May A w e →
     ((happens A w e).req r ≡ None → r < w.next → ⊥) → Due A x r due all (happens A w e) es → Due A x r due all w (filter (is_of r) (cell_at A x e) ++ es)
@@ -123,16 +119,16 @@ due_step A x r due all es w (Asked s c) plan ok may gone h = due_asked A x r s d
 due_step A x r due all es w (Did s p act) plan ok may gone h = due_did A x r s due all es w p act plan ok may gone h
 due_step A x r due all es w (Exported e y) plan ok may gone h = due_same A x r due all es w (happens A w (Exported e y)) refl refl h
 due_step A x r due all es w (Crashed left) plan ok may gone h = record {
-    there = λ q is. absurd (gone refl (ok.below r q is));
-    unmade = λ none old. h.unmade refl old
+  there = λ q is. absurd (gone refl (ok.below r q is));
+  unmade = λ none old. h.unmade refl old;
 }
 
 -- what is due at the end was due all along
 pub due_run : (A x r : ℕ) (due : Req → List CellEntry → Type 0) (all : List CellEntry) (w : World) (es : List Element) (q : Req) → Plan A x r due all → 0 < A → Ok A w → Runs A w es →
     (after A w es).req r ≡ Some q → due q [] → Due A x r due all w (entries A x r es)
 due_run A x r due all w [] q plan pos ok run is end = record {
-    there = λ p there. subst (λ (y : Req). due y []) (inside q p (sym is ∙ there)) end;
-    unmade = λ none old. absurd (some_none (sym is ∙ none))
+  there = λ p there. subst (λ (y : Req). due y []) (inside q p (sym is ∙ there)) end;
+  unmade = λ none old. absurd (some_none (sym is ∙ none));
 }
 due_run A x r due all w (e ∷ es) q plan pos ok run is end =
     subst (λ (l : List CellEntry). Due A x r due all w l) (sym (entries_cons A x r e es))

@@ -1,15 +1,13 @@
 -- Requests that work on a block, and that two of them, one serialising, are one.
-use Rattle.std.proofs.Common.{◌≡◌, ◌≢◌, ℕ, ◌+◌, ◌*◌, ◌<◌, ◌≤◌, ◌⊎◌, inl, inr, Bool, true, false, not, ◌&&◌, ◌==◌, List, Option, Some, None, IsTrue, refl, sym, ap, ◌∙◌, subst, arith, true≢false}
-use Rattle.qs_bytes.specs.Spans.{Places, Covers, Overlap, aligned_out}
-use Rattle.qs_bytes.specs.declared.ask.Verdict.{Verdict}
-use Rattle.qs_part.specs.declared.graph.Route.{Route}
+use Rattle.std.proofs.Common.{◌≡◌, ℕ, ◌*◌, ◌<◌, inl, inr, Bool, true, Some, IsTrue, refl, sym, ◌∙◌, subst, arith}
+use Rattle.qs_bytes.specs.Spans.{Places, Covers, aligned_out}
 use Rattle.qs_part.specs.declared.stripe.Side.{Side}
 use Rattle.qs_part.specs.declared.stripe.Side.TheVariants.{Head, Tail}
-use Rattle.qs_model.specs.Requests.{Client, Pads, Req, Step, Stage, ToRoute, ToList, ToStart, ToLoad, ToHold, ToStore, ToFree, ToEnd, Ready, Entering, In, edge, has, span_of, serial, writes}
-use Rattle.qs_model.specs.Worlds.{Tracker, Listing, Seat, Has, Conflict, Hold, World}
+use Rattle.qs_model.specs.Requests.{Client, Req, Step, Stage, ToRoute, ToList, ToStart, ToLoad, ToHold, ToStore, ToFree, ToEnd, Ready, Entering, In, edge, has, span_of, serial, writes}
+use Rattle.qs_model.specs.Worlds.{Tracker, Listing, Has, Conflict, Hold, World}
 use Rattle.qs_model.specs.Acts.{Act, Answers, Waits, Enters, Routes, Shuts, Lists, Starts, Loads, LoadFails, Holds, HoldFails, Stores, StoreFails, Frees, Ends, block_of}
 use Rattle.qs_model.proofs.Geometry.{Reaches, reaches_edge, reached_outward, has_serial}
-use Rattle.qs_model.proofs.Facts.{Sound, Shaped, Fit, Sits, Goes, Seats, Seated, IsOpen, IsHolder, InOrder, IsAt, Well, Owner, Ok}
+use Rattle.qs_model.proofs.Facts.{Sound, Shaped, Goes, Seats, IsHolder, InOrder, IsAt, Well, Owner, Ok}
 use Rattle.qs_model.proofs.Holders.{some_none}
 
 -- a request at place k that has started, and works on block b

@@ -1,33 +1,29 @@
 -- A READ that is Got has read each byte once, a write that is Fine has written each once.
-use Rattle.std.proofs.Common.{◌≡◌, ◌≢◌, ℕ, ◌+◌, ◌-◌, ◌*◌, ◌/◌, ◌%◌, min, max, ◌<◌, ◌≤◌, ◌⊎◌, inl, inr, Bool, true, false, not, ◌&&◌, ◌==◌, cond, nat_lt, List, [], ◌∷◌, ◌++◌, length, get_or, take, drop, Option, Some, None, refl, sym, ap, ◌∙◌, subst, arith, true≢false, eq-eqb, ne_eqb, append-nil, append_assoc, length-append}
+use Rattle.std.proofs.Common.{◌≡◌, ℕ, ◌+◌, ◌/◌, ◌<◌, ◌≤◌, Bool, true, false, not, ◌&&◌, ◌==◌, cond, nat_lt, List, [], ◌∷◌, ◌++◌, Some, None, refl, sym, ap, subst, arith, true≢false, eq-eqb}
 use Rattle.std.specs.List.{filter}
-use Rattle.std.proofs.lemmas.List.{get_or_append_left, get_or-append-add, get_or-take, get_or-drop}
 use Rattle.qs_cells.specs.declared.cell.CellEntry.{CellEntry}
-use Rattle.qs_cells.specs.declared.cell.CellEntry.TheVariants.{Read, Write, Maybe, Crash}
+use Rattle.qs_cells.specs.declared.cell.CellEntry.TheVariants.{Write}
 use Rattle.qs_bytes.specs.declared.ask.Verdict.{Verdict}
 use Rattle.qs_bytes.specs.declared.ask.Verdict.TheVariants.{Got, Fine, Refused, Dropped}
-use Rattle.qs_part.specs.declared.graph.Route.{Route}
 use Rattle.qs_part.specs.declared.stripe.Side.{Side}
 use Rattle.qs_part.specs.declared.stripe.Side.TheVariants.{Head, Tail}
-use Rattle.qs_model.specs.Requests.{Client, Pads, Req, Step, Stage, ToRoute, ToList, ToStart, ToLoad, ToHold, ToStore, ToFree, ToEnd, Ready, Entering, In, edge, has, span_of, covers, reads, writes, body_at, asked, abandon, form_error, piece, success, routed, held, started, loaded, stored, hold_failed, store_failed, verdict}
+use Rattle.qs_model.specs.Requests.{Client, Pads, Req, Step, Stage, ToRoute, ToList, ToStart, ToHold, ToStore, ToEnd, Entering, In, edge, has, span_of, covers, reads, writes, body_at, asked, form_error, routed, held, started, loaded, stored, hold_failed, store_failed}
 use Rattle.qs_model.specs.Worlds.{World}
-use Rattle.qs_model.specs.Acts.{Act, Answers, Waits, Enters, Routes, Shuts, Lists, Starts, Loads, LoadFails, Holds, HoldFails, Stores, StoreFails, Frees, Ends, Element, Attached, NoExport, Crowded, Left, Detached, NotAttached, Asked, Did, Exported, Crashed}
-use Rattle.qs_model.specs.Guards.{May, MayDo}
-use Rattle.qs_model.specs.Steps.{moved, happens, after, Runs}
-use Rattle.qs_model.specs.Histories.{cell_of, cell, is_of, reads_in, writes_in, answer_of, Answered}
-use Rattle.qs_model.specs.Laws.{ReadsOnce, WritesOnce}
-use Rattle.qs_model.proofs.Basics.{choose, block_at, block_low, block_high, blocks_le, either}
-use Rattle.qs_model.proofs.Geometry.{Reaches, covered_reached, covers_low, covers_high, head_high, same_eqb}
-use Rattle.qs_model.proofs.Facts.{Shaped, IsBad, Loading, Storing, Well, Ok}
-use Rattle.qs_model.proofs.Machine.{other_block, length-piece}
+use Rattle.qs_model.specs.Acts.{Act, Answers, Waits, Enters, Routes, Shuts, Lists, Starts, Loads, LoadFails, Holds, HoldFails, Stores, StoreFails, Frees, Ends, Element}
+use Rattle.qs_model.specs.Guards.{MayDo}
+use Rattle.qs_model.specs.Steps.{moved, after, Runs}
+use Rattle.qs_model.specs.Histories.{cell_of, is_of, answer_of}
+use Rattle.qs_model.specs.Laws.{WritesOnce}
+use Rattle.qs_model.proofs.Basics.{choose}
+use Rattle.qs_model.proofs.Geometry.{Reaches, covers_low, covers_high, same_eqb}
+use Rattle.qs_model.proofs.Facts.{Shaped, IsBad, Storing, Ok}
 use Rattle.qs_model.proofs.Holders.{HasMoved, some_none}
 use Rattle.qs_model.proofs.Kept.{run_ok, runs_front, runs_back}
-use Rattle.qs_model.proofs.Walk.{Plan, Due, entries, due_run}
+use Rattle.qs_model.proofs.Walk.{Plan, due_run}
 use Rattle.qs_model.proofs.Once.{rest_of, join, join_last, place_reached, from_first, entry_here}
 use Rattle.qs_model.proofs.ReadsOnce.{answered_at}
 
 module _ (A : ℕ) (x : ℕ) (r : ℕ) (c : Client) (pos : 0 < A) (covered : covers c x ≡ true) where
-
   -- the one entry of a WRITE
   abbrev pub all_write : List CellEntry
   all_write = Write r (body_at c x) ∷ []
@@ -94,14 +90,15 @@ module _ (A : ℕ) (x : ℕ) (r : ℕ) (c : Client) (pos : 0 < A) (covered : cov
       let P : Step → Type 0 = λ g. stage_write d (In k g) es → stage_write d (In k (ToStore b)) (filter (is_of r) (cell_of A x r d (Stores {k = k} {b = b} block past)) ++ es) in
       choose P (b == edge A d Tail) _ _
       (λ e h.
-          let last : b ≡ edge A d Tail = same_eqb b (edge A d Tail) e in
-          let reach : Reaches A d (x / A) = place_reached A d x pos (own h.0) in
-          let le : x / A ≤ edge A d Tail = reach.last in
-          (h.0, join (x / A) b _ all_write es (entry h.0) (join_last (x / A) b all_write es (omega arith) h.2)))
+      let last : b ≡ edge A d Tail = same_eqb b (edge A d Tail) e in
+      let reach : Reaches A d (x / A) = place_reached A d x pos (own h.0) in
+      let le : x / A ≤ edge A d Tail = reach.last in
+      (h.0, join (x / A) b _ all_write es (entry h.0) (join_last (x / A) b all_write es (omega arith) h.2)))
       (λ e h. (h.0, join (x / A) b _ all_write es (entry h.0) h.1))
     where
       own : d ≡ c → covers d x ≡ true
       own same = subst (λ (y : Client). covers y x ≡ true) (sym same) covered
+
       entry : d ≡ c → filter (is_of r) (cell_of A x r d (Stores {k = k} {b = b} block past)) ≡ cond (x / A == b) all_write []
       entry same =
           entry_here r _ _ (writes d) (covers d x) (x / A == b) s.writing (own same) (eq-eqb r r refl)
@@ -141,9 +138,9 @@ module _ (A : ℕ) (x : ℕ) (r : ℕ) (c : Client) (pos : 0 < A) (covered : cov
 
   pub plan_write : Plan A x r due_write all_write
   plan_write = record {
-      own = λ w d b p act es fit may h. own_write w d b p act es fit may h;
-      left = λ q es h. absurd (true≢false h.0);
-      made = made_write
+    own = λ w d b p act es fit may h. own_write w d b p act es fit may h;
+    left = λ q es h. absurd (true≢false h.0);
+    made = made_write;
   }
 
   -- the WRITE at its answer

@@ -3,7 +3,7 @@ use Rattle.std.specs.Prelude.{ℕ, Bool, List, Option, Some, None}
 use Rattle.qs_bytes.specs.declared.ask.Verdict.{Verdict}
 use Rattle.qs_part.specs.declared.graph.Route.{Route}
 use Rattle.qs_part.specs.declared.stripe.Side.{Side}
-use Rattle.qs_model.specs.Requests.{Client, Req, Step, Stage, ToRoute, ToList, ToStart, ToLoad, ToHold, ToStore, ToFree, ToEnd, Ready, Entering, In, edge}
+use Rattle.qs_model.specs.Requests.{Client, Req, Stage, ToRoute, ToList, ToStart, ToLoad, ToHold, ToStore, ToFree, ToEnd, Ready, Entering, In, edge}
 use Rattle.qs_model.specs.Worlds.{Tracker, Listing, Export}
 
 -- an answer that isn't in the request table: the request stays where it is

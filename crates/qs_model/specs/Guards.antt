@@ -1,12 +1,9 @@
 -- When a step may happen: what the parts' tables say of each answer.
-use Rattle.std.specs.Prelude.{◌≡◌, ◌≢◌, ℕ, ◌+◌, ◌-◌, ◌*◌, ◌^◌, ◌<◌, ◌≤◌, ◌⊎◌, ◌↔◌, Bool, true, false, List, [], ◌∷◌, length, Option, Some, None, IsTrue, get_or, Contains}
+use Rattle.std.specs.Prelude.{◌≡◌, ◌≢◌, ℕ, ◌-◌, ◌^◌, ◌<◌, ◌≤◌, ◌⊎◌, ◌↔◌, true, false, List, [], length, Some, None, IsTrue, get_or, Contains, if◌then◌else◌}
 use Rattle.std.specs.List.{AllByRecursion}
-use Rattle.qs_bytes.specs.declared.ask.Verdict.{Verdict}
-use Rattle.qs_part.specs.declared.graph.Route.{Route}
 use Rattle.qs_part.specs.declared.stripe.Side.{Side}
-use Rattle.qs_bytes.specs.Spans.{aligned_out}
-use Rattle.qs_model.specs.Requests.{Client, Pads, Req, Step, Stage, ToRoute, ToList, ToStart, ToLoad, ToHold, ToStore, ToFree, ToEnd, Ready, Entering, In, edge, merged_at, no_route, writes, span_of, serial}
-use Rattle.qs_model.specs.Worlds.{Tracker, Listing, Seat, Vacant, Present, Has, Conflict, Hold, Image, stripe_of, Graph, Export, Session, Away, Live, Leaving, World, byte_at}
+use Rattle.qs_model.specs.Requests.{Client, Pads, Req, Stage, ToList, ToStart, ToHold, ToStore, ToFree, ToEnd, Entering, In, edge, merged_at, no_route, writes}
+use Rattle.qs_model.specs.Worlds.{Tracker, Listing, Seat, Vacant, Present, Has, Conflict, Hold, Image, stripe_of, Graph, Export, Away, Live, Leaving, World}
 use Rattle.qs_model.specs.Acts.{Act, Answers, Waits, Enters, Routes, Shuts, Lists, Starts, Loads, LoadFails, Holds, HoldFails, Stores, StoreFails, Frees, Ends, Wait, Quiesced, Full, NotYet, HeldBy, Taken, Strange, NotHeld, Element, Attached, NoExport, Crowded, Left, Detached, NotAttached, Asked, Did, Exported, Crashed}
 
 -- Enter: no quiesce stands, and k is the lowest free place
@@ -77,6 +74,10 @@ pub record CanStore (A : ℕ) (i : Image) (k : ℕ) (c : Client) (p : Pads) (b :
   pub merged : (x : ℕ) → x < A → get_or bytes x 0 ≡ merged_at A c p b x
   pub older : AllByRecursion (λ d. (d ≡ bytes) ⊎ Contains (i.past b) d) past
 
+-- a crash may leave what the block holds now, if it might before
+abbrev pub MayKeep : World → ℕ → List ℕ → List (List ℕ) → Type 0
+MayKeep w b now past = IsTrue w.tells → Contains (w.image.past b) (w.image.now b) → Contains past now
+
 -- the answers that leave a request where it is
 abbrev pub MayWait : ℕ → World → Client → Stage → Wait → Type 0
 MayWait A w c Entering Quiesced = w.tracker.quiesced ≡ true
@@ -105,9 +106,9 @@ MayDo A w c p (Loads {b = b} bytes) = CanRead A w b bytes
 MayDo A w c p LoadFails = Unit {0}
 MayDo A w c p (Holds {k = k} {side = side} bytes) = CanHold w.image k (edge A c side) side × CanRead A w (edge A c side) bytes
 MayDo A w c p (HoldFails {k = k} {side = side}) = CanHold w.image k (edge A c side) side
-MayDo A w c p (Stores {k = k} {b = b} bytes past) = CanStore A w.image k c p b bytes past × (IsTrue w.tells → Contains past bytes)
+MayDo A w c p (Stores {k = k} {b = b} bytes past) = CanStore A w.image k c p b bytes past × MayKeep w b bytes past
 MayDo A w c p (StoreFails {k = k} {b = b} bytes took past) =
-    CanStore A w.image k c p b bytes past × (IsTrue w.tells → (took ≡ true → Contains past bytes) × (took ≡ false → Contains past (w.image.now b)))
+    CanStore A w.image k c p b bytes past × MayKeep w b (if took then bytes else w.image.now b) past
 MayDo A w c p (Frees {k = k} {side = side}) = (h : Hold) × ((w.image.holder (edge A c side) ≡ Some h) × (h.place ≡ k))
 MayDo A w c p (Ends {k = k}) = w.tracker.seat k ≢ Vacant
 

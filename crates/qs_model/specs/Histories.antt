@@ -1,9 +1,9 @@
 -- What a run did to one byte, and where its requests were asked and answered.
-use Rattle.std.specs.Prelude.{◌≡◌, ℕ, ◌-◌, ◌/◌, ◌%◌, Bool, true, false, ◌&&◌, ◌==◌, if◌then◌else◌, List, [], ◌∷◌, ◌++◌, get_or, Option, Some, None}
+use Rattle.std.specs.Prelude.{◌≡◌, ℕ, ◌/◌, ◌%◌, Bool, true, false, ◌&&◌, ◌==◌, if◌then◌else◌, List, [], ◌∷◌, ◌++◌, get_or, Option, Some, None}
 use Rattle.qs_bytes.specs.declared.ask.Verdict.{Verdict}
 use Rattle.qs_cells.specs.declared.cell.CellEntry.{CellEntry}
 use Rattle.qs_cells.specs.declared.cell.CellEntry.TheVariants.{Read, Write, Maybe, Crash}
-use Rattle.qs_model.specs.Requests.{Client, Req, Stage, Ready, In, ToEnd, reads, writes, covers, body_at, verdict}
+use Rattle.qs_model.specs.Requests.{Client, Stage, reads, writes, covers, body_at, verdict}
 use Rattle.qs_part.specs.declared.graph.Route.{Route}
 use Rattle.qs_model.specs.Acts.{Act, Answers, Waits, Routes, Loads, Stores, StoreFails, Ends, Wait, HeldBy, Taken, Strange, NotHeld, Element, NotAttached, Asked, Did, Crashed, block_of}
 
@@ -71,6 +71,12 @@ abbrev pub IsStoreRow : {stage : Stage} → Act stage → Type 0
 IsStoreRow (Stores bytes past) = Unit {0}
 IsStoreRow (StoreFails bytes took past) = Unit {0}
 IsStoreRow _ = ⊥
+
+-- a row of Store that reaches the byte at x, by a write that covers it
+abbrev pub IsStoreOf : ℕ → ℕ → Client → {stage : Stage} → Act stage → Type 0
+IsStoreOf A x c (Stores {b = b} bytes past) = writes_in A c b x ≡ true
+IsStoreOf A x c (StoreFails {b = b} bytes took past) = writes_in A c b x ≡ true
+IsStoreOf A x c _ = ⊥
 
 -- a store by a request, done or refused
 abbrev pub IsStore : ℕ → Client → Element → Type 0

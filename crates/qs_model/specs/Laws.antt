@@ -1,29 +1,35 @@
 -- The laws of every run from an opening world, whichever actor is next and whatever the disks answer.
-use Rattle.std.specs.Prelude.{◌≡◌, ◌≢◌, ℕ, ◌-◌, ◌*◌, ◌<◌, ◌≤◌, ◌⊎◌, Bool, true, List, [], ◌∷◌, ◌++◌, length, filter, get_or, Option, Some, None, IsTrue}
-use Rattle.qs_bytes.specs.declared.ask.Verdict.{Verdict}
+use Rattle.std.specs.Prelude.{◌≡◌, ℕ, ◌-◌, ◌*◌, ◌≤◌, ◌⊎◌, Bool, true, List, [], ◌∷◌, ◌++◌, length, filter, get_or, IsTrue}
 use Rattle.qs_bytes.specs.declared.ask.Verdict.TheVariants.{Got, Fine}
 use Rattle.qs_bytes.specs.Spans.{Covers, aligned_out}
-use Rattle.qs_cells.specs.declared.cell.CellEntry.{CellEntry}
 use Rattle.qs_cells.specs.declared.cell.CellEntry.TheVariants.{Read, Write}
 use Rattle.qs_cells.specs.Cells.{value_after, Legal}
 use Rattle.qs_part.specs.declared.graph.Route.{Route}
-use Rattle.qs_model.specs.Requests.{Client, Req, span_of, covers, serial, body_at}
+use Rattle.qs_model.specs.Requests.{Client, span_of, covers, serial, body_at}
 use Rattle.qs_model.specs.Worlds.{Listing, Has, Conflict, Tracker, World, byte_at, new_world}
-use Rattle.qs_model.specs.Acts.{Act, Waits, Routes, Stores, StoreFails, HeldBy, Taken, Strange, NotHeld, Element, NotAttached, Did}
+use Rattle.qs_model.specs.Acts.{Element, Did, Crashed}
 use Rattle.qs_model.specs.Guards.{CanStart}
-use Rattle.qs_model.specs.Steps.{after, Runs}
-use Rattle.qs_model.specs.Histories.{cell, is_of, Acts, Answered, IsAnswer, IsAsk, IsStore, IsRouted, IsOddStep, IsEntry}
+use Rattle.qs_model.specs.Steps.{after}
+use Rattle.qs_model.specs.Histories.{cell, is_of, Acts, Answered, IsAnswer, IsAsk, IsStore, IsStoreOf, IsRouted, IsOddStep, IsEntry}
 
 -- the core over disks with this content, as it was made
 abbrev pub opening : Bool → (ℕ → List ℕ) → World
 opening tells now = new_world tells 0 now
 
+-- a step that may change the byte at x: a store by a write that covers it, or a crash
+abbrev pub Alters : ℕ → ℕ → Element → Type 0
+Alters A x (Did r q act) = IsStoreOf A x q.client act
+Alters A x (Crashed left) = Unit {0}
+Alters A x _ = ⊥
+
 -- Each byte's reads and writes are one legal history of a single cell, and at every position the
--- byte is what that history leaves.
+-- byte is what that history leaves. No other step changes it.
 pub record Cells (A : ℕ) (w : World) (es : List Element) : Type 0 where
   pub legal : (x : ℕ) → Legal (byte_at A w.image x) (cell A x es)
   pub now : (x : ℕ) (before behind : List Element) → es ≡ before ++ behind →
       byte_at A (after A w before).image x ≡ value_after (byte_at A w.image x) (cell A x before)
+  pub still : (x : ℕ) (before behind : List Element) (e : Element) → es ≡ before ++ e ∷ behind → (Alters A x e → ⊥) →
+      byte_at A (after A w (before ++ e ∷ [])).image x ≡ byte_at A (after A w before).image x
 
 -- some step made the request
 abbrev pub WasAsked : ℕ → List Element → Type 0
@@ -39,10 +45,13 @@ Unanswered r (e ∷ es) = (IsAnswer r e → ⊥) × Unanswered r es
 abbrev pub Between : List Element → Type 0
 Between es = (r : ℕ) (before behind : List Element) (e : Element) → es ≡ before ++ e ∷ behind → Acts r e → WasAsked r before × Unanswered r before
 
--- A READ that is Got has read each byte that it covers exactly once, and its reply has that value.
-abbrev pub ReadsOnce : ℕ → List Element → Type 0
-ReadsOnce A es = (r : ℕ) (c : Client) (bytes : List ℕ) (before behind : List Element) (e : Element) → es ≡ before ++ e ∷ behind → Answered r c (Got bytes) e →
-    (x : ℕ) → covers c x ≡ true → filter (is_of r) (cell A x before) ≡ Read r (get_or bytes (x - (span_of c).lo) 0) ∷ []
+-- A READ that is Got has as many bytes as were asked for. It has read each byte that it covers
+-- exactly once, and its reply has that value.
+pub record ReadsOnce (A : ℕ) (es : List Element) : Type 0 where
+  pub whole : (r : ℕ) (c : Client) (bytes : List ℕ) (before behind : List Element) (e : Element) → es ≡ before ++ e ∷ behind → Answered r c (Got bytes) e →
+      length bytes ≡ c.ask.length
+  pub once : (r : ℕ) (c : Client) (bytes : List ℕ) (before behind : List Element) (e : Element) → es ≡ before ++ e ∷ behind → Answered r c (Got bytes) e →
+      (x : ℕ) → covers c x ≡ true → filter (is_of r) (cell A x before) ≡ Read r (get_or bytes (x - (span_of c).lo) 0) ∷ []
 
 -- A write that is Fine has written each byte that it covers exactly once, and no disk refused it.
 abbrev pub WritesOnce : ℕ → List Element → Type 0

@@ -1,5 +1,5 @@
 -- The state of the core: sessions, requests, graph, tracker and image.
-use Rattle.std.specs.Prelude.{◌≡◌, ◌≢◌, ℕ, ◌<◌, ◌/◌, ◌%◌, ◌⊎◌, Bool, true, false, List, [], ◌∷◌, Option, Some, None, IsTrue, get_or}
+use Rattle.std.specs.Prelude.{ℕ, ◌/◌, ◌%◌, ◌⊎◌, Bool, true, false, List, [], ◌∷◌, Option, None, IsTrue, get_or}
 use Rattle.qs_bytes.specs.Spans.{Places, Overlap}
 use Rattle.qs_part.specs.declared.graph.Route.{Route}
 use Rattle.qs_part.specs.declared.stripe.Side.{Side}

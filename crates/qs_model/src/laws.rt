@@ -1,7 +1,7 @@
 ghost use Rattle.std.specs.Prelude.{ℕ, ◌<◌, Bool, List, IsTrue};
 ghost use Rattle.qs_model.specs.Acts.{Element};
 ghost use Rattle.qs_model.specs.Steps.{Runs};
-ghost use Rattle.qs_model.specs.Laws.{opening, Cells, Between, Undivided, NeverOdd, Writable, Tracked};
+ghost use Rattle.qs_model.specs.Laws.{opening, Cells, Between, ReadsOnce, WritesOnce, Undivided, NeverOdd, Writable, Tracked, Headline};
 
 /// Each byte's reads and writes are one legal history of a single cell, and the byte is what that
 /// history leaves, at every position of every run over disks that tell their content. Only a write
@@ -42,4 +42,24 @@ pub fn writable()
 pub fn tracked()
     ensures { (A : ℕ) (tells : Bool) (now : ℕ → List ℕ) (es : List Element) → 0 < A →
         Runs A (opening tells now) es → Tracked A (opening tells now) es }
+{}
+
+/// A READ that is Got has read each byte that it covers exactly once, and its reply has that value.
+pub fn reads_once()
+    ensures { (A : ℕ) (tells : Bool) (now : ℕ → List ℕ) (es : List Element) → 0 < A →
+        Runs A (opening tells now) es → ReadsOnce A es }
+{}
+
+/// A write that is Fine has written each byte that it covers exactly once, and no disk refused one
+/// of its stores.
+pub fn writes_once()
+    ensures { (A : ℕ) (tells : Bool) (now : ℕ → List ℕ) (es : List Element) → 0 < A →
+        Runs A (opening tells now) es → WritesOnce A es }
+{}
+
+/// The laws together, of every run from an opening world, whichever actor is next and whatever the
+/// disks answer. Of the bytes they speak where the disks tell their content.
+pub fn headline()
+    ensures { (A : ℕ) (tells : Bool) (now : ℕ → List ℕ) (es : List Element) → 0 < A →
+        Runs A (opening tells now) es → Headline A (opening tells now) es }
 {}

@@ -13,9 +13,14 @@ pub enum Actor {
 #[derive(Debug, Drop)]
 pub enum Event {
     /// A session begins, at the export of that name.
-    Attach { session: u32, name: Name },
+    Attach {
+        session: u32,
+        name: Name,
+    },
     /// A session leaves; its requests are abandoned.
-    Leave { session: u32 },
+    Leave {
+        session: u32,
+    },
     /// A session asks for something. The body is a WRITE's bytes or a READ's buffer.
     Ask {
         session: u32,
@@ -23,7 +28,10 @@ pub enum Event {
         body: Option<Bytes>,
     },
     /// An actor does its next operation.
-    Step { actor: Actor, now: u64 },
+    Step {
+        actor: Actor,
+        now: u64,
+    },
 }
 
 /// The kinds of operations.

@@ -39,13 +39,21 @@ pub enum GraphOp {
         share_write: bool,
     },
     /// Looks an export up by its name; the empty name is the export that was made first.
-    Find { name: Name },
+    Find {
+        name: Name,
+    },
     /// Looks an export up and counts one more client of it.
-    Attach { name: Name },
+    Attach {
+        name: Name,
+    },
     /// Counts one client less of the export at place `e`.
-    Detach { e: u8 },
+    Detach {
+        e: u8,
+    },
     /// Asks for the way from the export at place `e` to the image.
-    Route { e: u8 },
+    Route {
+        e: u8,
+    },
 }
 
 /// What the graph answers.

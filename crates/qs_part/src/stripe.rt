@@ -12,7 +12,11 @@ pub enum Side {
 #[derive(Debug, Drop)]
 pub enum StripeOp {
     /// Reads the block.
-    Load { b: u64, k: u8, buf: Bytes },
+    Load {
+        b: u64,
+        k: u8,
+        buf: Bytes,
+    },
     /// Reads the block and holds it for `k`.
     Hold {
         b: u64,
@@ -21,9 +25,16 @@ pub enum StripeOp {
         buf: Bytes,
     },
     /// Writes the block, and gives up the hold of `k` on it.
-    Store { b: u64, k: u8, buf: Bytes },
+    Store {
+        b: u64,
+        k: u8,
+        buf: Bytes,
+    },
     /// Gives up the hold of `k` on the block.
-    Free { b: u64, k: u8 },
+    Free {
+        b: u64,
+        k: u8,
+    },
 }
 
 /// What a stripe answers.

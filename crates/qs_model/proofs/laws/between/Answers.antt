@@ -1,5 +1,4 @@
-use Rattle.std.proofs.Common.{ℕ, Bool, List, refl}
-use Rattle.qs_model.specs.Acts.{Element}
+use Rattle.std.proofs.Common.{refl}
 use Rattle.qs_model.specs.Laws.{opening}
 use Rattle.qs_model.proofs.Kept.{new_ok}
 use Rattle.qs_model.proofs.Between.{between as law}
