@@ -1,0 +1,199 @@
+-- What a request does stands between its Ask and its answer; its stores on a way that the graph gave.
+use Rattle.std.proofs.Common.{◌≡◌, ℕ, ◌<◌, ◌≤◌, ◌⊎◌, inl, inr, Bool, true, List, [], ◌∷◌, ◌++◌, Option, Some, None, refl, sym, ap, ◌∙◌, subst, arith}
+use Rattle.qs_bytes.specs.declared.ask.Verdict.{Verdict}
+use Rattle.qs_part.specs.declared.graph.Route.{Route}
+use Rattle.qs_model.specs.Requests.{Client, Pads, Req, Stage, ToRoute, ToList, ToStart, ToLoad, ToHold, ToStore, ToFree, ToEnd, Ready, Entering, In, asked, form_error, abandoned}
+use Rattle.qs_model.specs.Worlds.{Tracker, World}
+use Rattle.qs_model.specs.Acts.{Act, Answers, Waits, Enters, Routes, Shuts, Lists, Starts, Loads, LoadFails, Holds, HoldFails, Stores, StoreFails, Frees, Ends, Element, Attached, NoExport, Crowded, Left, Detached, NotAttached, Asked, Did, Exported, Crashed}
+use Rattle.qs_model.specs.Guards.{May}
+use Rattle.qs_model.specs.Steps.{moved, leaves, happens, after, Runs}
+use Rattle.qs_model.specs.Histories.{answer_of, Acts, IsAnswer, IsAsk, IsStore, IsStoreRow, IsRouted, IsRouteRow}
+use Rattle.qs_model.specs.Laws.{Between, WasAsked, Unanswered, Writable, WasRouted, Ordered, Tracked}
+use Rattle.qs_model.proofs.Basics.{choose, put_here, put_tells}
+use Rattle.qs_model.proofs.Facts.{Shaped, InOrder, Ok}
+use Rattle.qs_model.proofs.Machine.{ForMoved}
+use Rattle.qs_model.proofs.Holders.{some_none}
+use Rattle.qs_model.proofs.Kept.{step_ok, run_ok, runs_front, runs_back, for_moved, leaves_tells}
+use Rattle.qs_model.proofs.Working.{started_apart}
+use Rattle.qs_model.proofs.Along.{gone_lasts, lasts_run, next_step}
+
+-- only an Ask makes a request
+pub appears : (A : ℕ) (w : World) (e : Element) (r : ℕ) (q : Req) → May A w e → w.req r ≡ None → (happens A w e).req r ≡ Some q → IsAsk r e
+appears A w (Attached s name e) r q may none is = absurd (some_none (sym is ∙ none))
+appears A w (NoExport s name) r q may none is = absurd (some_none (sym is ∙ none))
+appears A w (Crowded s name) r q may none is = absurd (some_none (sym is ∙ none))
+appears A w (Left s e) r q may none is = absurd (some_none (sym is ∙ ap (leaves s) none))
+appears A w (Detached s e) r q may none is = absurd (some_none (sym is ∙ none))
+appears A w (NotAttached s e) r q may none is = absurd (some_none (sym is ∙ none))
+appears A w (Asked s c) r q may none is = elim (put_tells w.req s _ r (Some q) is) [ inl e ↦ sym e.0 | inr e ↦ absurd (some_none (sym e.1 ∙ none)) ]
+appears A w (Did s p act) r q may none is =
+    elim (put_tells w.req s _ r (Some q) is) [ inl e ↦ absurd (some_none (sym (ap w.req e.0 ∙ may.0) ∙ none)) | inr e ↦ absurd (some_none (sym e.1 ∙ none)) ]
+appears A w (Exported e x) r q may none is = absurd (some_none (sym is ∙ none))
+appears A w (Crashed left) r q may none is = absurd (some_none (sym is))
+
+pub was_asked : (A : ℕ) (w : World) (es : List Element) (r : ℕ) (q : Req) → Runs A w es → w.req r ≡ None → (after A w es).req r ≡ Some q → WasAsked r es
+was_asked A w [] r q run none is = absurd (some_none (sym is ∙ none))
+was_asked A w (e ∷ es) r q run none is = go ((happens A w e).req r) refl (λ n. was_asked A (happens A w e) es r q run.1 n is)
+  where
+    go : (o : Option Req) → (happens A w e).req r ≡ o → ((happens A w e).req r ≡ None → WasAsked r es) → WasAsked r (e ∷ es)
+    go None there later = inr (later there)
+    go (Some p) there later = inl (appears A w e r p run.0 none there)
+
+-- a request that has answered is gone
+pub answer_gone : (A : ℕ) (c : Client) (d : Bool) (p : Pads) {stage : Stage} (act : Act stage) (v : Verdict) → answer_of d act ≡ Some v → moved A c d p act ≡ None
+answer_gone A c d p Answers v is = refl
+answer_gone A c d p Ends v is = refl
+answer_gone A c d p _ v is = absurd (some_none (sym is))
+
+pub answer_ends : (A : ℕ) (w : World) (r : ℕ) (e : Element) → Ok A w → May A w e → IsAnswer r e → ((happens A w e).req r ≡ None) × (r < w.next)
+answer_ends A w r (Did s q act) ok may is =
+    let (same, (v, answer)) = is in (
+      ap (happens A w (Did s q act)).req (sym same) ∙ put_here w.req s _ ∙ answer_gone A q.client q.dropped q.pads act v answer,
+      subst (λ (n : ℕ). n < w.next) same (ok.below s q may.0),
+    )
+answer_ends A w r _ ok may is = absurd is
+
+pub unanswered : (A : ℕ) (w : World) (es : List Element) (r : ℕ) (q : Req) → 0 < A → Ok A w → Runs A w es → (after A w es).req r ≡ Some q → Unanswered r es
+unanswered A w [] r q pos ok run is = tt
+unanswered A w (e ∷ es) r q pos ok run is = (
+  (λ answer. let (none, made) = answer_ends A w r e ok run.0 answer in
+      some_none (sym is ∙ lasts_run A _ (gone_lasts A) (happens A w e) es r run.1 (next_step A w e r made) none)),
+  unanswered A (happens A w e) es r q pos (step_ok A w e pos ok run.0) run.1 is,
+)
+
+pub acts_at : (A : ℕ) (w : World) (r : ℕ) (e : Element) → May A w e → Acts r e → (q : Req) × (w.req r ≡ Some q)
+acts_at A w r (Did s q act) may is = (q, ap w.req (sym is) ∙ may.0)
+acts_at A w r _ may is = absurd is
+
+pub between : (A : ℕ) (w : World) (es : List Element) → 0 < A → Ok A w → ((r : ℕ) → w.req r ≡ None) → Runs A w es → Between es
+between A w es pos ok none run r before behind e split acts =
+    let run' : Runs A w (before ++ e ∷ behind) = subst (λ (l : List Element). Runs A w l) split run in
+    let front : Runs A w before = runs_front A w before _ run' in
+    let last : Runs A (after A w before) (e ∷ behind) = runs_back A w before _ run' in
+    let (q, is) = acts_at A (after A w before) r e last.0 acts in
+    (was_asked A w before r q front (none r) is, unanswered A w before r q pos ok front is)
+
+-- the stages between the way and the answer
+abbrev pub IsGoing : Stage → Type 0
+IsGoing (In k ToRoute) = ⊥
+IsGoing (In k (ToEnd v)) = ⊥
+IsGoing (In k step) = Unit {0}
+IsGoing _ = ⊥
+
+pub back_route : (A : ℕ) (c : Client) (d : Bool) (p : Pads) {stage : Stage} (act : Act stage) →
+    ForMoved (λ q. IsGoing q.stage → (IsGoing stage × (c.route ≡ q.client.route)) ⊎ IsRouteRow act q.client.route) (moved A c d p act)
+back_route A c d p Answers = tt
+back_route A c d p (Waits wait) = λ going. inl (going, refl)
+back_route A c d p (Enters k) = λ going. absurd going
+back_route A c d p (Routes route) = λ going. inr refl
+back_route A c d p Shuts = λ going. absurd going
+back_route A c d p (Lists numbered) = λ going. inl (tt, refl)
+back_route A c d p (Starts l) = λ going. inl (tt, refl)
+back_route A c d p (Loads bytes) = λ going. inl (tt, refl)
+back_route A c d p LoadFails = λ going. absurd going
+back_route A c d p (Holds bytes) = λ going. inl (tt, refl)
+back_route A c d p HoldFails = λ going. inl (tt, refl)
+back_route A c d p (Stores bytes past) = λ going. inl (tt, refl)
+back_route A c d p (StoreFails bytes took past) = λ going. inl (tt, refl)
+back_route A c d p Frees = λ going. absurd going
+back_route A c d p Ends = tt
+
+pub abandoned_going : (g : Stage) → IsGoing (abandoned g) → IsGoing g
+abandoned_going (Ready v) going = going
+abandoned_going Entering going = going
+abandoned_going (In k ToRoute) going = going
+abandoned_going (In k ToList) going = absurd going
+abandoned_going (In k ToStart) going = going
+abandoned_going (In k (ToLoad b got)) going = going
+abandoned_going (In k (ToHold side)) going = going
+abandoned_going (In k (ToStore b)) going = going
+abandoned_going (In k (ToFree side)) going = going
+abandoned_going (In k (ToEnd v)) going = going
+
+pub asked_going : (c : Client) → IsGoing (asked c).stage → ⊥
+asked_going c =
+    let P : Stage → Type 0 = λ g. IsGoing g → ⊥ in
+    choose P (form_error c.ask) _ _ (λ e g. g) (λ e. choose P c.buffered _ _ (λ f g. g) (λ f g. g))
+
+-- a request with this way goes in this state
+pub record Goer (w : World) (r : ℕ) (route : Route) : Type 0 where
+  pub request : Req
+  pub is : w.req r ≡ Some request
+  pub going : IsGoing request.stage
+  pub way : request.client.route ≡ route
+
+pub goer_before : (A : ℕ) (w : World) (e : Element) (r : ℕ) (route : Route) → May A w e → Goer (happens A w e) r route → Goer w r route ⊎ IsRouted r route e
+goer_before A w (Attached s name e) r route may g = inl (record { request = g.request; is = g.is; going = g.going; way = g.way })
+goer_before A w (NoExport s name) r route may g = inl g
+goer_before A w (Crowded s name) r route may g = inl g
+goer_before A w (Left s e) r route may g =
+    let (q, (there, which)) = leaves_tells s (w.req r) g.request g.is in
+    inl (elim which [
+      | inl f ↦ record { request = q; is = there; going = subst (λ (x : Req). IsGoing x.stage) f g.going; way = ap (λ (x : Req). x.client.route) (sym f) ∙ g.way }
+      | inr f ↦ record {
+        request = q;
+        is = there;
+        going = abandoned_going q.stage (subst (λ (x : Req). IsGoing x.stage) f g.going);
+        way = ap (λ (x : Req). x.client.route) (sym f) ∙ g.way;
+      }
+    ])
+goer_before A w (Detached s e) r route may g = inl (record { request = g.request; is = g.is; going = g.going; way = g.way })
+goer_before A w (NotAttached s e) r route may g = inl g
+goer_before A w (Asked s c) r route may g = elim (put_tells w.req s _ r (Some g.request) g.is) [
+  | inl e ↦ absurd (asked_going c (subst (λ (x : Req). IsGoing x.stage) (sym (inside (asked c) g.request e.1)) g.going))
+  | inr e ↦ inl (record { request = g.request; is = e.1; going = g.going; way = g.way })
+]
+  where
+    inside : (x y : Req) → Some x ≡ Some y → x ≡ y
+    inside x y e = cc
+goer_before A w (Did s q act) r route may g = elim (put_tells w.req s _ r (Some g.request) g.is) [
+  | inl e ↦ elim (for_moved (λ x. IsGoing x.stage → (IsGoing q.stage × (q.client.route ≡ x.client.route)) ⊎ IsRouteRow act x.client.route) _ g.request
+      (back_route A q.client q.dropped q.pads act) e.1 g.going) [
+        | inl f ↦ inl (record { request = q; is = ap w.req e.0 ∙ may.0; going = f.0; way = f.1 ∙ g.way })
+        | inr f ↦ inr (sym e.0, subst (λ (x : Route). IsRouteRow act x) g.way f)
+      ]
+  | inr e ↦ inl (record { request = g.request; is = e.1; going = g.going; way = g.way })
+]
+goer_before A w (Exported e x) r route may g = inl (record { request = g.request; is = g.is; going = g.going; way = g.way })
+goer_before A w (Crashed left) r route may g = absurd (some_none (sym g.is))
+
+pub was_routed : (A : ℕ) (w : World) (es : List Element) (r : ℕ) (route : Route) → Runs A w es → Goer (after A w es) r route → Goer w r route ⊎ WasRouted r route es
+was_routed A w [] r route run g = inl g
+was_routed A w (e ∷ es) r route run g = elim (was_routed A (happens A w e) es r route run.1 g) [
+  | inl h ↦ elim (goer_before A w e r route run.0 h) [ inl k ↦ inl k | inr k ↦ inr (inl k) ]
+  | inr h ↦ inr (inr h)
+]
+
+-- a row of Store is by a request that may write
+pub store_row : (A : ℕ) (c : Client) {stage : Stage} (act : Act stage) → Shaped A c stage → IsStoreRow act → (c.route.writable ≡ true) × IsGoing stage
+store_row A c (Stores bytes past) fit is = (fit.sound.writable fit.writing, tt)
+store_row A c (StoreFails bytes took past) fit is = (fit.sound.writable fit.writing, tt)
+store_row A c _ fit is = absurd is
+
+pub store_at : (A : ℕ) (w : World) (r : ℕ) (c : Client) (e : Element) → Ok A w → May A w e → IsStore r c e → (c.route.writable ≡ true) × Goer w r c.route
+store_at A w r c (Did s q act) ok may is =
+    let (same, client, row) = is in
+    let (writable, going) = store_row A q.client act (ok.well s q may.0).shaped row in (
+      subst (λ (x : Client). x.route.writable ≡ true) client writable,
+      record { request = q; is = ap w.req (sym same) ∙ may.0; going = going; way = ap (λ (x : Client). x.route) client },
+    )
+store_at A w r c _ ok may is = absurd is
+
+pub writable : (A : ℕ) (w : World) (es : List Element) → 0 < A → Ok A w → ((r : ℕ) → w.req r ≡ None) → Runs A w es → Writable es
+writable A w es pos ok none run r c before behind e split store =
+    let run' : Runs A w (before ++ e ∷ behind) = subst (λ (l : List Element). Runs A w l) split run in
+    let front : Runs A w before = runs_front A w before _ run' in
+    let last : Runs A (after A w before) (e ∷ behind) = runs_back A w before _ run' in
+    let (may_write, goer) = store_at A (after A w before) r c e (run_ok A w before pos ok front) last.0 store in
+    (may_write, elim (was_routed A w before r c.route front goer) [ inl g ↦ absurd (some_none (sym g.is ∙ none r)) | inr h ↦ h ])
+
+-- the listed spans
+pub ordered : (t : Tracker) → InOrder t → Ordered t
+ordered t order = record {
+  apart = λ j k l m a b s u conflict. started_apart t j k l m order a b s u conflict;
+  lowest = λ k l is low. record { listed = is; clear = λ j m there less conflict. let le : l.number ≤ m.number = low j m there in omega arith };
+}
+
+pub tracked : (A : ℕ) (w : World) (es : List Element) → 0 < A → Ok A w → Runs A w es → Tracked A w es
+tracked A w es pos ok run before behind split =
+    ordered _ (run_ok A w before pos ok (runs_front A w before behind (subst (λ (l : List Element). Runs A w l) split run))).tracker

@@ -1,0 +1,157 @@
+-- What every state of a run keeps.
+use Rattle.std.proofs.Common.{◌≡◌, ◌≢◌, ℕ, ◌-◌, ◌*◌, max, ◌<◌, ◌⊎◌, Bool, true, false, List, [], ◌∷◌, length, Option, Some, IsTrue}
+use Rattle.qs_bytes.specs.Spans.{aligned_out}
+use Rattle.qs_bytes.specs.declared.ask.Verdict.{Verdict}
+use Rattle.qs_bytes.specs.declared.ask.Verdict.TheVariants.{Got, Fine, Refused, Dropped}
+use Rattle.qs_part.specs.declared.stripe.Side.{Side}
+use Rattle.qs_part.specs.declared.stripe.Side.TheVariants.{Head, Tail}
+use Rattle.qs_model.specs.Requests.{Client, Pads, Req, Step, Stage, ToRoute, ToList, ToStart, ToLoad, ToHold, ToStore, ToFree, ToEnd, Ready, Entering, In, edge, has, span_of, serial, reads, writes, pad}
+use Rattle.qs_model.specs.Worlds.{Tracker, Listing, Vacant, Present, Has, Conflict, Hold, Image, Session, Away, Live, Leaving, World}
+use Rattle.qs_model.proofs.Geometry.{Reaches}
+
+-- a READ or a WRITE
+abbrev pub IsKind : Client → Type 0
+IsKind c = reads c ≡ false → writes c ≡ true
+
+-- a request that has its way and something to do
+pub record Sound (c : Client) : Type 0 where
+  pub kind : IsKind c
+  pub some : (span_of c).lo < (span_of c).hi
+  pub writable : writes c ≡ true → c.route.writable ≡ true
+
+-- a verdict that is no success
+abbrev pub IsBad : Verdict → Type 0
+IsBad (Got bytes) = ⊥
+IsBad Fine = ⊥
+IsBad (Refused e) = Unit {0}
+IsBad Dropped = Unit {0}
+
+pub record Loading (A : ℕ) (c : Client) (b : ℕ) (got : List ℕ) : Type 0 where
+  pub sound : Sound c
+  pub reading : reads c ≡ true
+  pub reach : Reaches A c b
+  pub so_far : length got ≡ max (span_of c).lo (b * A) - (span_of c).lo
+
+pub record Holding (A : ℕ) (c : Client) (side : Side) : Type 0 where
+  pub sound : Sound c
+  pub writing : writes c ≡ true
+  pub wanted : has A c side ≡ true
+
+pub record Storing (A : ℕ) (c : Client) (b : ℕ) : Type 0 where
+  pub sound : Sound c
+  pub writing : writes c ≡ true
+  pub reach : Reaches A c b
+
+-- a READ that is Got has as many bytes as were asked for
+abbrev pub IsWhole : Client → Verdict → Type 0
+IsWhole c (Got bytes) = length bytes ≡ c.ask.length
+IsWhole c _ = Unit {0}
+
+-- what the machine of one request keeps
+abbrev pub Fit : ℕ → Client → Step → Type 0
+Fit A c ToRoute = IsKind c
+Fit A c ToList = Sound c
+Fit A c ToStart = Sound c
+Fit A c (ToLoad b got) = Loading A c b got
+Fit A c (ToHold side) = Holding A c side
+Fit A c (ToStore b) = Storing A c b
+Fit A c (ToFree side) = Holding A c side
+Fit A c (ToEnd v) = IsWhole c v
+
+abbrev pub Shaped : ℕ → Client → Stage → Type 0
+Shaped A c (Ready v) = IsBad v
+Shaped A c Entering = IsKind c
+Shaped A c (In k step) = Fit A c step
+
+-- the request's span is listed at its place
+pub record Sits (A : ℕ) (t : Tracker) (c : Client) (k : ℕ) : Type 0 where
+  pub own : Listing
+  pub is : t.seat k ≡ Has own
+  pub span : own.span ≡ aligned_out (span_of c) A
+  pub serial : own.serial ≡ serial A c
+
+-- and started
+pub record Goes (A : ℕ) (t : Tracker) (c : Client) (k : ℕ) : Type 0 where
+  pub sits : Sits A t c k
+  pub started : sits.own.started ≡ true
+
+abbrev pub Seated : ℕ → Tracker → Client → ℕ → Step → Type 0
+Seated A t c k ToRoute = t.seat k ≡ Present
+Seated A t c k ToList = t.seat k ≡ Present
+Seated A t c k ToStart = Sits A t c k
+Seated A t c k (ToLoad b got) = Goes A t c k
+Seated A t c k (ToHold side) = Goes A t c k
+Seated A t c k (ToStore b) = Goes A t c k
+Seated A t c k (ToFree side) = Goes A t c k
+Seated A t c k (ToEnd v) = t.seat k ≢ Vacant
+
+abbrev pub Seats : ℕ → Tracker → Client → Stage → Type 0
+Seats A t c (In k step) = Seated A t c k step
+Seats A t c _ = Unit {0}
+
+-- the holds that are open at a step
+abbrev pub IsOpen : ℕ → Client → Step → Side → Type 0
+IsOpen A c (ToHold Tail) Head = has A c Head ≡ true
+IsOpen A c (ToStore b) Head = (has A c Head ≡ true) × (b ≡ edge A c Head)
+IsOpen A c (ToStore b) Tail = has A c Tail ≡ true
+IsOpen A c (ToFree Head) Head = Unit {0}
+IsOpen A c (ToFree Tail) Tail = Unit {0}
+IsOpen A c _ _ = ⊥
+
+-- an open hold: the block is held, and holds what the pad has
+pub record Held (A : ℕ) (tells : Bool) (i : Image) (c : Client) (p : Pads) (k : ℕ) (side : Side) : Type 0 where
+  pub held : i.holder (edge A c side) ≡ Some (record { place = k; side = side })
+  pub same : IsTrue tells → i.now (edge A c side) ≡ pad p side
+
+abbrev pub Keeps : ℕ → Bool → Image → Client → Pads → Stage → Type 0
+Keeps A tells i c p (In k step) = (side : Side) → IsOpen A c step side → Held A tells i c p k side
+Keeps A tells i c p _ = Unit {0}
+
+-- all that is kept of one request
+pub record Well (A : ℕ) (tells : Bool) (t : Tracker) (i : Image) (q : Req) : Type 0 where
+  pub shaped : Shaped A q.client q.stage
+  pub seated : Seats A t q.client q.stage
+  pub kept : Keeps A tells i q.client q.pads q.stage
+
+-- the tracker: numbers are distinct and below the next one, and nothing that was listed before a
+-- started span conflicts with it
+pub record InOrder (t : Tracker) : Type 0 where
+  pub below : (k : ℕ) (l : Listing) → t.seat k ≡ Has l → l.number < t.number
+  pub one : (j k : ℕ) (l m : Listing) → t.seat j ≡ Has l → t.seat k ≡ Has m → l.number ≡ m.number → j ≡ k
+  pub apart : (j k : ℕ) (l m : Listing) → t.seat j ≡ Has l → t.seat k ≡ Has m → m.started ≡ true → l.number < m.number → Conflict l m → ⊥
+
+-- a hold is an open one of a request
+abbrev pub IsHolder : ℕ → Client → Stage → Hold → ℕ → Type 0
+IsHolder A c (In k step) h b = (k ≡ h.place) × IsOpen A c step h.side × (edge A c h.side ≡ b)
+IsHolder A c _ h b = ⊥
+
+pub record Owner (A : ℕ) (req : ℕ → Option Req) (h : Hold) (b : ℕ) : Type 0 where
+  pub number : ℕ
+  pub request : Req
+  pub is : req number ≡ Some request
+  pub holds : IsHolder A request.client request.stage h b
+
+-- the place of the tracker that a request has
+abbrev pub IsAt : Stage → ℕ → Type 0
+IsAt (In j step) k = j ≡ k
+IsAt _ k = ⊥
+
+-- a session at an export
+abbrev pub IsClient : Session → ℕ → Type 0
+IsClient Away e = ⊥
+IsClient (Live d) e = d ≡ e
+IsClient (Leaving d) e = d ≡ e
+
+-- a session stands in a list
+abbrev pub Among : ℕ → List ℕ → Type 0
+Among s [] = ⊥
+Among s (x ∷ xs) = (x ≡ s) ⊎ Among s xs
+
+-- all that is kept
+pub record Ok (A : ℕ) (w : World) : Type 0 where
+  pub below : (r : ℕ) (q : Req) → w.req r ≡ Some q → r < w.next
+  pub well : (r : ℕ) (q : Req) → w.req r ≡ Some q → Well A w.tells w.tracker w.image q
+  pub one : (r s : ℕ) (q p : Req) (k : ℕ) → w.req r ≡ Some q → w.req s ≡ Some p → IsAt q.stage k → IsAt p.stage k → r ≡ s
+  pub owned : (b : ℕ) (h : Hold) → w.image.holder b ≡ Some h → Owner A w.req h b
+  pub tracker : InOrder w.tracker
+  pub sessions : (s e : ℕ) → IsClient (w.session s) e → Among s (w.graph.clients e)

@@ -1,0 +1,8 @@
+use Rattle.std.proofs.Common.{refl}
+use Rattle.qs_model.specs.Laws.{opening}
+use Rattle.qs_model.proofs.Kept.{new_ok}
+use Rattle.qs_model.proofs.WritesOnce.{writes_once as law}
+use Rattle.qs_model.proofs.laws.writes_once.Goals as goal
+
+pub returns : goal.returns
+returns c = λ A tells now es pos run. law A (opening tells now) es pos (new_ok A tells 0 now) (λ r. refl) refl run

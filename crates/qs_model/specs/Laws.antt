@@ -1,0 +1,102 @@
+-- The laws of every run from an opening world, whichever actor is next and whatever the disks answer.
+use Rattle.std.specs.Prelude.{◌≡◌, ℕ, ◌-◌, ◌*◌, ◌≤◌, ◌⊎◌, Bool, true, List, [], ◌∷◌, ◌++◌, length, filter, get_or, IsTrue}
+use Rattle.qs_bytes.specs.declared.ask.Verdict.TheVariants.{Got, Fine}
+use Rattle.qs_bytes.specs.Spans.{Covers, aligned_out}
+use Rattle.qs_cells.specs.declared.cell.CellEntry.TheVariants.{Read, Write}
+use Rattle.qs_cells.specs.Cells.{value_after, Legal}
+use Rattle.qs_part.specs.declared.graph.Route.{Route}
+use Rattle.qs_model.specs.Requests.{Client, span_of, covers, serial, body_at}
+use Rattle.qs_model.specs.Worlds.{Listing, Has, Conflict, Tracker, World, byte_at, new_world}
+use Rattle.qs_model.specs.Acts.{Element, Did, Crashed}
+use Rattle.qs_model.specs.Guards.{CanStart}
+use Rattle.qs_model.specs.Steps.{after}
+use Rattle.qs_model.specs.Histories.{cell, is_of, Acts, Answered, IsAnswer, IsAsk, IsStore, IsStoreOf, IsRouted, IsOddStep, IsEntry}
+
+-- the core over disks with this content, as it was made
+abbrev pub opening : Bool → (ℕ → List ℕ) → World
+opening tells now = new_world tells 0 now
+
+-- a step that may change the byte at x: a store by a write that covers it, or a crash
+abbrev pub Alters : ℕ → ℕ → Element → Type 0
+Alters A x (Did r q act) = IsStoreOf A x q.client act
+Alters A x (Crashed left) = Unit {0}
+Alters A x _ = ⊥
+
+-- Each byte's reads and writes are one legal history of a single cell, and at every position the
+-- byte is what that history leaves. No other step changes it.
+pub record Cells (A : ℕ) (w : World) (es : List Element) : Type 0 where
+  pub legal : (x : ℕ) → Legal (byte_at A w.image x) (cell A x es)
+  pub now : (x : ℕ) (before behind : List Element) → es ≡ before ++ behind →
+      byte_at A (after A w before).image x ≡ value_after (byte_at A w.image x) (cell A x before)
+  pub still : (x : ℕ) (before behind : List Element) (e : Element) → es ≡ before ++ e ∷ behind → (Alters A x e → ⊥) →
+      byte_at A (after A w (before ++ e ∷ [])).image x ≡ byte_at A (after A w before).image x
+
+-- some step made the request
+abbrev pub WasAsked : ℕ → List Element → Type 0
+WasAsked r [] = ⊥
+WasAsked r (e ∷ es) = IsAsk r e ⊎ WasAsked r es
+
+-- no step answered it
+abbrev pub Unanswered : ℕ → List Element → Type 0
+Unanswered r [] = Unit {0}
+Unanswered r (e ∷ es) = (IsAnswer r e → ⊥) × Unanswered r es
+
+-- Whatever a request does stands between its Ask and its answer, its entries too.
+abbrev pub Between : List Element → Type 0
+Between es = (r : ℕ) (before behind : List Element) (e : Element) → es ≡ before ++ e ∷ behind → Acts r e → WasAsked r before × Unanswered r before
+
+-- A READ that is Got has as many bytes as were asked for. It has read each byte that it covers
+-- exactly once, and its reply has that value.
+pub record ReadsOnce (A : ℕ) (es : List Element) : Type 0 where
+  pub whole : (r : ℕ) (c : Client) (bytes : List ℕ) (before behind : List Element) (e : Element) → es ≡ before ++ e ∷ behind → Answered r c (Got bytes) e →
+      length bytes ≡ c.ask.length
+  pub once : (r : ℕ) (c : Client) (bytes : List ℕ) (before behind : List Element) (e : Element) → es ≡ before ++ e ∷ behind → Answered r c (Got bytes) e →
+      (x : ℕ) → covers c x ≡ true → filter (is_of r) (cell A x before) ≡ Read r (get_or bytes (x - (span_of c).lo) 0) ∷ []
+
+-- A write that is Fine has written each byte that it covers exactly once, and no disk refused it.
+abbrev pub WritesOnce : ℕ → List Element → Type 0
+WritesOnce A es = (r : ℕ) (c : Client) (before behind : List Element) (e : Element) → es ≡ before ++ e ∷ behind → Answered r c Fine e →
+    (x : ℕ) → covers c x ≡ true → filter (is_of r) (cell A x before) ≡ Write r (body_at c x) ∷ []
+
+-- Between two block entries of a serialising request no block entry of another stands on a block of
+-- its span aligned outward.
+abbrev pub Undivided : ℕ → List Element → Type 0
+Undivided A es = (r s : ℕ) (c d : Client) (m n b : ℕ) (first other last : Element) (before middle rest behind : List Element) →
+    es ≡ before ++ first ∷ (middle ++ other ∷ (rest ++ last ∷ behind)) →
+    IsEntry A r c m first → IsEntry A r c n last → serial A c ≡ true →
+    IsEntry A s d b other → Covers (aligned_out (span_of c) A) (b * A) → s ≡ r
+
+-- A Hold or Store is never answered HeldBy or Taken, a request's List, Start, End and Free never
+-- Strange or NotHeld, a session's Detach never NotAttached.
+abbrev pub NeverOdd : List Element → Type 0
+NeverOdd es = (before behind : List Element) (e : Element) → es ≡ before ++ e ∷ behind → IsOddStep e → ⊥
+
+-- some step gave the request this way
+abbrev pub WasRouted : ℕ → Route → List Element → Type 0
+WasRouted r route [] = ⊥
+WasRouted r route (e ∷ es) = IsRouted r route e ⊎ WasRouted r route es
+
+-- A store belongs to a request whose way is writable, and the graph gave it that way.
+abbrev pub Writable : List Element → Type 0
+Writable es = (r : ℕ) (c : Client) (before behind : List Element) (e : Element) → es ≡ before ++ e ∷ behind → IsStore r c e →
+    (c.route.writable ≡ true) × WasRouted r c.route before
+
+-- Of the started spans no two conflict, and of all listed spans the one of lowest number can start.
+pub record Ordered (t : Tracker) : Type 0 where
+  pub apart : (j k : ℕ) (l m : Listing) → t.seat j ≡ Has l → t.seat k ≡ Has m → l.started ≡ true → m.started ≡ true → Conflict l m → j ≡ k
+  pub lowest : (k : ℕ) (l : Listing) → t.seat k ≡ Has l → ((j : ℕ) (m : Listing) → t.seat j ≡ Has m → l.number ≤ m.number) → CanStart t k l
+
+-- and so at every position
+abbrev pub Tracked : ℕ → World → List Element → Type 0
+Tracked A w es = (before behind : List Element) → es ≡ before ++ behind → Ordered (after A w before).tracker
+
+-- The laws together. Where the disks tell no content, nothing is said of the bytes.
+pub record Headline (A : ℕ) (w : World) (es : List Element) : Type 0 where
+  pub cells : IsTrue w.tells → Cells A w es
+  pub between : Between es
+  pub reads_once : ReadsOnce A es
+  pub writes_once : WritesOnce A es
+  pub undivided : Undivided A es
+  pub never_odd : NeverOdd es
+  pub writable : Writable es
+  pub tracked : Tracked A w es

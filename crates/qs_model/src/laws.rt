@@ -1,0 +1,65 @@
+ghost use Rattle.std.specs.Prelude.{ℕ, ◌<◌, Bool, List, IsTrue};
+ghost use Rattle.qs_model.specs.Acts.{Element};
+ghost use Rattle.qs_model.specs.Steps.{Runs};
+ghost use Rattle.qs_model.specs.Laws.{opening, Cells, Between, ReadsOnce, WritesOnce, Undivided, NeverOdd, Writable, Tracked, Headline};
+
+/// Each byte's reads and writes are one legal history of a single cell, and the byte is what that
+/// history leaves, at every position of every run over disks that tell their content. Only a write
+/// that covers a byte, and a crash, are entries that change it.
+pub fn cells()
+    ensures { (A : ℕ) (tells : Bool) (now : ℕ → List ℕ) (es : List Element) → 0 < A → IsTrue tells →
+        Runs A (opening tells now) es → Cells A (opening tells now) es }
+{}
+
+/// Whatever a request does, its entries too, stands between its Ask and its answer. So nothing that
+/// a session is told is older than what any session had been answered before it asked.
+pub fn between()
+    ensures { (A : ℕ) (tells : Bool) (now : ℕ → List ℕ) (es : List Element) → 0 < A →
+        Runs A (opening tells now) es → Between es }
+{}
+
+/// Between two block entries of a request with a serialising span no block entry of another stands
+/// on a block of its span aligned outward (QEMU block/io.c, serialising requests).
+pub fn undivided()
+    ensures { (A : ℕ) (tells : Bool) (now : ℕ → List ℕ) (es : List Element) → 0 < A →
+        Runs A (opening tells now) es → Undivided A es }
+{}
+
+/// A Hold or Store is never answered HeldBy or Taken; a request's List, Start, End and Free are
+/// never Strange or NotHeld; a session's Detach is never NotAttached.
+pub fn never_odd()
+    ensures { (A : ℕ) (tells : Bool) (now : ℕ → List ℕ) (es : List Element) → 0 < A →
+        Runs A (opening tells now) es → NeverOdd es }
+{}
+
+/// A Store belongs to a request whose way is writable, and that way is the one that its Route gave.
+pub fn writable()
+    ensures { (A : ℕ) (tells : Bool) (now : ℕ → List ℕ) (es : List Element) → 0 < A →
+        Runs A (opening tells now) es → Writable es }
+{}
+
+/// Of the started spans no two conflict, and of all listed spans the one of lowest number can start.
+pub fn tracked()
+    ensures { (A : ℕ) (tells : Bool) (now : ℕ → List ℕ) (es : List Element) → 0 < A →
+        Runs A (opening tells now) es → Tracked A (opening tells now) es }
+{}
+
+/// A READ that is Got has read each byte that it covers exactly once, and its reply has that value.
+pub fn reads_once()
+    ensures { (A : ℕ) (tells : Bool) (now : ℕ → List ℕ) (es : List Element) → 0 < A →
+        Runs A (opening tells now) es → ReadsOnce A es }
+{}
+
+/// A write that is Fine has written each byte that it covers exactly once, and no disk refused one
+/// of its stores.
+pub fn writes_once()
+    ensures { (A : ℕ) (tells : Bool) (now : ℕ → List ℕ) (es : List Element) → 0 < A →
+        Runs A (opening tells now) es → WritesOnce A es }
+{}
+
+/// The laws together, of every run from an opening world, whichever actor is next and whatever the
+/// disks answer. Of the bytes they speak where the disks tell their content.
+pub fn headline()
+    ensures { (A : ℕ) (tells : Bool) (now : ℕ → List ℕ) (es : List Element) → 0 < A →
+        Runs A (opening tells now) es → Headline A (opening tells now) es }
+{}
