@@ -1,0 +1,4 @@
+pub mod Checked
+pub mod Lookups
+pub mod Nearest
+pub mod Tickets

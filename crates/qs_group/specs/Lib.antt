@@ -1,0 +1,4 @@
+pub mod Budget
+pub mod Queue
+pub mod Turns
+pub mod Table

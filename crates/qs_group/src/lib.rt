@@ -1,0 +1,7 @@
+//! Throttle groups: requests of many members share the limits of one group, and take turns.
+#![tactic(auto)]
+
+pub mod budget;
+pub mod group;
+pub mod queue;
+pub mod turns;
