@@ -28,9 +28,8 @@ opened l = record { waiting = []; turns = record { read = 0; write = 0 }; budget
 abbrev pub no_limit : Limit
 no_limit = record { avg = 0; max = 0; burst_length = 1 }
 
--- a new group, which has no limits
-abbrev pub fresh : GroupValue
-fresh = opened (record {
+abbrev pub unlimited : Limits
+unlimited = record {
   bps_total = no_limit;
   bps_read = no_limit;
   bps_write = no_limit;
@@ -38,7 +37,11 @@ fresh = opened (record {
   iops_read = no_limit;
   iops_write = no_limit;
   iops_size = 0;
-})
+}
+
+-- a new group, which has no limits
+abbrev pub fresh : GroupValue
+fresh = opened unlimited
 
 -- a member's number is below 64
 abbrev pub Fits : GroupOp → Type 0

@@ -3,5 +3,6 @@
 
 pub mod budget;
 pub mod group;
+pub mod laws;
 pub mod queue;
 pub mod turns;
