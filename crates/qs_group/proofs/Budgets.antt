@@ -1,5 +1,5 @@
 -- What a group's levels hold in every history.
-use Rattle.std.proofs.Common.{◌≡◌, ◌≢◌, ℕ, ◌+◌, ◌-◌, ◌*◌, ◌<◌, ◌≤◌, List, [], ◌∷◌, ◌++◌, Bool, true, false, cond, Option, Some, None, refl, sym, ◌∙◌, ap, subst, inl, inr, ◌⊎◌, arith}
+use Rattle.std.proofs.Common.{◌≡◌, ◌≢◌, ℕ, ◌+◌, ◌-◌, ◌≤◌, List, [], ◌∷◌, ◌++◌, Bool, true, false, cond, Option, Some, None, refl, sym, ◌∙◌, subst, inl, inr, ◌⊎◌, arith}
 use Rattle.std.specs.Prelude.{max, ◌==◌, IsTrue}
 use Rattle.std.specs.Int.{div_ceil}
 use Rattle.std.proofs.lemmas.Bool.Decides.{nat_tests}
@@ -8,24 +8,23 @@ use Rattle.qs_part.specs.declared.group.Dir.TheVariants.{Read, Write}
 use Rattle.qs_part.specs.declared.group.GroupOp.{GroupOp}
 use Rattle.qs_part.specs.declared.group.GroupOp.TheVariants.{Queue, Admit, Withdraw, Set as SetTo}
 use Rattle.qs_part.specs.declared.group.GroupReply.{GroupReply}
-use Rattle.qs_part.specs.declared.group.GroupReply.TheVariants.{Ticket, Full, Strange, Behind, TurnOf, Wait, Go, Withdrawn, Waiting, Bad, Set as IsSet}
+use Rattle.qs_part.specs.declared.group.GroupReply.TheVariants.{Ticket, Wait, Go, Withdrawn, Set as IsSet}
 use Rattle.qs_part.specs.declared.limits.Dim.{Dim}
 use Rattle.qs_part.specs.declared.limits.Dim.TheVariants.{BpsTotal, BpsRead, BpsWrite, IopsTotal, IopsRead, IopsWrite}
-use Rattle.qs_part.specs.declared.limits.Limit.{Limit}
 use Rattle.qs_part.specs.declared.limits.Limits.{Limits}
 use Rattle.qs_part.specs.Limits.{limit_of}
-use Rattle.qs_bucket.specs.Admissions.{Admission, owed, UpTo, AdmittedByRule, window, units_of, last_units}
+use Rattle.qs_bucket.specs.Admissions.{Admission, owed, UpTo, AdmittedByRule}
 use Rattle.qs_bucket.specs.Level.{LevelValue, empty, effective, level_at, wait_at, added, StandsFor}
 use Rattle.qs_bucket.specs.Bucket.{wait_of}
 use Rattle.qs_bucket.proofs.Owed.{UpTo-later, UpTo-append, stands_added}
-use Rattle.qs_bucket.proofs.Windows.{rule_none, rule_added, below_bucket, windows_hold}
+use Rattle.qs_bucket.proofs.Windows.{rule_none, rule_added, below_bucket}
 use Rattle.qs_group.specs.declared.queue.Queued.{Queued}
 use Rattle.qs_group.specs.declared.budget.Budget.{Budget}
 use Rattle.qs_group.specs.Budget.{capacity, budget_for, wait_for, reading_at, charged}
 use Rattle.qs_group.specs.Queue.{ticket_at}
 use Rattle.qs_group.specs.Levels.{Key, dim_of, bucket_in, level_of, applies, units_for}
-use Rattle.qs_group.specs.Table.{GroupValue, opened, unlimited, fresh, passed, May, MayAdmit, after}
-use Rattle.qs_group.specs.History.{Entry, Runs, left_by, set_by, last_set, counted_go, counted, admissions, asks, limit_asks, IsGreatestWait, ByAdmissions}
+use Rattle.qs_group.specs.Table.{GroupValue, unlimited, fresh, passed, May, MayAdmit, after}
+use Rattle.qs_group.specs.History.{Entry, Runs, left_by, set_by, last_set, counted_go, counted, admissions, asks, limit_asks, ByAdmissions}
 
 -- a level has this rate and bucket
 pub record Has (b : LevelValue) (rate bucket : ℕ) : Type 0 where

@@ -1,12 +1,11 @@
 -- Limits that break no rule are good.
-use Rattle.std.proofs.Common.{◌≡◌, ℕ, ◌+◌, ◌<◌, ◌≤◌, List, [], ◌∷◌, length, get_or, Bool, true, false, cond, not, Option, Some, None, refl, arith, lit<, zero, suc}
-use Rattle.std.specs.Prelude.{find, nat_lt, ◌||◌, ◌==◌}
+use Rattle.std.proofs.Common.{◌≡◌, ℕ, ◌<◌, List, [], ◌∷◌, length, get_or, Bool, true, false, cond, not, Some, None, refl, arith, lit<, zero, suc}
+use Rattle.std.specs.Prelude.{find, ◌==◌}
 use Rattle.std.proofs.lemmas.Bool.Decides.{nat_tests}
 use Rattle.qs_part.specs.declared.limits.Dim.{Dim}
 use Rattle.qs_part.specs.declared.limits.Dim.TheVariants.{BpsTotal, BpsRead, BpsWrite, IopsTotal, IopsRead, IopsWrite}
 use Rattle.qs_part.specs.declared.limits.Limit.{Limit}
 use Rattle.qs_part.specs.declared.limits.Limits.{Limits}
-use Rattle.qs_part.specs.declared.limits.Rule.{Rule}
 use Rattle.qs_part.specs.declared.limits.Rule.TheVariants.{SizeLater}
 use Rattle.qs_part.specs.Limits.{limit_of, passes_greatest, breaks, rules_in_order, first_broken}
 use Rattle.qs_group.specs.Budget.{IsGood}

@@ -5,3 +5,4 @@ pub mod Tickets
 pub mod Budgets
 pub mod Rounds
 pub mod Unique
+pub mod Answered

@@ -1,13 +1,13 @@
 -- What a look-up among the requests that wait finds.
-use Rattle.std.proofs.Common.{◌≡◌, ◌≢◌, ℕ, ◌+◌, ◌<◌, ◌≤◌, List, [], ◌∷◌, ◌++◌, length, get_or, Bool, true, false, cond, not, Option, Some, None, IsSome, refl, sym, ◌∙◌, ap, subst, inl, inr, ◌⊎◌, arith, zero, suc}
-use Rattle.std.specs.Prelude.{find, filter, All, IfSome, ◌&&◌, ◌==◌, is_some}
+use Rattle.std.proofs.Common.{◌≡◌, ◌≢◌, ℕ, ◌<◌, List, [], ◌∷◌, ◌++◌, length, get_or, Bool, true, false, cond, Option, Some, None, IsSome, refl, inl, inr, ◌⊎◌, arith, zero, suc}
+use Rattle.std.specs.Prelude.{find, All, IfSome, ◌&&◌, ◌==◌, is_some}
 use Rattle.std.proofs.lemmas.Bool.Decides.{nat_tests}
 use Rattle.qs_part.specs.declared.group.Dir.{Dir}
 use Rattle.qs_part.specs.declared.group.Dir.TheVariants.{Read, Write}
 use Rattle.qs_part.specs.contracts.group.Dir.{the_type}
 use denote.Enum.Bare.{sameb}
 use Rattle.qs_group.specs.declared.queue.Queued.{Queued}
-use Rattle.qs_group.specs.Queue.{has_ticket, ticket_at, without, same_dir, is_of, Queues}
+use Rattle.qs_group.specs.Queue.{ticket_at, same_dir, is_of, Queues}
 
 -- what is found has what all have
 pub find_has : {X : Type 0} (P : X → Type 0) (p : X → Bool) (xs : List X) → All P xs → IfSome (find p xs) P

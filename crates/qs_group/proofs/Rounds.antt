@@ -1,22 +1,21 @@
 -- In every history just one ticket of a direction is served.
-use Rattle.std.proofs.Common.{◌≡◌, ◌≢◌, ℕ, ◌+◌, ◌-◌, ◌%◌, ◌<◌, ◌≤◌, List, [], ◌∷◌, ◌++◌, length, Bool, true, false, cond, not, Option, Some, None, IsSome, refl, sym, ◌∙◌, ap, subst, inl, inr, ◌⊎◌, arith, lit<, zero, suc}
-use Rattle.std.specs.Prelude.{find, filter, ◌==◌, nat_le}
+use Rattle.std.proofs.Common.{◌≡◌, ◌≢◌, ℕ, ◌<◌, ◌≤◌, List, [], ◌∷◌, ◌++◌, length, Bool, true, false, cond, not, Option, Some, None, IsSome, refl, sym, ◌∙◌, ap, subst, inl, inr, ◌⊎◌, arith, lit<, zero, suc, length-append}
+use Rattle.std.specs.Prelude.{find, ◌==◌}
 use Rattle.std.proofs.lemmas.Bool.Decides.{nat_tests}
-use Rattle.std.proofs.lemmas.List.Folds.{find-append}
 use Rattle.qs_part.specs.declared.group.Dir.{Dir}
 use Rattle.qs_part.specs.declared.group.Dir.TheVariants.{Read, Write}
 use Rattle.qs_part.specs.declared.group.GroupOp.{GroupOp}
 use Rattle.qs_part.specs.declared.group.GroupOp.TheVariants.{Queue, Admit, Withdraw, Set as SetTo}
 use Rattle.qs_part.specs.declared.group.GroupReply.{GroupReply}
-use Rattle.qs_part.specs.declared.group.GroupReply.TheVariants.{Ticket, Full, Strange, Behind, TurnOf, Wait, Go, Withdrawn, Waiting, Bad, Set as IsSet}
+use Rattle.qs_part.specs.declared.group.GroupReply.TheVariants.{Ticket, Wait, Go, Withdrawn, Set as IsSet}
 use Rattle.qs_group.specs.declared.queue.Queued.{Queued}
-use Rattle.qs_group.specs.declared.turns.Turns.{Turns}
 use Rattle.qs_group.specs.Budget.{wait_for, reading_at}
-use Rattle.qs_group.specs.Queue.{has_ticket, ticket_at, without, same_dir, is_of, Queues, ticket_or, earliest, round, IsTurn}
+use Rattle.qs_group.specs.Queue.{has_ticket, ticket_at, without, same_dir, is_of, Queues, ticket_or, round, IsTurn}
 use Rattle.qs_group.specs.Turns.{turn_of, passed_on}
 use Rattle.qs_group.specs.Table.{GroupValue, fresh, Fits, passed, after, IsNext, MayAdmit, May}
 use Rattle.qs_group.specs.History.{Entry, Runs, left_by}
 use Rattle.qs_group.specs.Served.{Serves, WaitsIn, OneServed}
+use Rattle.qs_group.proofs.Tickets.{length_without}
 use Rattle.qs_group.proofs.Lookups.{is_of_is, is_of_self, same_dir_is, same_dir_not, queues_front, found_queues}
 
 -- members are in range, and no two requests have one ticket
@@ -26,6 +25,7 @@ AreTickets (w ∷ ws) = (w.member < 64) × (ticket_at ws w.ticket ≡ None) × A
 
 pub record IsSound (v : GroupValue) : Type 0 where
   pub tickets : AreTickets v.waiting
+  pub room : length v.waiting ≤ 256
   pub read_turn : v.turns.read < 64
   pub write_turn : v.turns.write < 64
 
@@ -86,6 +86,7 @@ tickets_without (x ∷ ws) t all = go (x.ticket == t) (tickets_without ws t all.
 pub answer_sound : (v : GroupValue) (op : GroupOp) (reply : GroupReply) → Fits op → May v op reply → IsSound v → IsSound (after v op reply)
 answer_sound v (Queue m d n) (Ticket t) fits may sound = record {
   tickets = tickets_push v.waiting _ sound.tickets fits may.1.free;
+  room = omega (arith, may.0, length-append v.waiting (record { ticket = t; member = m; dir = d; bytes = n } ∷ []));
   read_turn = sound.read_turn;
   write_turn = sound.write_turn;
 }
@@ -99,15 +100,17 @@ answer_sound v (Admit t now) Go fits may sound = go (ticket_at v.waiting t)
     go None = sound
     go (Some w) = record {
       tickets = tickets_without v.waiting w.ticket sound.tickets;
+      room = omega (arith, length_without v.waiting w.ticket, sound.room);
       read_turn = (turned w w.dir).0;
       write_turn = (turned w w.dir).1;
     }
 answer_sound v (Withdraw t) Withdrawn fits may sound = record {
   tickets = tickets_without v.waiting t sound.tickets;
+  room = omega (arith, length_without v.waiting t, sound.room);
   read_turn = sound.read_turn;
   write_turn = sound.write_turn;
 }
-answer_sound v (SetTo l) IsSet fits may sound = record { tickets = tt; read_turn = lit< tt; write_turn = lit< tt }
+answer_sound v (SetTo l) IsSet fits may sound = record { tickets = tt; room = omega arith; read_turn = lit< tt; write_turn = lit< tt }
 answer_sound v _ _ fits may sound = sound
 
 pub run_sound : (v : GroupValue) (es : List Entry) → Runs v es → IsSound v → IsSound (left_by v es)
@@ -115,7 +118,7 @@ run_sound v [] runs sound = sound
 run_sound v (e ∷ es) runs sound = run_sound (after v e.op e.reply) es runs.2 (answer_sound v e.op e.reply runs.0 runs.1 sound)
 
 pub fresh_sound : (es : List Entry) → Runs fresh es → IsSound (left_by fresh es)
-fresh_sound es runs = run_sound fresh es runs (record { tickets = tt; read_turn = lit< tt; write_turn = lit< tt })
+fresh_sound es runs = run_sound fresh es runs (record { tickets = tt; room = omega arith; read_turn = lit< tt; write_turn = lit< tt })
 
 pub turn_below : (v : GroupValue) (d : Dir) → IsSound v → turn_of v.turns d < 64
 turn_below v Read sound = sound.read_turn

@@ -1,13 +1,13 @@
 -- Which tickets are out.
-use Rattle.std.proofs.Common.{◌≡◌, ◌≢◌, ℕ, ◌+◌, ◌<◌, ◌≤◌, List, [], ◌∷◌, ◌++◌, length, get_or, set, Bool, true, false, cond, not, Option, Some, None, IsSome, refl, sym, ◌∙◌, ap, subst, inl, inr, ◌⊎◌, arith, zero, suc}
-use Rattle.std.specs.Prelude.{find, filter, All, position, ◌==◌, nat_lt, is_some}
+use Rattle.std.proofs.Common.{◌≡◌, ◌≢◌, ℕ, ◌<◌, ◌≤◌, List, [], ◌∷◌, ◌++◌, length, get_or, set, Bool, true, false, cond, not, Option, Some, None, IsSome, refl, sym, ◌∙◌, ap, arith, zero, suc}
+use Rattle.std.specs.Prelude.{All, position, ◌==◌, nat_lt, is_some}
 use Rattle.std.specs.List.{position_or_len}
 use Rattle.std.proofs.lemmas.Bool.Decides.{nat_tests}
 use Rattle.std.proofs.lemmas.List.{get_or-set_same, get_or-set_other, length-set}
 use Rattle.std.proofs.lemmas.List.Quantifiers.{position-Some}
 use Rattle.std.proofs.lemmas.List.Sums.{fails_before_first}
 use Rattle.qs_group.specs.declared.queue.Queued.{Queued}
-use Rattle.qs_group.specs.Queue.{InRange, ShowsTickets, has_ticket, ticket_at, without, IsLowestFree, IsLowestWaiting}
+use Rattle.qs_group.specs.Queue.{InRange, ShowsTickets, ticket_at, without, IsLowestFree, IsLowestWaiting}
 use Rattle.qs_group.proofs.Lookups.{out_more}
 
 -- taking a request out leaves fewer

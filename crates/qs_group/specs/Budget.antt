@@ -1,12 +1,9 @@
 -- The limits of a group and what was admitted under them, after QEMU's util/throttle.c.
-use Rattle.std.specs.Prelude.{◌≡◌, ℕ, ◌+◌, ◌*◌, ◌^◌, ◌≤◌, ◌==◌, max, if◌then◌else◌, Bool, true, false}
+use Rattle.std.specs.Prelude.{◌≡◌, ℕ, ◌*◌, ◌^◌, ◌≤◌, ◌==◌, max, if◌then◌else◌}
 use Rattle.qs_part.specs.declared.group.Dir.{Dir}
 use Rattle.qs_part.specs.declared.group.Dir.TheVariants.{Read, Write}
-use Rattle.qs_part.specs.declared.limits.Dim.{Dim}
-use Rattle.qs_part.specs.declared.limits.Dim.TheVariants.{BpsTotal, BpsRead, BpsWrite, IopsTotal, IopsRead, IopsWrite}
 use Rattle.qs_part.specs.declared.limits.Limit.{Limit}
 use Rattle.qs_part.specs.declared.limits.Limits.{Limits}
-use Rattle.qs_bucket.specs.Level.{LevelValue}
 use Rattle.qs_bucket.specs.Bucket.{BucketValue, opened, wait_of, filled}
 use Rattle.qs_group.specs.declared.budget.Sides.{Sides}
 use Rattle.qs_group.specs.declared.budget.Budget.{Budget}

@@ -3,7 +3,7 @@ use Rattle.std.specs.Prelude.{◌≡◌, ◌≢◌, ℕ, ◌-◌, ◌<◌, ◌�
 use Rattle.std.specs.Int.{div_ceil}
 use Rattle.qs_part.specs.declared.group.Dir.{Dir}
 use Rattle.qs_part.specs.declared.group.GroupOp.{GroupOp}
-use Rattle.qs_part.specs.declared.group.GroupOp.TheVariants.{Queue, Admit, Withdraw, Set as SetTo}
+use Rattle.qs_part.specs.declared.group.GroupOp.TheVariants.{Admit, Set as SetTo}
 use Rattle.qs_part.specs.declared.group.GroupReply.{GroupReply}
 use Rattle.qs_part.specs.declared.group.GroupReply.TheVariants.{Go, Wait, Set as IsSet}
 use Rattle.qs_part.specs.declared.limits.Dim.{Dim}

@@ -1,6 +1,5 @@
 -- The operations of a throttle group: which answer may come, and what it leaves.
-use Rattle.std.specs.Prelude.{◌≡◌, ◌≢◌, ℕ, ◌<◌, ◌≤◌, List, [], ◌∷◌, ◌++◌, length, Option, Some, None, IsSome}
-use Rattle.qs_part.specs.declared.group.Dir.{Dir}
+use Rattle.std.specs.Prelude.{◌≡◌, ◌≢◌, ℕ, ◌<◌, List, [], ◌∷◌, ◌++◌, length, Option, Some, None, IsSome}
 use Rattle.qs_part.specs.declared.group.GroupOp.{GroupOp}
 use Rattle.qs_part.specs.declared.group.GroupOp.TheVariants.{Queue, Admit, Withdraw, Set as SetTo}
 use Rattle.qs_part.specs.declared.group.GroupReply.{GroupReply}

@@ -47,9 +47,10 @@ pub fn turns()
     ensures { (es : List Entry) (d : Dir) (t : ℕ) → Runs fresh es → WaitsIn (left_by fresh es) d t → OneServed (left_by fresh es) d }
 {}
 
-/// In every history an operation has one answer that may come, and only four answers change the
-/// group.
+/// In every history an operation has just one answer that may come, and only four answers change
+/// the group.
 pub fn answers()
+    ensures answered { (es : List Entry) (op : GroupOp) → Runs fresh es → (reply : GroupReply) × May (left_by fresh es) op reply }
     ensures one { (es : List Entry) (op : GroupOp) (first second : GroupReply) → Runs fresh es →
         May (left_by fresh es) op first → May (left_by fresh es) op second → first ≡ second }
     ensures unchanged { (v : GroupValue) (op : GroupOp) (reply : GroupReply) → (Changes reply → ⊥) → after v op reply ≡ v }

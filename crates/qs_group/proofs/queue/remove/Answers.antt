@@ -1,8 +1,7 @@
 use Rattle.std.proofs.Common.{rules, not}
-use Rattle.std.specs.Prelude.{All}
 use Rattle.std.proofs.lemmas.Fn.{filter_same}
 use Rattle.std.proofs.lemmas.List.Elements.{All-filter}
-use Rattle.qs_group.specs.Queue.{InRange, has_ticket, without}
+use Rattle.qs_group.specs.Queue.{InRange, has_ticket}
 use Rattle.qs_group.proofs.queue.remove.Goals as goal
 
 pub returns-clause-items : goal.returns-clause-items

@@ -1,5 +1,5 @@
-use Rattle.std.proofs.Common.{arith, get_or, take, refl, replicate}
-use Rattle.std.proofs.lemmas.List.{take_more, get_or-replicate, length-replicate}
+use Rattle.std.proofs.Common.{arith, get_or, take, refl}
+use Rattle.std.proofs.lemmas.List.{take_more, get_or-replicate}
 use Rattle.qs_part.specs.declared.group.Dir.TheVariants.{Read}
 use Rattle.qs_group.specs.declared.queue.Queued.{Queued}
 use Rattle.qs_group.proofs.Tickets.{shows_more}

@@ -1,9 +1,8 @@
-use Rattle.std.proofs.Common.{◌≡◌, ◌<◌, ◌≤◌, arith, get_or, take, refl, sym, ◌∙◌, inl, inr, ◌⊎◌}
+use Rattle.std.proofs.Common.{sym, ◌∙◌}
 use Rattle.std.proofs.lemmas.List.{take_more}
 use Rattle.qs_part.specs.declared.group.Dir.TheVariants.{Read}
 use Rattle.qs_group.specs.declared.queue.Queued.{Queued}
-use Rattle.qs_group.specs.Queue.{Queues}
-use Rattle.qs_group.proofs.Lookups.{sameb_dir, same_dir_is, same_dir_not, queues_at}
+use Rattle.qs_group.proofs.Lookups.{sameb_dir, same_dir_is, same_dir_not}
 use Rattle.qs_group.proofs.Nearest.{nearest_seen, nearest_other}
 use Rattle.qs_group.proofs.queue.turn_member.Goals as goal
 use Rattle.qs_group.proofs.queue.turn_member.Goals.{then-eq, else-eq}
