@@ -24,7 +24,7 @@ use Rattle.qs_group.specs.Budget.{capacity, budget_for, wait_for, reading_at, ch
 use Rattle.qs_group.specs.Queue.{ticket_at}
 use Rattle.qs_group.specs.Levels.{Key, dim_of, bucket_in, level_of, applies, units_for}
 use Rattle.qs_group.specs.Table.{GroupValue, unlimited, fresh, passed, May, MayAdmit, after}
-use Rattle.qs_group.specs.History.{Entry, Runs, left_by, set_by, last_set, counted_go, counted, admissions, asks, limit_asks, ByAdmissions}
+use Rattle.qs_group.specs.History.{Entry, Runs, left_by, set_by, last_set, counted_go, counted, admissions, greatest_reading, asks, limit_asks, ByAdmissions}
 
 -- a level has this rate and bucket
 pub record Has (b : LevelValue) (rate bucket : ℕ) : Type 0 where
@@ -294,3 +294,25 @@ by_admissions v lists now w (Wait ns) keeps may = (
         (dim : Dim) × IsTrue (applies dim w.dir) × (limit_asks v.budget lists dim (reading_at v.budget now) ≡ ns)
     go (dim, h, e) = (dim, h, sym (asks_is _ _ (lists dim) (reading_at v.budget now) (omega arith) (keeps dim)) ∙ (e ∙ sym may.2))
 by_admissions v lists now w _ keeps may = tt
+
+pub greatest_reading-append : (xs : List Admission) (a : Admission) → greatest_reading (xs ++ a ∷ []) ≡ max (greatest_reading xs) a.reading
+greatest_reading-append [] a = omega arith
+greatest_reading-append (x ∷ xs) a = omega (arith, greatest_reading-append xs a)
+
+-- each answer keeps the greatest reading of a request that went
+pub answer_reading : (v : GroupValue) (op : GroupOp) (reply : GroupReply) (xs : List Admission) → v.budget.reading ≡ greatest_reading xs →
+    (after v op reply).budget.reading ≡ greatest_reading (counted BpsTotal v op reply xs)
+answer_reading v (Admit t now) Go xs e = go (ticket_at v.waiting t)
+  where
+    go : (o : Option Queued) → (passed v o now).budget.reading ≡ greatest_reading (counted_go BpsTotal v o now xs)
+    go None = e
+    go (Some w) = rw (greatest_reading-append xs) (omega (arith, e))
+answer_reading v (SetTo l) IsSet xs e = refl
+answer_reading v (Queue m d n) (Ticket t) xs e = e
+answer_reading v (Withdraw t) Withdrawn xs e = e
+answer_reading v _ _ xs e = e
+
+pub run_reading : (v : GroupValue) (es : List Entry) (xs : List Admission) → v.budget.reading ≡ greatest_reading xs →
+    (left_by v es).budget.reading ≡ greatest_reading (admissions BpsTotal v es xs)
+run_reading v [] xs e = e
+run_reading v (y ∷ es) xs e = run_reading (after v y.op y.reply) es (counted BpsTotal v y.op y.reply xs) (answer_reading v y.op y.reply xs e)

@@ -1,5 +1,5 @@
 -- Histories of a group, and what its limits admitted in them.
-use Rattle.std.specs.Prelude.{◌≡◌, ◌≢◌, ℕ, ◌-◌, ◌<◌, ◌≤◌, ◌==◌, if◌then◌else◌, List, [], ◌∷◌, ◌++◌, Option, Some, None, IsTrue}
+use Rattle.std.specs.Prelude.{◌≡◌, ◌≢◌, ℕ, ◌-◌, ◌<◌, ◌≤◌, ◌==◌, max, if◌then◌else◌, List, [], ◌∷◌, ◌++◌, Option, Some, None, IsTrue}
 use Rattle.std.specs.Int.{div_ceil}
 use Rattle.qs_part.specs.declared.group.Dir.{Dir}
 use Rattle.qs_part.specs.declared.group.GroupOp.{GroupOp}
@@ -57,6 +57,11 @@ counted dim v _ _ xs = xs
 abbrev pub admissions : Dim → GroupValue → List Entry → List Admission → List Admission
 admissions dim v [] xs = xs
 admissions dim v (e ∷ es) xs = admissions dim (after v e.op e.reply) es (counted dim v e.op e.reply xs)
+
+-- the greatest reading of admissions, or 0
+abbrev pub greatest_reading : List Admission → ℕ
+greatest_reading [] = 0
+greatest_reading (a ∷ xs) = max a.reading (greatest_reading xs)
 
 -- how long what is owed at reading t takes to leak down to the bucket; rate 0 is no limit
 abbrev pub asks : LevelValue → List Admission → ℕ → ℕ

@@ -5,20 +5,22 @@ ghost use Rattle.qs_part.specs.declared.group.Dir.{Dir};
 ghost use Rattle.qs_part.specs.declared.group.GroupOp.{GroupOp};
 ghost use Rattle.qs_part.specs.declared.group.GroupOp.TheVariants.{Admit};
 ghost use Rattle.qs_part.specs.declared.group.GroupReply.{GroupReply};
+ghost use Rattle.qs_part.specs.declared.limits.Dim.TheVariants.{BpsTotal};
 ghost use Rattle.qs_part.specs.Limits.{limit_of};
 ghost use Rattle.qs_group.specs.declared.queue.Queued.{Queued};
 ghost use Rattle.qs_group.specs.Budget.{capacity, reading_at};
 ghost use Rattle.qs_group.specs.Queue.{ticket_at};
 ghost use Rattle.qs_group.specs.Levels.{Key, dim_of, level_of};
 ghost use Rattle.qs_group.specs.Table.{GroupValue, unlimited, fresh, May, after};
-ghost use Rattle.qs_group.specs.History.{Entry, Runs, left_by, last_set, admissions, ByAdmissions};
+ghost use Rattle.qs_group.specs.History.{Entry, Runs, left_by, last_set, admissions, greatest_reading, ByAdmissions};
 ghost use Rattle.qs_group.specs.Served.{Changes, WaitsIn, OneServed};
 
 /// What a new group's limits admitted, in every history.
 ///
 /// Each level has the rate and the bucket of the limits that were set last, and holds what the
 /// admissions since then owe. Of these, any window admits at most the bucket, the rate times the
-/// time that passed, and one request.
+/// time that passed, and one request. The greatest of their readings is the one below which no
+/// reading counts; each request that went is an admission of `BpsTotal`.
 pub fn budget()
     ensures limits { (es : List Entry) (key : Key) → Runs fresh es →
         let level = level_of (left_by fresh es).budget key in
@@ -27,6 +29,8 @@ pub fn budget()
     ensures owed { (es : List Entry) (key : Key) → Runs fresh es →
         let level = level_of (left_by fresh es).budget key in
         level.rate ≢ 0 → StandsFor level (admissions (dim_of key) fresh es []) }
+    ensures reading { (es : List Entry) → Runs fresh es →
+        (left_by fresh es).budget.reading ≡ greatest_reading (admissions BpsTotal fresh es []) }
     ensures windows { (es : List Entry) (key : Key) (t1 t2 : ℕ) → Runs fresh es → t1 ≤ t2 →
         let level = level_of (left_by fresh es).budget key in
         let inside = window t1 t2 (admissions (dim_of key) fresh es []) in
