@@ -1,0 +1,3 @@
+pub mod Ceil
+pub mod Owed
+pub mod Windows

@@ -1,0 +1,3 @@
+pub mod Admissions
+pub mod Level
+pub mod Bucket

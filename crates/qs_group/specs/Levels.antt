@@ -1,0 +1,47 @@
+-- The levels of a group, by name, and what applies to a request.
+use Rattle.std.specs.Prelude.{ℕ, Bool, true, false}
+use Rattle.qs_part.specs.declared.group.Dir.{Dir}
+use Rattle.qs_part.specs.declared.group.Dir.TheVariants.{Read, Write}
+use Rattle.qs_part.specs.declared.limits.Dim.{Dim}
+use Rattle.qs_part.specs.declared.limits.Dim.TheVariants.{BpsTotal, BpsRead, BpsWrite, IopsTotal, IopsRead, IopsWrite}
+use Rattle.qs_bucket.specs.Level.{LevelValue}
+use Rattle.qs_bucket.specs.Bucket.{BucketValue}
+use Rattle.qs_group.specs.declared.budget.Budget.{Budget}
+use Rattle.qs_group.specs.Budget.{byte_units, op_units}
+
+-- what names a level of a group: its limit, which has one level so far
+abbrev pub Key : Type 0
+Key = Dim
+
+abbrev pub dim_of : Key → Dim
+dim_of key = key
+
+-- the bucket of a limit
+abbrev pub bucket_in : Budget → Dim → BucketValue
+bucket_in b BpsTotal = b.bytes.total
+bucket_in b BpsRead = b.bytes.read
+bucket_in b BpsWrite = b.bytes.write
+bucket_in b IopsTotal = b.ops.total
+bucket_in b IopsRead = b.ops.read
+bucket_in b IopsWrite = b.ops.write
+
+-- the level of a name
+abbrev pub level_of : Budget → Key → LevelValue
+level_of b key = (bucket_in b (dim_of key)).first
+
+-- a read meets the limits of all and of reads, a write those of all and of writes
+abbrev pub applies : Dim → Dir → Bool
+applies BpsRead Write = false
+applies BpsWrite Read = false
+applies IopsRead Write = false
+applies IopsWrite Read = false
+applies _ _ = true
+
+-- the nano-units that a limit counts for a request of n bytes
+abbrev pub units_for : Budget → Dim → ℕ → ℕ
+units_for b BpsTotal n = byte_units n
+units_for b BpsRead n = byte_units n
+units_for b BpsWrite n = byte_units n
+units_for b IopsTotal n = op_units b n
+units_for b IopsRead n = op_units b n
+units_for b IopsWrite n = op_units b n
