@@ -11,7 +11,7 @@ use Rattle.qs_nbd_transmission.specs.declared.event.Room.{Room}
 use Rattle.qs_nbd_transmission.specs.declared.event.Room.TheVariants.{Keep, Drop}
 use Rattle.qs_nbd_transmission.specs.Heads.{ask_of, head_of, has_body, has_data, is_too_long}
 use Rattle.qs_nbd_transmission.specs.Messages.{Message, IsMessage, spelling}
-use Rattle.qs_nbd_transmission.specs.Phases.{Phase, Reader, InHead, Wants, Fills, Skips, IsServed, given}
+use Rattle.qs_nbd_transmission.specs.Phases.{Phase, Reader, InHead, Wants, Fills, Skips, IsServed, phase_with_room}
 use Rattle.qs_nbd_transmission.specs.Replies.{reply_of}
 use Rattle.qs_nbd_transmission.proofs.Reading.{has_data-ask_of}
 use Rattle.qs_outside.specs.Blocks.{Seen}
@@ -25,19 +25,19 @@ use Rattle.qs_stdio.specs.Turns.{AwaitsRoom, Finishes, HasRoom, IsData, TakesTur
 use Rattle.qs_stdio.proofs.Flows.{takes_on, gives_on}
 
 -- how many bytes are awaited where room was given
-by_room : (h : Head) (room : Room) → awaited (given (Wants h) room) ≡ h.size
+by_room : (h : Head) (room : Room) → awaited (phase_with_room (Wants h) room) ≡ h.size
 by_room h (Keep buffer) = refl
 by_room h (Drop count) = refl
 
-pub data_awaited : (old new : Reader) (a : Ask) (room : Room) → AwaitsRoom old a → new ≡ record old { phase = given old.phase room } →
+pub data_awaited : (old new : Reader) (a : Ask) (room : Room) → AwaitsRoom old a → new ≡ record old { phase = phase_with_room old.phase room } →
     awaited new.phase ≡ a.length
 data_awaited old new a room awaits is =
     ap (λ (r : Reader). awaited r.phase) is
-        ∙ ap (λ (r : Reader). awaited (given r.phase room)) awaits.1.0
+        ∙ ap (λ (r : Reader). awaited (phase_with_room r.phase room)) awaits.1.0
         ∙ by_room awaits.0 room
         ∙ awaits.1.1
 
-pub still_simple : (old new : Reader) (a : Ask) (room : Room) → AwaitsRoom old a → new ≡ record old { phase = given old.phase room } →
+pub still_simple : (old new : Reader) (a : Ask) (room : Room) → AwaitsRoom old a → new ≡ record old { phase = phase_with_room old.phase room } →
     new.structured ≡ false
 still_simple old new a room awaits is = ap (λ (r : Reader). r.structured) is ∙ ap (λ (r : Reader). r.structured) awaits.1.0
 
