@@ -5,3 +5,4 @@ pub mod Answering
 pub mod Sought
 pub mod Turning
 pub mod Serving
+pub mod Running

@@ -5,5 +5,5 @@ pub mod Calls
 pub mod Scenes
 pub mod Events
 pub mod Turns
-pub mod Runs
 pub mod Words
+pub mod Runs

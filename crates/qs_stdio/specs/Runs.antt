@@ -1,10 +1,12 @@
 -- What `run_stdio` does, from its words to its status.
-use Rattle.std.specs.Prelude.{◌≡◌, ◌≢◌, ℕ, ◌≤◌, ◌⊎◌, Bool, true, false, List, [], ◌++◌, length, Option, None, Some}
+use Rattle.std.specs.Prelude.{◌≡◌, ◌≢◌, ◌^◌, ℕ, ◌≤◌, ◌⊎◌, Bool, true, false, List, [], ◌++◌, length, Option, None, Some, String}
+use Rattle.std.specs.Global.{Global}
 use Rattle.qs_bytes.specs.declared.status.Status.{Status}
 use Rattle.qs_bytes.specs.declared.status.Status.TheVariants as status
 use Rattle.qs_outside.specs.Blocks.{Seen}
 use Rattle.qs_image.specs.Image.{content, align_of, size_of, AllTell, SameDisks}
-use Rattle.qs_image.specs.Opening.{Opens}
+use Rattle.qs_image.specs.Opening.{IsImage, Opens}
+use Rattle.qs_stdio.specs.Words.{IsCommand}
 use Rattle.qs_stdio.specs.Service.{Exchange, AllFit, LeadsAll, asked, answered}
 use Rattle.qs_stdio.specs.Calls.{CalledAll}
 use Rattle.qs_outside.specs.Faults.{Rose}
@@ -56,3 +58,15 @@ pub record Sitting (align size budget : ℕ) (before after : Scene) (status : St
   pub calls : CalledAll before.disks exchanges after.disks
   pub same : SameDisks before.disks after.disks
   pub ends : Ends status budget exchanges rest after
+
+-- the disks are tested, and requests are served over them, at most 2^32
+abbrev pub Serves : Scene → Scene → Status → Type 0
+Serves before after status.Usage = ⊥
+Serves before after (status.OpenBad bad) = Opens before.disks (Some bad) × (after ≡ before)
+Serves before after other =
+    IsImage before.disks × Sitting (align_of before.disks) (size_of before.disks) (2 ^ 32) before after other
+
+-- One call of `run_stdio`: the words are tested first, then the disks; then requests are served, at most 2^32.
+abbrev pub Ran : List (String Global) → Scene → Scene → Status → Type 0
+Ran words before after status.Usage = ¬ IsCommand words × (after ≡ before)
+Ran words before after other = IsCommand words × Serves before after other

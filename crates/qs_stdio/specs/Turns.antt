@@ -121,3 +121,7 @@ TakesTurn align size before after new (turn.Ends status) = Stops before status a
 abbrev pub TurnCause : ℕ → ℕ → ℕ → ℕ → Turn → Type 0
 TurnCause read read' write write' result =
     Causes read read' write write' (result ≡ turn.Ends ReadFault) (result ≡ turn.Ends WriteFault)
+
+-- nothing was read, and nothing waits
+abbrev pub IsNew : Reader → List ℕ → List ℕ → Type 0
+IsNew reader waiting held = (reader ≡ between) × (waiting ≡ []) × (held ≡ [])

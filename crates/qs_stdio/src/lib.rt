@@ -11,4 +11,5 @@ mod session;
 mod window;
 mod words;
 
+pub use run::run_stdio;
 pub use words::{StdioWords, stdio_words};

@@ -1,8 +1,7 @@
-ghost use Rattle.std.specs.Prelude.{◌≡◌, ◌^◌, map};
-ghost use Rattle.qs_image.specs.Image.{align_of, size_of, SameDisks};
+ghost use Rattle.std.specs.Prelude.{◌≡◌, ℕ, List, [], map};
 ghost use Rattle.qs_image.specs.Opening.{IsImage};
 ghost use Rattle.qs_stdio.specs.Service.{IsShape};
-ghost use Rattle.qs_stdio.specs.Runs.{Finishing, FinishCause, Sitting, StatusCause};
+ghost use Rattle.qs_stdio.specs.Runs.{FinishCause, Finishing, Ran, Serves, Sitting, StatusCause};
 ghost use Rattle.qs_stdio.specs.Turns.{between};
 
 use crate::answer::Shape;
@@ -11,7 +10,9 @@ use crate::serve::Turn;
 use crate::session::Session;
 use crate::window::Window;
 use qs_bytes::Status;
-use qs_outside::{Disk, Sink, Source};
+use crate::words::stdio_words;
+use qs_image::open_fault;
+use qs_outside::{Clock, Disk, Sink, Source};
 use std::alloc::Global;
 
 impl Session {
@@ -57,4 +58,65 @@ impl Session {
         }
         self.finish(output, Status::Spent)
     }
+}
+
+/// How many messages one call reads at most.
+const BUDGET: u64 = 1 << 32;
+
+/// Serves the image that the disks hold, if they hold one.
+fn serve_disks<I: Source, O: Sink, D: Disk>(
+    alloc: Global,
+    input: &mut I,
+    output: &mut O,
+    disks: &mut [D],
+) -> Status
+    ensures serves { (waiting held : List ℕ) × Serves
+        (record { left = I.left input.old; waiting = []; sent = O.sent output.old; held = []; disks = map D.seen disks.old })
+        (record { left = I.left input.new; waiting = waiting; sent = O.sent output.new; held = held; disks = map D.seen disks.new })
+        result }
+    ensures cause { StatusCause (I.read_faults input.old) (I.read_faults input.new) (O.write_faults output.old) (O.write_faults output.new) result }
+{
+    match open_fault(disks) {
+        Some(bad) => return Status::OpenBad(bad),
+        None => {}
+    }
+    let mut session = match Session::new(alloc) {
+        Ok(session) => session,
+        Err(_) => return Status::Memory,
+    };
+    let shape = Shape {
+        align: disks[0].align() as usize,
+        size: disks[0].length(),
+    };
+    session.serve(alloc, BUDGET, input, output, disks, shape)
+}
+
+/// Serves one client over the image that the disks hold, from its input to its output, and answers how
+/// the run ended.
+///
+/// The words are those behind the program's name: `--transmission IMAGE`. The input is a stream of NBD
+/// requests alone; READ, WRITE and DISC of whole blocks are served, and everything else is refused with
+/// EINVAL. Requests are answered in order, each by a simple reply. At most 2^32 messages are read.
+///
+/// A fault of the input or the output ends the run at that call. What was answered before stays on the
+/// image.
+pub fn run_stdio<I: Source, O: Sink, D: Disk, C: Clock>(
+    alloc: Global,
+    words: &[String],
+    input: &mut I,
+    output: &mut O,
+    disks: &mut Vec<D>,
+    _clock: &C,
+) -> Status
+    ensures ran { (waiting held : List ℕ) × Ran words.now
+        (record { left = I.left input.old; waiting = []; sent = O.sent output.old; held = []; disks = map D.seen disks.old.items })
+        (record { left = I.left input.new; waiting = waiting; sent = O.sent output.new; held = held; disks = map D.seen disks.new.items })
+        result }
+    ensures cause { StatusCause (I.read_faults input.old) (I.read_faults input.new) (O.write_faults output.old) (O.write_faults output.new) result }
+{
+    match stdio_words(words) {
+        Some(_) => {}
+        None => return Status::Usage,
+    }
+    serve_disks(alloc, input, output, disks.as_mut_slice())
 }

@@ -1,10 +1,10 @@
-ghost use Rattle.std.specs.Prelude.{◌≡◌, ◌≤◌, false, []};
+ghost use Rattle.std.specs.Prelude.{◌≡◌, ◌≤◌, false, [], IfOk};
 ghost use Rattle.qs_nbd_transmission.specs.Phases.{InHead};
-ghost use Rattle.qs_stdio.specs.Turns.{Asking, Bringing, BroughtCause, CameCause, HasRoom, IsFilling, status_at};
+ghost use Rattle.qs_stdio.specs.Turns.{Asking, Bringing, BroughtCause, CameCause, HasRoom, IsFilling, IsNew, status_at};
 
 use crate::event::{Next, next_event};
 use crate::window::Window;
-use qs_bytes::{Ask, Bytes, SessionEnd, Status};
+use qs_bytes::{Ask, Bytes, Memory, Mode, SessionEnd, Status};
 use qs_nbd_transmission::{Room, Transmission, WireEvent};
 use qs_outside::{Sink, Source};
 use std::alloc::Global;
@@ -58,6 +58,22 @@ pub fn room_for(alloc: Global, spare: &mut Vec<u8>, size: u64) -> Room
 }
 
 impl Session {
+    /// A session whose first request is awaited.
+    pub fn new(alloc: Global) -> Result<Self, Memory>
+        ensures { IfOk result (λ s. IsNew s.reader s.inbox.held s.outbox.held) }
+    {
+        let mode = Mode {
+            no_zeroes: false,
+            structured: false,
+        };
+        Ok(Session {
+            reader: Transmission::new(mode),
+            inbox: Window::new(alloc)?,
+            outbox: Window::new(alloc)?,
+            spare: Vec::new(alloc),
+        })
+    }
+
     /// The next request, between requests.
     pub fn next_ask<I: Source, O: Sink>(&mut self, input: &mut I, output: &mut O) -> Came
         requires between { self.old.reader ≡ record { structured = false; phase = InHead [] } }
