@@ -81,7 +81,7 @@ get_or-overlay_inside old at piece x inside from below =
     let rest : List ℕ = drop (at + length piece) old in
     rw (append_assoc (take at old) piece rest)
     (get_or-append_right (take at old) (piece ++ rest) at x 0 front from
-        ∙ get_or_append_left piece rest 0 (x - at) (omega arith))
+    ∙ get_or_append_left piece rest 0 (x - at) (omega arith))
 
 -- a byte behind the piece
 pub get_or-overlay_behind : (old : List ℕ) (at : ℕ) (piece : List ℕ) (x : ℕ) → at + length piece ≤ length old → at + length piece ≤ x →
@@ -91,5 +91,5 @@ get_or-overlay_behind old at piece x inside from =
     let front : length (take at old ++ piece) ≡ at + length piece = front-overlay old at piece inside in
     let rest : List ℕ = drop (at + length piece) old in
     get_or-append_right (take at old ++ piece) rest (at + length piece) x 0 front from
-        ∙ get_or-drop (at + length piece) old (x - (at + length piece)) 0
-        ∙ ap (λ (i : ℕ). get_or old i 0) (omega arith)
+    ∙ get_or-drop (at + length piece) old (x - (at + length piece)) 0
+    ∙ ap (λ (i : ℕ). get_or old i 0) (omega arith)

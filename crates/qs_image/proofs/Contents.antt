@@ -26,10 +26,10 @@ pub image-same : (align size : ℕ) (old new : ℕ → List ℕ) → Same old ne
 image-same align size old new same =
     ext_get_or 0 _ _ (length-image align size new ∙ sym (length-image align size old))
     (λ x below.
-        let inside : x < size = omega (arith, length-image align size new) in
-        get_or-image align size new x inside
-            ∙ ap (λ (block : List ℕ). get_or block (x % align) 0) (same (x / align))
-            ∙ sym (get_or-image align size old x inside))
+    let inside : x < size = omega (arith, length-image align size new) in
+    get_or-image align size new x inside
+    ∙ ap (λ (block : List ℕ). get_or block (x % align) 0) (same (x / align))
+    ∙ sym (get_or-image align size old x inside))
 
 -- a block is a part of the image
 pub part-image : (align size : ℕ) (blocks : ℕ → List ℕ) (b : ℕ) → (b + 1) * align ≤ size → length (blocks b) ≡ align →
@@ -38,15 +38,15 @@ part-image align size blocks b inside whole =
     let image_is : List ℕ = image align size blocks in
     let end : b * align + align ≤ size = omega arith in
     let long : length (part image_is (b * align) align) ≡ align =
-        length-part image_is (b * align) align (omega (arith, length-image align size blocks)) in
+    length-part image_is (b * align) align (omega (arith, length-image align size blocks)) in
     ext_get_or 0 _ _ (long ∙ sym whole)
     (λ i below.
-        let small : i < align = omega (arith, long) in
-        get_or-take align (drop (b * align) image_is) i 0 small
-            ∙ get_or-drop (b * align) image_is i 0
-            ∙ get_or-image align size blocks (b * align + i) (omega arith)
-            ∙ ap (λ (q : ℕ). get_or (blocks q) ((b * align + i) % align) 0) (div-mul-add b align i small)
-            ∙ ap (λ (r : ℕ). get_or (blocks b) r 0) (mod-mul-add b align i small))
+    let small : i < align = omega (arith, long) in
+    get_or-take align (drop (b * align) image_is) i 0 small
+    ∙ get_or-drop (b * align) image_is i 0
+    ∙ get_or-image align size blocks (b * align + i) (omega arith)
+    ∙ ap (λ (q : ℕ). get_or (blocks q) ((b * align + i) % align) 0) (div-mul-add b align i small)
+    ∙ ap (λ (r : ℕ). get_or (blocks b) r 0) (mod-mul-add b align i small))
 
 -- a place before a block, or behind it, is of another block
 another_before : (align b x : ℕ) → x < b * align → x / align ≢ b
@@ -76,25 +76,25 @@ image-stored align size old new b bytes some inside whole stored =
     let fits : b * align + length bytes ≤ length image_is = omega arith in
     ext_get_or 0 _ _ (length-image align size new ∙ sym (length-overlay image_is (b * align) bytes fits ∙ long))
     (λ x below.
-        let here : x < size = omega (arith, length-image align size new) in
-        let other : x / align ≢ b → get_or (image align size new) x 0 ≡ get_or image_is x 0 =
-            λ ne. get_or-image align size new x here
-                ∙ ap (λ (block : List ℕ). get_or block (x % align) 0) (stored.others (x / align) ne)
-                ∙ sym (get_or-image align size old x here) in
-        elim (cases_lt x (b * align))
-        [ inl before ↦ other (another_before align b x before)
-            ∙ sym (get_or-overlay_before image_is (b * align) bytes x (omega arith) before)
-        | inr from ↦ elim (cases_lt x (b * align + align))
-            [ inl within ↦
-                let i : ℕ = x - b * align in
-                let small : i < align = omega arith in
-                let is : x ≡ b * align + i = omega arith in
-                get_or-image align size new x here
-                    ∙ ap (λ (y : ℕ). get_or (new (y / align)) (y % align) 0) is
-                    ∙ ap (λ (q : ℕ). get_or (new q) ((b * align + i) % align) 0) (div-mul-add b align i small)
-                    ∙ written_byte align b i bytes (new b) small stored.here
-                    ∙ sym (get_or-overlay_inside image_is (b * align) bytes x (omega arith) from (omega arith))
-            | inr behind ↦ other (another_behind align b x some behind)
-                ∙ sym (get_or-overlay_behind image_is (b * align) bytes x fits (omega arith))
-            ]
-        ])
+    let here : x < size = omega (arith, length-image align size new) in
+    let other : x / align ≢ b → get_or (image align size new) x 0 ≡ get_or image_is x 0 =
+    λ ne. get_or-image align size new x here
+    ∙ ap (λ (block : List ℕ). get_or block (x % align) 0) (stored.others (x / align) ne)
+    ∙ sym (get_or-image align size old x here) in
+    elim (cases_lt x (b * align)) [
+      | inl before ↦ other (another_before align b x before)
+          ∙ sym (get_or-overlay_before image_is (b * align) bytes x (omega arith) before)
+      | inr from ↦ elim (cases_lt x (b * align + align)) [
+        | inl within ↦
+            let i : ℕ = x - b * align in
+            let small : i < align = omega arith in
+            let is : x ≡ b * align + i = omega arith in
+            get_or-image align size new x here
+            ∙ ap (λ (y : ℕ). get_or (new (y / align)) (y % align) 0) is
+            ∙ ap (λ (q : ℕ). get_or (new q) ((b * align + i) % align) 0) (div-mul-add b align i small)
+            ∙ written_byte align b i bytes (new b) small stored.here
+            ∙ sym (get_or-overlay_inside image_is (b * align) bytes x (omega arith) from (omega arith))
+        | inr behind ↦ other (another_behind align b x some behind)
+            ∙ sym (get_or-overlay_behind image_is (b * align) bytes x fits (omega arith))
+      ]
+    ])

@@ -30,10 +30,10 @@ seen_at seen disks k d inside = get_or-map seen disks k d no_disk inside
 pub each_disk : (P : Seen → Seen → Type 0) (disks : List Seen) (k : ℕ) (called : Seen) → k < length disks →
     ((d : Seen) → P d d) → P (disk disks k) called → (j : ℕ) → P (disk disks j) (disk (set disks k called) j)
 each_disk P disks k called inside still there j =
-    elim (cases_eq j k)
-    [ inl e ↦ subst (λ (i : ℕ). P (disk disks i) (disk (set disks k called) i)) (sym e)
-        (subst (λ (d : Seen). P (disk disks k) d) (sym (get_or-set_same disks k called no_disk inside)) there)
-    | inr ne ↦ subst (λ (d : Seen). P (disk disks j) d) (sym (get_or-set_other disks k j called no_disk ne)) (still (disk disks j))
+    elim (cases_eq j k) [
+      | inl e ↦ subst (λ (i : ℕ). P (disk disks i) (disk (set disks k called) i)) (sym e)
+          (subst (λ (d : Seen). P (disk disks k) d) (sym (get_or-set_same disks k called no_disk inside)) there)
+      | inr ne ↦ subst (λ (d : Seen). P (disk disks j) d) (sym (get_or-set_other disks k j called no_disk ne)) (still (disk disks j))
     ]
 
 -- they are the same disks
@@ -74,21 +74,24 @@ still_tell old new same tell k below = rw (same.tells k) (tell k below)
 
 -- they are an image as before
 pub still_image : (old new : List Seen) → SameDisks old new → IsImage old → IsImage new
-still_image old new same is =
-    ((same.count ∙ is.0.0,
-        λ k below. record {
-          align = same.align k ∙ (is.0.1 k below).align ∙ sym (same.align 0);
-          size = same.size k ∙ (is.0.1 k below).size ∙ sym (same.size 0);
-          stripe = same.stripe k ∙ (is.0.1 k below).stripe;
-        }),
-    rw (same.align 0, same.size 0) is.1)
+still_image old new same is = (
+  (
+    same.count ∙ is.0.0,
+    λ k below. record {
+      align = same.align k ∙ (is.0.1 k below).align ∙ sym (same.align 0);
+      size = same.size k ∙ (is.0.1 k below).size ∙ sym (same.size 0);
+      stripe = same.stripe k ∙ (is.0.1 k below).stripe;
+    },
+  ),
+  rw (same.align 0, same.size 0) is.1,
+)
 
 -- an image of the same alignment and size
 pub image_at : (old new : List Seen) (blocks : ℕ → List ℕ) → SameDisks old new →
     image (align_of new) (size_of new) blocks ≡ image (align_of old) (size_of old) blocks
 image_at old new blocks same =
     ap (λ (align : ℕ). image align (size_of new) blocks) (same.align 0)
-        ∙ ap (λ (size : ℕ). image (align_of old) size blocks) (same.size 0)
+    ∙ ap (λ (size : ℕ). image (align_of old) size blocks) (same.size 0)
 
 -- a rise of the disk that was called
 pub some_rose : (disks : List Seen) (k : ℕ) (called : Seen) → k < 8 → k < length disks → Rose (disk disks k).faults called.faults →
@@ -108,8 +111,8 @@ pub content_kept : (disks : List Seen) (k : ℕ) (called : Seen) → k < length 
     (disk disks k).faults ≤ called.faults → Same (disk disks k).now called.now → content (set disks k called) ≡ content disks
 content_kept disks k called inside fixed later kept =
     image_at disks (set disks k called) (block_now (set disks k called)) (same_disks disks k called inside fixed later)
-        ∙ image-same (align_of disks) (size_of disks) (block_now disks) (block_now (set disks k called))
-        (λ b. each_disk (λ d e. e.now b ≡ d.now b) disks k called inside (λ d. refl) (kept b) (stripe_of b))
+    ∙ image-same (align_of disks) (size_of disks) (block_now disks) (block_now (set disks k called))
+    (λ b. each_disk (λ d e. e.now b ≡ d.now b) disks k called inside (λ d. refl) (kept b) (stripe_of b))
 
 -- the blocks of the list after one was stored
 pub blocks_stored : (disks : List Seen) (k b : ℕ) (bytes : List ℕ) (called : Seen) → k < length disks → stripe_of b ≡ k →
@@ -117,8 +120,8 @@ pub blocks_stored : (disks : List Seen) (k b : ℕ) (bytes : List ℕ) (called :
 blocks_stored disks k b bytes called inside here stored = record {
   here =
       ap (λ (i : ℕ). (disk (set disks k called) i).now b) here
-          ∙ ap (λ (d : Seen). d.now b) (get_or-set_same disks k called no_disk inside)
-          ∙ stored.here;
+      ∙ ap (λ (d : Seen). d.now b) (get_or-set_same disks k called no_disk inside)
+      ∙ stored.here;
   others = λ c ne. each_disk (λ d e. e.now c ≡ d.now c) disks k called inside (λ d. refl) (stored.others c ne) (stripe_of c);
 }
 
@@ -129,8 +132,8 @@ pub content_stored : (disks : List Seen) (k b : ℕ) (bytes : List ℕ) (called 
     content (set disks k called) ≡ overlay (content disks) (b * align_of disks) bytes
 content_stored disks k b bytes called inside here fixed later some within whole stored =
     image_at disks (set disks k called) (block_now (set disks k called)) (same_disks disks k called inside fixed later)
-        ∙ image-stored (align_of disks) (size_of disks) (block_now disks) (block_now (set disks k called)) b bytes some within whole
-        (blocks_stored disks k b bytes called inside here stored)
+    ∙ image-stored (align_of disks) (size_of disks) (block_now disks) (block_now (set disks k called)) b bytes some within whole
+    (blocks_stored disks k b bytes called inside here stored)
 
 -- what the disk of a block's stripe is, in an image
 pub block_of : (disks : List Seen) (b : ℕ) → IsImage disks → (b + 1) * align_of disks ≤ size_of disks →
@@ -149,7 +152,7 @@ pub part_content : (disks : List Seen) (b : ℕ) (bytes : List ℕ) → (b + 1) 
     bytes ≡ part (content disks) (b * align_of disks) (length bytes)
 part_content disks b bytes inside whole is =
     is ∙ sym (part-image (align_of disks) (size_of disks) (block_now disks) b inside (ap length (sym is) ∙ whole))
-        ∙ ap (λ (n : ℕ). part (content disks) (b * align_of disks) n) (sym whole)
+    ∙ ap (λ (n : ℕ). part (content disks) (b * align_of disks) n) (sym whole)
 
 -- what a call of one disk told
 pub record ReadsBlock {E : Type 0} (b : ℕ) (bytes : List ℕ) (result : Result Unit E) (old new : Seen) : Type 0 where
@@ -197,20 +200,19 @@ stores_block disks b bytes result called is inside whole fixed cause stored refu
     let some : 0 < align_of disks = some_align disks is in
     let at : ℕ = b * align_of disks in
     let put : Stored b bytes (disk disks k).now called.now → content (set disks k called) ≡ overlay (content disks) at bytes =
-        content_stored disks k b bytes called within refl fixed cause.later some inside whole in
+    content_stored disks k b bytes called within refl fixed cause.later some inside whole in
     record {
       written = λ tell. when_ok result (stored (tell k below)) put;
       cut = λ tell. when_err result (refused (tell k below))
-          (λ either. elim either
-              [ inl kept ↦ (0, (omega arith, content_kept disks k called within fixed cause.later kept ∙ sym (overlay-none (content disks) at)))
-              | inr done ↦ (length bytes, (omega arith, rw (take-length bytes) (put done)))
-              ]);
+          (λ either. elim either [
+            | inl kept ↦ (0, (omega arith, content_kept disks k called within fixed cause.later kept ∙ sym (overlay-none (content disks) at)))
+            | inr done ↦ (length bytes, (omega arith, rw (take-length bytes) (put done)))
+          ]);
       same = same;
       cause = when_err result cause.failed (some_rose disks k called below within);
     }
 
 module _ {D : Type 0} (seen : D → Seen) (disks : List D) (b : ℕ) (d : D) where
-
   -- what the disk that is called was
   called_disk : IsImage (map seen disks) → disk (map seen disks) (stripe_of b) ≡ seen (get_or disks (stripe_of b) d)
   called_disk is =
@@ -219,7 +221,7 @@ module _ {D : Type 0} (seen : D → Seen) (disks : List D) (b : ℕ) (d : D) whe
   -- it has the block, and blocks of the image's size
   pub has_block : IsImage (map seen disks) → (b + 1) * align_of (map seen disks) ≤ size_of (map seen disks) →
       IsBlock (seen (get_or disks (stripe_of b) d)) b
-          × ((seen (get_or disks (stripe_of b) d)).align ≡ align_of (map seen disks))
+      × ((seen (get_or disks (stripe_of b) d)).align ≡ align_of (map seen disks))
   has_block is inside =
       subst (λ (s : Seen). IsBlock s b × (s.align ≡ align_of (map seen disks))) (called_disk is) (block_of (map seen disks) b is inside)
 
@@ -230,10 +232,10 @@ module _ {D : Type 0} (seen : D → Seen) (disks : List D) (b : ℕ) (d : D) whe
       Loads (map seen disks) (b * align_of (map seen disks)) bytes result (map seen (set disks (stripe_of b) called))
   loads_by bytes result called is inside whole reads =
       let before : ReadsBlock b bytes result (disk (map seen disks) (stripe_of b)) (seen called) =
-          subst (λ (s : Seen). ReadsBlock b bytes result s (seen called)) (sym (called_disk is)) reads in
+      subst (λ (s : Seen). ReadsBlock b bytes result s (seen called)) (sym (called_disk is)) reads in
       subst (λ (new : List Seen). Loads (map seen disks) (b * align_of (map seen disks)) bytes result new)
-          (sym (map-set seen disks (stripe_of b) called))
-          (loads_block (map seen disks) b bytes result (seen called) is inside whole before.fixed before.cause before.bytes_are before.kept)
+      (sym (map-set seen disks (stripe_of b) called))
+      (loads_block (map seen disks) b bytes result (seen called) is inside whole before.fixed before.cause before.bytes_are before.kept)
 
   -- one block was written to the disks
   pub stores_by : {E : Type 0} (bytes : List ℕ) (result : Result Unit E) (called : D) →
@@ -242,7 +244,7 @@ module _ {D : Type 0} (seen : D → Seen) (disks : List D) (b : ℕ) (d : D) whe
       Stores (map seen disks) (b * align_of (map seen disks)) bytes result (map seen (set disks (stripe_of b) called))
   stores_by bytes result called is inside whole writes =
       let before : WritesBlock b bytes result (disk (map seen disks) (stripe_of b)) (seen called) =
-          subst (λ (s : Seen). WritesBlock b bytes result s (seen called)) (sym (called_disk is)) writes in
+      subst (λ (s : Seen). WritesBlock b bytes result s (seen called)) (sym (called_disk is)) writes in
       subst (λ (new : List Seen). Stores (map seen disks) (b * align_of (map seen disks)) bytes result new)
-          (sym (map-set seen disks (stripe_of b) called))
-          (stores_block (map seen disks) b bytes result (seen called) is inside whole before.fixed before.cause before.stored before.refused)
+      (sym (map-set seen disks (stripe_of b) called))
+      (stores_block (map seen disks) b bytes result (seen called) is inside whole before.fixed before.cause before.stored before.refused)

@@ -20,7 +20,7 @@ pub take-put_mid : (xs ys : List ℕ) (a k n : ℕ) → a ≤ length xs → n �
 take-put_mid xs ys a k n inside is =
     let front : length (take a xs) ≡ a = length-take-le a xs inside in
     ap (λ (zs : List ℕ). take n zs) (sym (append_assoc (take a xs) ys (post_of a k xs)))
-        ∙ take_at (take a xs ++ ys) (post_of a k xs) n (simp length-append (omega (arith, front)))
+    ∙ take_at (take a xs ++ ys) (post_of a k xs) n (simp length-append (omega (arith, front)))
 
 -- the bytes read so far, and one more block
 pub loads_more : {E : Type 0} (old mid new : List Seen) (at a k n place : ℕ) (into piece : List ℕ) →
@@ -29,13 +29,13 @@ pub loads_more : {E : Type 0} (old mid new : List Seen) (at a k n place : ℕ) (
     Loads {E = E} mid place piece (Ok tt) new → AllTell old → take n (put_mid a k into piece) ≡ part (content old) at n
 loads_more old mid new at a k n place into piece inside is here same before kept loads tell =
     take-put_mid into piece a k n inside is
-        ∙ ap (λ (xs : List ℕ). xs ++ piece) (before tell)
-        ∙ ap (λ (xs : List ℕ). part (content old) at a ++ xs)
-        (loads.bytes_are (still_tell old mid same tell)
-            ∙ ap (λ (xs : List ℕ). part xs place (length piece)) (kept tell)
-            ∙ ap (λ (x : ℕ). part (content old) x (length piece)) here)
-        ∙ sym (part-add (content old) at a (length piece))
-        ∙ ap (λ (m : ℕ). part (content old) at m) (sym is)
+    ∙ ap (λ (xs : List ℕ). xs ++ piece) (before tell)
+    ∙ ap (λ (xs : List ℕ). part (content old) at a ++ xs)
+    (loads.bytes_are (still_tell old mid same tell)
+    ∙ ap (λ (xs : List ℕ). part xs place (length piece)) (kept tell)
+    ∙ ap (λ (x : ℕ). part (content old) x (length piece)) here)
+    ∙ sym (part-add (content old) at a (length piece))
+    ∙ ap (λ (m : ℕ). part (content old) at m) (sym is)
 
 -- the bytes written so far, and a front of one more block
 written_more : (old mid new : List Seen) (at a m place : ℕ) (bytes piece : List ℕ) →
@@ -47,11 +47,11 @@ written_more old mid new at a m place bytes piece inside within here front befor
     let long : length first ≡ a = length-take-le a bytes (omega arith) in
     let rest : length (take m (drop a bytes)) ≡ m = length-take-le m (drop a bytes) (simp length-drop (omega arith)) in
     now
-        ∙ ap (λ (xs : List ℕ). overlay xs place (take m piece)) before
-        ∙ ap (λ (xs : List ℕ). overlay (overlay (content old) at first) place xs) front
-        ∙ ap (λ (x : ℕ). overlay (overlay (content old) at first) x (take m (drop a bytes))) (here ∙ ap (λ (x : ℕ). at + x) (sym long))
-        ∙ overlay-append (content old) at first (take m (drop a bytes)) (omega (arith, length-content old))
-        ∙ ap (λ (xs : List ℕ). overlay (content old) at xs) (sym (take-add a m bytes))
+    ∙ ap (λ (xs : List ℕ). overlay xs place (take m piece)) before
+    ∙ ap (λ (xs : List ℕ). overlay (overlay (content old) at first) place xs) front
+    ∙ ap (λ (x : ℕ). overlay (overlay (content old) at first) x (take m (drop a bytes))) (here ∙ ap (λ (x : ℕ). at + x) (sym long))
+    ∙ overlay-append (content old) at first (take m (drop a bytes)) (omega (arith, length-content old))
+    ∙ ap (λ (xs : List ℕ). overlay (content old) at xs) (sym (take-add a m bytes))
 
 pub stores_more : {E : Type 0} (old mid new : List Seen) (at a k place : ℕ) (bytes : List ℕ) →
     a + k ≤ length bytes → at + length bytes ≤ size_of old → place ≡ at + a → SameDisks old mid →

@@ -28,7 +28,12 @@ pub fn store_block<D: Disk>(disks: &mut [D], b: u64, bytes: &[u8]) -> Result<(),
 
 /// Reads the bytes from place `at` on into `into`. Both the place and the number of bytes are
 /// multiples of the block, and they lie inside the image.
-pub fn load_span<D: Disk>(disks: &mut [D], align: usize, at: u64, into: &mut [u8]) -> Result<(), Failed>
+pub fn load_span<D: Disk>(
+    disks: &mut [D],
+    align: usize,
+    at: u64,
+    into: &mut [u8],
+) -> Result<(), Failed>
     requires image { IsImage (map D.seen disks.old) }
     requires align { align ≡ align_of (map D.seen disks.old) }
     requires blocks { (at % align ≡ 0) × (length into.old % align ≡ 0) }
@@ -48,7 +53,12 @@ pub fn load_span<D: Disk>(disks: &mut [D], align: usize, at: u64, into: &mut [u8
 
 /// Writes bytes from place `at` on. Both the place and the number of bytes are multiples of the
 /// block, and they lie inside the image. Where it fails, a front of them is written at most.
-pub fn store_span<D: Disk>(disks: &mut [D], align: usize, at: u64, bytes: &[u8]) -> Result<(), Failed>
+pub fn store_span<D: Disk>(
+    disks: &mut [D],
+    align: usize,
+    at: u64,
+    bytes: &[u8],
+) -> Result<(), Failed>
     requires image { IsImage (map D.seen disks.old) }
     requires align { align ≡ align_of (map D.seen disks.old) }
     requires blocks { (at % align ≡ 0) × (length bytes.now % align ≡ 0) }

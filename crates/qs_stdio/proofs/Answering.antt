@@ -18,7 +18,6 @@ use Rattle.qs_stdio.specs.Calls.{Called, Puts, Answered, Answers, is_uncalled}
 use Rattle.qs_stdio.proofs.Flows.{gives_on}
 
 module _ {E : Type 0} (align size : ℕ) (a : Ask) (old new : List Seen) where
-
   -- a READ has its bytes
   pub read_put : (u : Unit {0}) (held head held' : List ℕ) → is_valid align size a ≡ true → is_read a.kind ≡ true →
       ((bytes : List ℕ) → head ≡ reply_front false a (Got bytes)) →

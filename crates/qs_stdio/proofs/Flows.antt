@@ -38,10 +38,10 @@ takes_on a b c u v w x y first second = record {
   read = consumes_on a b c first.more second.more first.read second.read;
   joined =
       sym (append_assoc u first.more second.more)
-          ∙ ap (λ (zs : List ℕ). zs ++ second.more) first.joined
-          ∙ append_assoc x v second.more
-          ∙ ap (λ (zs : List ℕ). x ++ zs) second.joined
-          ∙ sym (append_assoc x y w);
+      ∙ ap (λ (zs : List ℕ). zs ++ second.more) first.joined
+      ∙ append_assoc x v second.more
+      ∙ ap (λ (zs : List ℕ). x ++ zs) second.joined
+      ∙ sym (append_assoc x y w);
 }
 
 pub gives_on : (a b c : Option (List ℕ)) (u v w x y : List ℕ) → Gives a u x b v → Gives b v y c w → Gives a u (x ++ y) c w
@@ -50,10 +50,10 @@ gives_on a b c u v w x y first second = record {
   wrote = appends_on a b c first.out second.out first.wrote second.wrote;
   joined =
       sym (append_assoc u x y)
-          ∙ ap (λ (zs : List ℕ). zs ++ y) first.joined
-          ∙ append_assoc first.out v y
-          ∙ ap (λ (zs : List ℕ). first.out ++ zs) second.joined
-          ∙ sym (append_assoc first.out second.out w);
+      ∙ ap (λ (zs : List ℕ). zs ++ y) first.joined
+      ∙ append_assoc first.out v y
+      ∙ ap (λ (zs : List ℕ). first.out ++ zs) second.joined
+      ∙ sym (append_assoc first.out second.out w);
 }
 
 -- a front of what waited was written
@@ -64,8 +64,8 @@ gives_front a b waiting waiting' n wrote rest = record {
   wrote = wrote;
   joined =
       append-nil waiting
-          ∙ sym (take-append-drop n waiting)
-          ∙ ap (λ (zs : List ℕ). take n waiting ++ zs) (sym rest);
+      ∙ sym (take-append-drop n waiting)
+      ∙ ap (λ (zs : List ℕ). take n waiting ++ zs) (sym rest);
 }
 
 -- what was put behind the bytes that wait
@@ -80,8 +80,8 @@ takes_front left waiting waiting' n rest = record {
   read = consumes_none left;
   joined =
       append-nil waiting
-          ∙ sym (take-append-drop n waiting)
-          ∙ ap (λ (zs : List ℕ). take n waiting ++ zs) (sym rest);
+      ∙ sym (take-append-drop n waiting)
+      ∙ ap (λ (zs : List ℕ). take n waiting ++ zs) (sym rest);
 }
 
 -- where nothing waited, what was read waits now

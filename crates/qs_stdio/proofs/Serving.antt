@@ -107,9 +107,9 @@ sits align size budget before mid after count s result sent' held' served stops 
       moves = record {
         takes = takes_on before.left mid.left after.left before.waiting mid.waiting after.waiting (asked xs) stops.rest served.moves.takes stops.moves.takes;
         gives =
-            subst (λ (bytes : List ℕ). Gives before.sent before.held bytes sent' held') (append-nil (answered xs) )
+            subst (λ (bytes : List ℕ). Gives before.sent before.held bytes sent' held') (append-nil (answered xs))
             (gives_on before.sent mid.sent sent' before.held mid.held held' (answered xs) [] served.moves.gives
-                (gives_on mid.sent after.sent sent' mid.held after.held held' [] [] stops.moves.gives finishing.gives));
+            (gives_on mid.sent after.sent sent' mid.held after.held held' [] [] stops.moves.gives finishing.gives));
       };
       whole = finishing.whole;
       service = calls_lead before.disks after.disks xs calls;

@@ -39,7 +39,6 @@ takes_then a b c u x w first read =
 
 module _ (old mid new : Reader) (left left' left'' : Option (List ℕ)) (waiting read waiting' : List ℕ) (sent sent' sent'' : Option (List ℕ)) (held held' held'' : List ℕ)
     (sought : Sought old mid left waiting left' sent held sent' held') (consumed : Consumes left' left'' read) (given : Gives sent' held' [] sent'' held'') where
-
   -- what was written in all
   all_given : Gives sent held [] sent'' held''
   all_given = gives_on sent sent' sent'' held held' held'' [] [] sought.gives given

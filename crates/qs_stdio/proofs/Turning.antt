@@ -33,9 +33,9 @@ pub data_awaited : (old new : Reader) (a : Ask) (room : Room) → AwaitsRoom old
     awaited new.phase ≡ a.length
 data_awaited old new a room awaits is =
     ap (λ (r : Reader). awaited r.phase) is
-        ∙ ap (λ (r : Reader). awaited (phase_with_room r.phase room)) awaits.1.0
-        ∙ by_room awaits.0 room
-        ∙ awaits.1.1
+    ∙ ap (λ (r : Reader). awaited (phase_with_room r.phase room)) awaits.1.0
+    ∙ by_room awaits.0 room
+    ∙ awaits.1.1
 
 pub still_simple : (old new : Reader) (a : Ask) (room : Room) → AwaitsRoom old a → new ≡ record old { phase = phase_with_room old.phase room } →
     new.structured ≡ false
@@ -75,11 +75,10 @@ pub exchanged : (align size : ℕ) (before after : Scene) (taken body : List ℕ
 exchanged align size before after taken body a phase left' waiting' b is has long first second answered =
     let head : Head = head_of taken in
     let answered' : Answered align size (ask_of false head) body before.disks after.disks before.sent before.held after.sent after.held =
-        subst (λ (q : Ask). Answered align size q body before.disks after.disks before.sent before.held after.sent after.held) is.asks answered in
+    subst (λ (q : Ask). Answered align size q body before.disks after.disks before.sent before.held after.sent after.held) is.asks answered in
     let has' : has_body head ≡ b = sym (has_data-ask_of false head) ∙ ap (λ (q : Ask). has_data q) (sym is.asks) ∙ has in
     let long' : length body ≡ (if b then head.size else 0) =
-        long ∙ ap (λ (q : Ask). if b then q.length else 0) is.asks in
-    (
+    long ∙ ap (λ (q : Ask). if b then q.length else 0) is.asks in (
       record { message = record { head = head; body = body }; verdict = answered'.verdict },
       record {
         message = record {
@@ -102,18 +101,17 @@ exchanged align size before after taken body a phase left' waiting' b is has lon
 cut_ending : (taken more : List ℕ) (a : Ask) (phase : Phase) (status : Status) (left : Option (List ℕ)) (waiting : List ℕ) →
     IsServed false taken a phase → has_data a ≡ true → Cutting status more a.length left waiting → Ending status (taken ++ more) left waiting
 cut_ending taken more a phase (status.Ended end.Truncated) left waiting is has cut =
-    let head : Head = head_of taken in
-    (
+    let head : Head = head_of taken in (
       inr
-      (record {
-        front = taken;
-        got = more;
-        whole = refl;
-        head = is.head;
-        wants = sym (has_data-ask_of false head) ∙ ap (λ (q : Ask). has_data q) (sym is.asks) ∙ has;
-        not_long = is.not_long;
-        short = subst (λ (q : Ask). length more < q.length) is.asks cut.0;
-      }),
+          (record {
+            front = taken;
+            got = more;
+            whole = refl;
+            head = is.head;
+            wants = sym (has_data-ask_of false head) ∙ ap (λ (q : Ask). has_data q) (sym is.asks) ∙ has;
+            not_long = is.not_long;
+            short = subst (λ (q : Ask). length more < q.length) is.asks cut.0;
+          }),
       (cut.1, cut.2),
     )
 cut_ending taken more a phase status.ReadFault left waiting is has cut = tt
@@ -127,10 +125,10 @@ pub finished : (align size : ℕ) (before mid after : Scene) (taken : List ℕ) 
 finished align size before mid after taken a phase new turn.Goes is has moves same finishes =
     let body : List ℕ = finishes.0 in
     let answered : Answered align size a body before.disks after.disks before.sent before.held after.sent after.held =
-        subst (λ (disks : List Seen). Answered align size a body disks after.disks before.sent before.held after.sent after.held) same
-            (answered_after align size a body mid.disks after.disks before.sent mid.sent after.sent before.held mid.held after.held moves.gives finishes.1.2) in
+    subst (λ (disks : List Seen). Answered align size a body disks after.disks before.sent before.held after.sent after.held) same
+    (answered_after align size a body mid.disks after.disks before.sent mid.sent after.sent before.held mid.held after.held moves.gives finishes.1.2) in
     let one : (x : Exchange) × Exchanges align size before x after =
-        exchanged align size before after taken body a phase mid.left mid.waiting true is has finishes.1.0 moves.takes finishes.1.1 answered in
+    exchanged align size before after taken body a phase mid.left mid.waiting true is has finishes.1.0 moves.takes finishes.1.1 answered in
     (one.0, (one.1, finishes.1.3))
 finished align size before mid after taken a phase new (turn.Ends status) is has moves same finishes = record {
   rest = taken ++ finishes.0;

@@ -28,8 +28,8 @@ ask x = ask_of false x.message.head
 abbrev pub is_valid : ℕ → ℕ → Ask → Bool
 is_valid align size a =
     not (not (is_read a.kind) && not (is_write a.kind)) && not a.fua && a.flags_fit
-        && not (is_read a.kind && nat_lt longest a.length)
-        && (a.offset % align == 0) && (a.length % align == 0) && nat_le (a.offset + a.length) size
+    && not (is_read a.kind && nat_lt longest a.length)
+    && (a.offset % align == 0) && (a.length % align == 0) && nat_le (a.offset + a.length) size
 
 -- which answers a request may get
 abbrev pub MayGet : ℕ → ℕ → Ask → Verdict → Type 0

@@ -103,14 +103,14 @@ between = record { structured = false; phase = InHead [] }
 abbrev pub Finishes : ℕ → ℕ → Ask → Scene → Scene → Reader → Turn → Type 0
 Finishes align size a before after new turn.Goes =
     (body : List ℕ) × (
-        (length body ≡ a.length)
-            × Takes before.left before.waiting body after.left after.waiting
-            × Answered align size a body before.disks after.disks before.sent before.held after.sent after.held
-            × (new ≡ between)
+    (length body ≡ a.length)
+    × Takes before.left before.waiting body after.left after.waiting
+    × Answered align size a body before.disks after.disks before.sent before.held after.sent after.held
+    × (new ≡ between)
     )
 Finishes align size a before after new (turn.Ends status) =
     (taken : List ℕ) × (
-        Moves before taken [] after × (after.disks ≡ before.disks) × Cutting status taken a.length after.left after.waiting
+    Moves before taken [] after × (after.disks ≡ before.disks) × Cutting status taken a.length after.left after.waiting
     )
 
 -- a request came and was answered, or the session ended before

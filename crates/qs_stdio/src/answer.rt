@@ -88,7 +88,12 @@ fn put_reply(outbox: &mut Window, ask: &Ask, verdict: &Verdict)
 }
 
 /// Answers a request with an error, and calls no disk.
-pub fn refuse<O: Sink>(outbox: &mut Window, output: &mut O, ask: &Ask, errno: Errno) -> Result<(), Failed>
+pub fn refuse<O: Sink>(
+    outbox: &mut Window,
+    output: &mut O,
+    ask: &Ask,
+    errno: Errno,
+) -> Result<(), Failed>
     ensures ok { OnOk result (Gives (O.sent output.old) outbox.old.held (reply_of false ask.now (Refused errno)) (O.sent output.new) outbox.new.held) }
     ensures err { OnErr result (Gives (O.sent output.old) outbox.old.held [] (O.sent output.new) outbox.new.held) }
     ensures cause { HasCause (O.write_faults output.old) (O.write_faults output.new) result }

@@ -81,7 +81,13 @@ impl Session {
             (O.sent output.old) self.old.outbox.held (O.sent output.new) self.new.outbox.held self.new.reader result }
         ensures cause { CameCause (I.read_faults input.old) (I.read_faults input.new) (O.write_faults output.old) (O.write_faults output.new) result }
     {
-        match next_event(&mut self.reader, &mut self.inbox, &mut self.outbox, input, output) {
+        match next_event(
+            &mut self.reader,
+            &mut self.inbox,
+            &mut self.outbox,
+            input,
+            output,
+        ) {
             Next::Event(WireEvent::Head(ask)) => Came::Asked(ask),
             Next::Event(WireEvent::Disc) => Came::Ends(Status::Done),
             Next::Event(WireEvent::Bad(end)) => Came::Ends(Status::Ended(end)),
@@ -99,7 +105,13 @@ impl Session {
             (O.sent output.old) self.old.outbox.held (O.sent output.new) self.new.outbox.held self.new.reader result }
         ensures cause { BroughtCause (I.read_faults input.old) (I.read_faults input.new) (O.write_faults output.old) (O.write_faults output.new) result }
     {
-        match next_event(&mut self.reader, &mut self.inbox, &mut self.outbox, input, output) {
+        match next_event(
+            &mut self.reader,
+            &mut self.inbox,
+            &mut self.outbox,
+            input,
+            output,
+        ) {
             Next::Event(WireEvent::Body(room)) => Brought::Data(room),
             Next::Event(_) => unreachable!(),
             Next::End => Brought::Ends(status_of(self.reader.at_end())),

@@ -17,7 +17,8 @@ pub fn stdio_words(words: &[String]) -> Option<StdioWords>
     ensures { SomeIff result (IsCommand words.now) the_words }
 {
     match words {
-        [option, image] if option.as_str() == "--transmission" && !image.as_str().starts_with("--") => {
+        [option, image]
+            if option.as_str() == "--transmission" && !image.as_str().starts_with("--") => {
             Some(StdioWords {
                 image: 1,
                 align: 512,

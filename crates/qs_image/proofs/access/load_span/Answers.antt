@@ -13,7 +13,7 @@ loop-i-preserved g c =
     let align_is : align_of (map seen c.loop-i.disks) ≡ c.args.align = c.loop-i.invariant.same.align 0 ∙ sym c.requires.align in
     let piece : length c.load_block.new.into ≡ c.args.align = omega arith in
     let within : c.loop-i.i * c.args.align + c.args.align ≤ length c.loop-i.into =
-        omega (arith, block_within c.loop-i.i (length c.args.into.now) c.args.align (omega arith)) in
+    omega (arith, block_within c.loop-i.i (length c.args.into.now) c.args.align (omega arith)) in
     record {
       bytes_are = loads_more (map seen c.args.disks.now) (map seen c.loop-i.disks) (map seen c.load_block.new.disks)
           c.args.at (c.loop-i.i * c.args.align) _ ((c.loop-i.i + 1) * c.args.align) _ c.loop-i.into c.load_block.new.into

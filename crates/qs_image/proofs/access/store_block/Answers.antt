@@ -10,7 +10,7 @@ store-requires-clause-block g c =
 pub store-requires-clause-whole : goal.store-requires-clause-whole
 store-requires-clause-whole g c =
     c.requires.whole
-        ∙ sym (has_block g.D.Disk.seen c.args.disks.now c.args.b c.index-disks-k.result c.requires.image c.requires.inside).1
+    ∙ sym (has_block g.D.Disk.seen c.args.disks.now c.args.b c.index-disks-k.result c.requires.image c.requires.inside).1
 
 pub returns : goal.returns
 returns g c =

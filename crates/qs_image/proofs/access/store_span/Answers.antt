@@ -13,8 +13,8 @@ loop-i-init g c = record {
   written = λ _.
       sym
       (ap (λ (n : ℕ). overlay (content (map g.D.Disk.seen c.args.disks.now)) c.args.at (take n c.args.bytes.now)) (zero-mul c.args.align)
-          ∙ overlay-none _ c.args.at);
-   same = same_disks_refl _;
+      ∙ overlay-none _ c.args.at);
+  same = same_disks_refl _;
 }
 
 pub loop-i-preserved : goal.loop-i-preserved
@@ -23,15 +23,15 @@ loop-i-preserved g c =
     let seen = g.D.Disk.seen in
     let align_is : align_of (map seen c.loop-i.disks) ≡ c.args.align = c.loop-i.invariant.same.align 0 ∙ sym c.requires.align in
     let within : c.loop-i.i * c.args.align + c.args.align ≤ length c.args.bytes.now =
-        block_within c.loop-i.i (length c.args.bytes.now) c.args.align (omega arith) in
+    block_within c.loop-i.i (length c.args.bytes.now) c.args.align (omega arith) in
     let next : (c.loop-i.i + 1) * c.args.align ≡ c.loop-i.i * c.args.align + c.args.align = omega arith in
     record {
       written = λ tell.
           stores_more (map seen c.args.disks.now) (map seen c.loop-i.disks) (map seen c.store_block.new.disks)
-              c.args.at (c.loop-i.i * c.args.align) _ _ c.args.bytes.now
-              (omega arith) c.requires.inside (block_place c.args.at c.loop-i.i c.args.align _ c.requires.blocks.0 align_is)
-              c.loop-i.invariant.same c.loop-i.invariant.written stores tell
-              ∙ ap (λ (n : ℕ). overlay (content (map seen c.args.disks.now)) c.args.at (take n c.args.bytes.now)) (omega arith);
+          c.args.at (c.loop-i.i * c.args.align) _ _ c.args.bytes.now
+          (omega arith) c.requires.inside (block_place c.args.at c.loop-i.i c.args.align _ c.requires.blocks.0 align_is)
+          c.loop-i.invariant.same c.loop-i.invariant.written stores tell
+          ∙ ap (λ (n : ℕ). overlay (content (map seen c.args.disks.now)) c.args.at (take n c.args.bytes.now)) (omega arith);
       same = same_disks_trans _ _ _ c.loop-i.invariant.same stores.same;
     }
 
@@ -41,7 +41,7 @@ returns-in-Err g c =
     let seen = g.D.Disk.seen in
     let align_is : align_of (map seen c.loop-i.disks) ≡ c.args.align = c.loop-i.invariant.same.align 0 ∙ sym c.requires.align in
     let within : c.loop-i.i * c.args.align + c.args.align ≤ length c.args.bytes.now =
-        block_within c.loop-i.i (length c.args.bytes.now) c.args.align (omega arith) in
+    block_within c.loop-i.i (length c.args.bytes.now) c.args.align (omega arith) in
     record {
       written = λ _. tt;
       cut =

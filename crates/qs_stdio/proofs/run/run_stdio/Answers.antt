@@ -28,12 +28,11 @@ returns-clause-ran g c =
       disks = map seen disks;
     } in
     let final : List g.row.D.Denot =
-        take c.args.disks.now.len (c.serve_disks.new.disks ++ drop (length c.serve_disks.new.disks) c.args.disks.now.items) in
-    let all : final ≡ c.serve_disks.new.disks = refilled c.args.disks.now.items c.serve_disks.new.disks c.args.disks.now.len (c.serve_disks.auto.disks ∙ c.as_mut_slice.ensures.len) in
-    (
+    take c.args.disks.now.len (c.serve_disks.new.disks ++ drop (length c.serve_disks.new.disks) c.args.disks.now.items) in
+    let all : final ≡ c.serve_disks.new.disks = refilled c.args.disks.now.items c.serve_disks.new.disks c.args.disks.now.len (c.serve_disks.auto.disks ∙ c.as_mut_slice.ensures.len) in (
       serves.0,
       serves.1,
       subst (λ (disks : List g.row.D.Denot). Ran c.args.words.now (before disks) (after final) c.serve_disks.result) c.as_mut_slice.ensures.value
           (subst (λ (disks : List g.row.D.Denot). Ran c.args.words.now (before c.as_mut_slice.result.now) (after disks) c.serve_disks.result) (sym all)
-              (ran_of c.args.words.now (before c.as_mut_slice.result.now) (after c.serve_disks.new.disks) c.serve_disks.result c.in-Some.ensures.0 serves.2)),
+          (ran_of c.args.words.now (before c.as_mut_slice.result.now) (after c.serve_disks.new.disks) c.serve_disks.result c.in-Some.ensures.0 serves.2)),
     )

@@ -22,9 +22,9 @@ returns-clause-serves g c =
     let disks : List Seen = map seen c.args.disks.now in
     let some : 0 < length c.args.disks.now = omega (arith, length-map c.args.disks.now seen, c.in-None.ensures.0.0) in
     let align_is : c.align.result ≡ align_of disks =
-        c.align.ensures ∙ ap (λ (d : Seen). d.align) (sym (seen_at seen c.args.disks.now 0 c.index-disks-0.result some)) in
+    c.align.ensures ∙ ap (λ (d : Seen). d.align) (sym (seen_at seen c.args.disks.now 0 c.index-disks-0.result some)) in
     let size_is : c.length.result ≡ size_of disks =
-        c.length.ensures ∙ ap (λ (d : Seen). d.size) (sym (seen_at seen c.args.disks.now 0 c.index-disks-0-2.result some)) in
+    c.length.ensures ∙ ap (λ (d : Seen). d.size) (sym (seen_at seen c.args.disks.now 0 c.index-disks-0-2.result some)) in
     let before : List ℕ → List ℕ → Scene = λ waiting held. record {
       left = g.I.Source.left c.args.input.now;
       waiting = waiting;
@@ -38,14 +38,13 @@ returns-clause-serves g c =
       sent = g.O.Sink.sent c.serve.new.output;
       held = c.serve.new.self.outbox.held;
       disks = map seen c.serve.new.disks;
-    } in
-    (
+    } in (
       c.serve.new.self.inbox.held,
       c.serve.new.self.outbox.held,
       serves_of (before [] []) after c.serve.result c.in-None.ensures
-            (subst (λ (align : ℕ). Sitting align (size_of disks) (2 ^ 32) (before [] []) after c.serve.result) align_is
-                (subst (λ (size : ℕ). Sitting c.align.result size (2 ^ 32) (before [] []) after c.serve.result) size_is
-                    (subst (λ (waiting : List ℕ). Sitting c.align.result c.length.result (2 ^ 32) (before waiting []) after c.serve.result) c.in-Ok.ensures.1
-                        (subst (λ (held : List ℕ). Sitting c.align.result c.length.result (2 ^ 32) (before c.in-Ok.session.inbox.held held) after c.serve.result) c.in-Ok.ensures.2
-                            c.serve.ensures.session)))),
+          (subst (λ (align : ℕ). Sitting align (size_of disks) (2 ^ 32) (before [] []) after c.serve.result) align_is
+          (subst (λ (size : ℕ). Sitting c.align.result size (2 ^ 32) (before [] []) after c.serve.result) size_is
+          (subst (λ (waiting : List ℕ). Sitting c.align.result c.length.result (2 ^ 32) (before waiting []) after c.serve.result) c.in-Ok.ensures.1
+          (subst (λ (held : List ℕ). Sitting c.align.result c.length.result (2 ^ 32) (before c.in-Ok.session.inbox.held held) after c.serve.result) c.in-Ok.ensures.2
+          c.serve.ensures.session)))),
     )

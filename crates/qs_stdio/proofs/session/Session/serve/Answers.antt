@@ -44,7 +44,7 @@ returns-in-Ends-clause-session g c =
     subst (λ (inbox : Waiting). Sitting c.args.shape.align c.args.shape.size c.args.budget before (record after { waiting = inbox.held; sent = sent; held = held }) c.finish.result)
     (sym c.finish.ensures.inbox)
     (sits c.args.shape.align c.args.shape.size c.args.budget before _ after c.loop.counter c.in-Ends.status c.finish.result sent held
-        c.loop.invariant.served c.in-Ends.ensures.turns c.finish.ensures.finishes)
+    c.loop.invariant.served c.in-Ends.ensures.turns c.finish.ensures.finishes)
 
 pub returns-clause-session : goal.returns-clause-session
 returns-clause-session g c =
@@ -67,4 +67,4 @@ returns-clause-session g c =
     subst (λ (inbox : Waiting). Sitting c.args.shape.align c.args.shape.size c.args.budget before (record mid { waiting = inbox.held; sent = sent; held = held }) c.finish-2.result)
     (sym c.finish-2.ensures.inbox)
     (sits_spent c.args.shape.align c.args.shape.size c.args.budget before mid c.loop.counter c.finish-2.result sent held
-        c.loop.invariant.served (omega arith) c.finish-2.ensures.finishes)
+    c.loop.invariant.served (omega arith) c.finish-2.ensures.finishes)

@@ -18,8 +18,7 @@ returns-in-Ok-clause-finishes g c =
     let brings = c.in-Data.ensures.brings in
     let count = data_awaited c.args.self.now.reader c.give.new.self c.args.ask.now c.choose_room-room.result c.requires.awaits c.give.ensures in
     let simple = still_simple c.args.self.now.reader c.give.new.self c.args.ask.now c.choose_room-room.result c.requires.awaits c.give.ensures in
-    let whole = subst (λ (n : ℕ). IsData brings.taken n c.in-Data.room) count brings.brings.0 in
-    (
+    let whole = subst (λ (n : ℕ). IsData brings.taken n c.in-Data.room) count brings.brings.0 in (
       brings.taken,
       (
         data_length brings.taken c.args.ask.now.length c.in-Data.room whole,
@@ -34,8 +33,7 @@ returns-in-Err-clause-finishes g c =
     let brings = c.in-Data.ensures.brings in
     let count = data_awaited c.args.self.now.reader c.give.new.self c.args.ask.now c.choose_room-room.result c.requires.awaits c.give.ensures in
     let whole = subst (λ (n : ℕ). IsData brings.taken n c.in-Data.room) count brings.brings.0 in
-    let failed = c.in-Err.ensures.answers brings.taken whole in
-    (
+    let failed = c.in-Err.ensures.answers brings.taken whole in (
       brings.taken,
       (
         record { takes = brings.takes; gives = gives_on _ _ _ _ _ _ [] [] brings.gives failed.1 },

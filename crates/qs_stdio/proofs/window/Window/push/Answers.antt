@@ -12,5 +12,5 @@ returns c =
     let room : vec_len w.bytes - w.end ≡ c.args.self.now.free = ap (λ (v : Waiting). v.free) c.self.view_is in
     let end : ℕ = w.end + length c.args.bytes.now in
     ap (λ (xs : List ℕ). part xs w.start (end - w.start)) c.put.ensures.items
-        ∙ part-overlay_behind w.bytes.items w.start w.end end c.args.bytes.now (omega arith) (omega (arith, w.bytes.ok)) (omega arith)
-        ∙ ap (λ (v : Waiting). v.held ++ c.args.bytes.now) c.self.view_is
+    ∙ part-overlay_behind w.bytes.items w.start w.end end c.args.bytes.now (omega arith) (omega (arith, w.bytes.ok)) (omega arith)
+    ∙ ap (λ (v : Waiting). v.held ++ c.args.bytes.now) c.self.view_is
