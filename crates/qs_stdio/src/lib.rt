@@ -13,3 +13,6 @@ mod words;
 
 pub use run::run_stdio;
 pub use words::{StdioWords, stdio_words};
+
+#[cfg(test)]
+mod tests;
