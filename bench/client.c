@@ -1,0 +1,212 @@
+/* The load: one NBD client that keeps a server busy over two pipes for a while.
+ *
+ *     client read|write BYTES IN_FLIGHT SECONDS IMAGE_BYTES SERVER [WORD..]
+ *
+ * Starts SERVER, sends it requests of BYTES at random multiples of BYTES inside the image, at most
+ * IN_FLIGHT unanswered (at most 1,000, whose heads fit a pipe), and checks the head of each reply. One
+ * request before the clock starts waits for the server to be up. Prints on one line how many were
+ * answered, in how many seconds, and the processor seconds that the server and the client used. */
+#include <endian.h>
+#include <stdint.h>
+#include <stdio.h>
+#include <stdlib.h>
+#include <string.h>
+#include <sys/wait.h>
+#include <time.h>
+#include <unistd.h>
+
+enum { HEAD = 28, REPLY = 16, READ = 0, WRITE = 1, DISC = 2 };
+
+static uint16_t kind;
+static uint64_t bytes, in_flight, places;
+
+/* `in_flight` requests and as many replies. Request i, and its reply, stand at number i % in_flight. */
+static unsigned char *requests, *replies;
+static size_t request_bytes, reply_bytes;
+
+static uint64_t sent, answered;
+static size_t reply_held; /* bytes of the next reply that came already */
+static int to_server, from_server;
+
+static void fail(const char *why)
+{
+    fprintf(stderr, "client: %s\n", why);
+    exit(1);
+}
+
+static double seconds_of(clockid_t clock)
+{
+    struct timespec time;
+    if (clock_gettime(clock, &time))
+        fail("a clock can't be read");
+    return time.tv_sec + time.tv_nsec / 1e9;
+}
+
+/* The clock of a process that runs: the processor time that it used. */
+static clockid_t processor_clock(pid_t process)
+{
+    clockid_t clock;
+    if (clock_getcpuclockid(process, &clock))
+        fail("the server's processor time isn't told");
+    return clock;
+}
+
+/* The next of a fixed sequence of numbers that look random (xorshift). */
+static uint64_t next_random(void)
+{
+    static uint64_t state = 88172645463325252u;
+    state ^= state << 13;
+    state ^= state >> 7;
+    state ^= state << 17;
+    return state;
+}
+
+static void put_head(unsigned char *head, uint16_t head_kind, uint64_t cookie, uint64_t offset,
+                     uint32_t length)
+{
+    uint32_t magic = htobe32(0x25609513);
+    uint16_t flags = 0;
+    head_kind = htobe16(head_kind);
+    cookie = htobe64(cookie);
+    offset = htobe64(offset);
+    length = htobe32(length);
+    memcpy(head, &magic, 4);
+    memcpy(head + 4, &flags, 2);
+    memcpy(head + 6, &head_kind, 2);
+    memcpy(head + 8, &cookie, 8);
+    memcpy(head + 16, &offset, 8);
+    memcpy(head + 24, &length, 4);
+}
+
+static void write_all(const unsigned char *from, size_t count)
+{
+    while (count > 0) {
+        ssize_t written = write(to_server, from, count);
+        if (written <= 0)
+            fail("the server takes no input");
+        from += written;
+        count -= written;
+    }
+}
+
+/* Sends `count` more requests, those that stand side by side in one write. */
+static void send_requests(uint64_t count)
+{
+    while (count > 0) {
+        uint64_t first = sent % in_flight;
+        uint64_t run = in_flight - first < count ? in_flight - first : count;
+        for (uint64_t i = 0; i < run; i++)
+            put_head(requests + (first + i) * request_bytes, kind, sent + i,
+                     next_random() % places * bytes, bytes);
+        write_all(requests + first * request_bytes, run * request_bytes);
+        sent += run;
+        count -= run;
+    }
+}
+
+static void check_reply(const unsigned char *reply)
+{
+    uint32_t words[2];
+    uint64_t cookie;
+    memcpy(words, reply, 8);
+    memcpy(&cookie, reply + 8, 8);
+    if (be32toh(words[0]) != 0x67446698 || words[1] != 0 || be64toh(cookie) != answered)
+        fail("a reply isn't the one that was due");
+}
+
+/* Reads once: what came of the replies that are due. */
+static void receive(void)
+{
+    uint64_t first = answered % in_flight;
+    uint64_t due = sent - answered;
+    uint64_t run = in_flight - first < due ? in_flight - first : due;
+    unsigned char *reply = replies + first * reply_bytes;
+    ssize_t got = read(from_server, reply + reply_held, run * reply_bytes - reply_held);
+    if (got <= 0)
+        fail("the server gives no replies");
+    reply_held += got;
+    for (; reply_held >= reply_bytes; reply_held -= reply_bytes, reply += reply_bytes) {
+        check_reply(reply);
+        answered++;
+    }
+}
+
+static void receive_all(void)
+{
+    while (answered < sent)
+        receive();
+}
+
+static pid_t start_server(char **words)
+{
+    int input[2], output[2];
+    if (pipe(input) || pipe(output))
+        fail("no pipe");
+    pid_t server = fork();
+    if (server < 0)
+        fail("no process");
+    if (server == 0) {
+        dup2(input[0], 0);
+        dup2(output[1], 1);
+        close(input[0]), close(input[1]), close(output[0]), close(output[1]);
+        execv(words[0], words);
+        fail("the server can't be started");
+    }
+    close(input[0]), close(output[1]);
+    to_server = input[1];
+    from_server = output[0];
+    return server;
+}
+
+static void end_server(pid_t server)
+{
+    unsigned char head[HEAD];
+    int status;
+    put_head(head, DISC, sent, 0, 0);
+    write_all(head, HEAD);
+    if (waitpid(server, &status, 0) != server || status != 0)
+        fail("the server didn't end with status 0");
+}
+
+static void make_buffers(void)
+{
+    request_bytes = HEAD + (kind == WRITE ? bytes : 0);
+    reply_bytes = REPLY + (kind == READ ? bytes : 0);
+    requests = malloc(in_flight * request_bytes);
+    replies = malloc(in_flight * reply_bytes);
+    if (!requests || !replies)
+        fail("no memory");
+    for (size_t i = 0; i < in_flight * request_bytes; i++)
+        requests[i] = next_random();
+}
+
+int main(int count, char **words)
+{
+    if (count < 7)
+        fail("the words are read|write BYTES IN_FLIGHT SECONDS IMAGE_BYTES SERVER [WORD..]");
+    kind = strcmp(words[1], "write") == 0 ? WRITE : READ;
+    bytes = strtoull(words[2], NULL, 10);
+    in_flight = strtoull(words[3], NULL, 10);
+    double seconds = strtod(words[4], NULL);
+    places = strtoull(words[5], NULL, 10) / bytes;
+    make_buffers();
+    pid_t server = start_server(words + 6);
+    send_requests(1);
+    receive_all();
+
+    clockid_t clocks[3] = {CLOCK_MONOTONIC, processor_clock(server), CLOCK_PROCESS_CPUTIME_ID};
+    double before[3], used[3];
+    for (int i = 0; i < 3; i++)
+        before[i] = seconds_of(clocks[i]);
+    while (seconds_of(CLOCK_MONOTONIC) - before[0] < seconds) {
+        send_requests(in_flight - (sent - answered));
+        receive();
+    }
+    receive_all();
+    for (int i = 0; i < 3; i++)
+        used[i] = seconds_of(clocks[i]) - before[i];
+
+    end_server(server);
+    printf("%llu %.6f %.6f %.6f\n", (unsigned long long)(answered - 1), used[0], used[1], used[2]);
+    return 0;
+}
