@@ -17,3 +17,4 @@ pub mod Walk
 pub mod Once
 pub mod ReadsOnce
 pub mod WritesOnce
+pub mod Evented

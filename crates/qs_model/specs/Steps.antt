@@ -69,7 +69,7 @@ leaves s (Some q) = Some (if q.client.session == s then abandon q else q)
 abbrev pub happens : ℕ → World → Element → World
 happens A w (Attached s name info) = record w {
   session = put w.session s (Live info.e);
-  graph = record w.graph { clients = put w.graph.clients info.e (s ∷ w.graph.clients info.e) }
+  graph = record w.graph { clients = put w.graph.clients info.e (s ∷ w.graph.clients info.e) };
 }
 happens A w (NoExport s name) = w
 happens A w (Crowded s name) = w

@@ -1,7 +1,7 @@
 ghost use Rattle.std.specs.Prelude.{ℕ, ◌<◌, Bool, List, IsTrue};
 ghost use Rattle.qs_model.specs.Acts.{Element};
 ghost use Rattle.qs_model.specs.Steps.{Runs};
-ghost use Rattle.qs_model.specs.Laws.{opening, Cells, Between, ReadsOnce, WritesOnce, Undivided, NeverOdd, Writable, Tracked, Headline};
+ghost use Rattle.qs_model.specs.Laws.{opening, Cells, Between, ReadsOnce, WritesOnce, Undivided, NeverOdd, Writable, Tracked, Evented, Headline};
 
 /// Each byte's reads and writes are one legal history of a single cell, and the byte is what that
 /// history leaves, at every position of every run over disks that tell their content. Only a write
@@ -55,6 +55,12 @@ pub fn reads_once()
 pub fn writes_once()
     ensures { (A : ℕ) (tells : Bool) (now : ℕ → List ℕ) (es : List Element) → 0 < A →
         Runs A (opening tells now) es → WritesOnce A es }
+{}
+
+/// Every step but the making of an export and a crash is an event's, and has one outcome.
+pub fn evented()
+    ensures { (A : ℕ) (tells : Bool) (now : ℕ → List ℕ) (es : List Element) →
+        Runs A (opening tells now) es → Evented A es }
 {}
 
 /// The laws together, of every run from an opening world, whichever actor is next and whatever the
