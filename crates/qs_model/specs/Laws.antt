@@ -44,9 +44,10 @@ abbrev pub Unanswered : ℕ → List Element → Type 0
 Unanswered r [] = Unit {0}
 Unanswered r (e ∷ es) = (IsAnswer r e → ⊥) × Unanswered r es
 
--- Whatever a request does stands between its Ask and its answer, its entries too.
-abbrev pub Between : List Element → Type 0
-Between es = (r : ℕ) (before behind : List Element) (e : Element) → es ≡ before ++ e ∷ behind → Acts r e → WasAsked r before × Unanswered r before
+-- A request is asked once. Whatever it does stands between its Ask and its answer, its entries too.
+pub record Between (es : List Element) : Type 0 where
+  pub once : (r : ℕ) (before behind : List Element) (e : Element) → es ≡ before ++ e ∷ behind → IsAsk r e → WasAsked r before → ⊥
+  pub within : (r : ℕ) (before behind : List Element) (e : Element) → es ≡ before ++ e ∷ behind → Acts r e → WasAsked r before × Unanswered r before
 
 -- A READ that is Got has as many bytes as were asked for. It has read each byte that it covers
 -- exactly once, and its reply has that value.

@@ -11,8 +11,9 @@ pub fn cells()
         Runs A (opening tells now) es → Cells A (opening tells now) es }
 {}
 
-/// Whatever a request does, its entries too, stands between its Ask and its answer. So nothing that
-/// a session is told is older than what any session had been answered before it asked.
+/// A request is asked once, and whatever it does, its entries too, stands between its Ask and its
+/// answer. So nothing that a session is told is older than what any session had been answered before
+/// it asked.
 pub fn between()
     ensures { (A : ℕ) (tells : Bool) (now : ℕ → List ℕ) (es : List Element) → 0 < A →
         Runs A (opening tells now) es → Between es }
