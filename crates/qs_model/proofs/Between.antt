@@ -81,16 +81,16 @@ asks_next A w _ r may is old = absurd is
 
 pub between : (A : ℕ) (w : World) (es : List Element) → 0 < A → Ok A w → ((r : ℕ) → w.req r ≡ None) → Runs A w es → Between es
 between A w es pos ok none run = record {
-    once = λ r before behind e split is was.
-        let run' : Runs A w (before ++ e ∷ behind) = subst (λ (l : List Element). Runs A w l) split run in
-        let last : Runs A (after A w before) (e ∷ behind) = runs_back A w before _ run' in
-        asks_next A (after A w before) e r last.0 is (asked_made A w before r (runs_front A w before _ run') was);
-    within = λ r before behind e split acts.
-        let run' : Runs A w (before ++ e ∷ behind) = subst (λ (l : List Element). Runs A w l) split run in
-        let front : Runs A w before = runs_front A w before _ run' in
-        let last : Runs A (after A w before) (e ∷ behind) = runs_back A w before _ run' in
-        let (q, is) = acts_at A (after A w before) r e last.0 acts in
-        (was_asked A w before r q front (none r) is, unanswered A w before r q pos ok front is)
+  once = λ r before behind e split is was.
+      let run' : Runs A w (before ++ e ∷ behind) = subst (λ (l : List Element). Runs A w l) split run in
+      let last : Runs A (after A w before) (e ∷ behind) = runs_back A w before _ run' in
+      asks_next A (after A w before) e r last.0 is (asked_made A w before r (runs_front A w before _ run') was);
+  within = λ r before behind e split acts.
+      let run' : Runs A w (before ++ e ∷ behind) = subst (λ (l : List Element). Runs A w l) split run in
+      let front : Runs A w before = runs_front A w before _ run' in
+      let last : Runs A (after A w before) (e ∷ behind) = runs_back A w before _ run' in
+      let (q, is) = acts_at A (after A w before) r e last.0 acts in
+      (was_asked A w before r q front (none r) is, unanswered A w before r q pos ok front is);
 }
 
 -- the stages between the way and the answer

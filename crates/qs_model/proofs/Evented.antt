@@ -1,13 +1,10 @@
 -- Every step but the making of an export and a crash is an event's, with its outcome.
-use Rattle.std.proofs.Common.{◌≡◌, ◌≢◌, ℕ, ◌<◌, ◌⊎◌, inl, inr, Bool, true, false, List, [], ◌∷◌, ◌++◌, Option, Some, None, refl, sym, ap, ◌∙◌, subst}
-use Rattle.qs_bytes.specs.declared.ask.Verdict.{Verdict}
+use Rattle.std.proofs.Common.{◌≡◌, ℕ, ◌⊎◌, inl, inr, Bool, List, ◌∷◌, ◌++◌, Some, refl, subst}
 use Rattle.qs_part.specs.declared.event.Actor.TheVariants.{Session as ASession, Request as ARequest}
 use Rattle.qs_part.specs.declared.event.Event.{Event}
 use Rattle.qs_part.specs.declared.event.Event.TheVariants.{Attach, Leave, Ask as AskEvent, Step as StepEvent}
 use Rattle.qs_part.specs.declared.event.Outcome.{Outcome}
-use Rattle.qs_part.specs.declared.graph.Route.{Route}
-use Rattle.qs_part.specs.declared.stripe.Side.{Side}
-use Rattle.qs_model.specs.Requests.{Client, Pads, Req, Step, Stage, ToRoute, ToList, ToStart, ToLoad, ToHold, ToStore, ToFree, ToEnd, Ready, Entering, In}
+use Rattle.qs_model.specs.Requests.{Client, Pads, Stage, ToList, ToStart, ToHold, ToStore, ToFree, ToEnd, Entering, In}
 use Rattle.qs_model.specs.Worlds.{World}
 use Rattle.qs_model.specs.Acts.{Act, Answers, Waits, Enters, Routes, Shuts, Lists, Starts, Loads, LoadFails, Holds, HoldFails, Stores, StoreFails, Frees, Ends, Wait, Quiesced, Full, NotYet, HeldBy, Taken, Strange, NotHeld, Element, Attached, NoExport, Crowded, Left, Detached, NotAttached, Asked, Did, Exported, Crashed}
 use Rattle.qs_model.specs.Guards.{MayWait, MayDo, May}

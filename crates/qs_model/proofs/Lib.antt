@@ -18,3 +18,4 @@ pub mod Once
 pub mod ReadsOnce
 pub mod WritesOnce
 pub mod Evented
+pub mod Padded

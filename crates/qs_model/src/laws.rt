@@ -1,6 +1,9 @@
-ghost use Rattle.std.specs.Prelude.{ℕ, ◌<◌, Bool, List, IsTrue};
+ghost use Rattle.std.specs.Prelude.{◌≡◌, ℕ, ◌<◌, Bool, true, List, [], ◌∷◌, IsTrue};
+ghost use Rattle.std.specs.List.{filter_map};
+ghost use Rattle.qs_model.specs.Example.{zeros, padded, answers};
+ghost use Rattle.qs_model.specs.Events.{outcome_of};
 ghost use Rattle.qs_model.specs.Acts.{Element};
-ghost use Rattle.qs_model.specs.Steps.{Runs};
+ghost use Rattle.qs_model.specs.Steps.{after, Runs};
 ghost use Rattle.qs_model.specs.Laws.{opening, Cells, Between, ReadsOnce, WritesOnce, Undivided, NeverOdd, Writable, Tracked, Evented, Headline};
 
 /// Each byte's reads and writes are one legal history of a single cell, and the byte is what that
@@ -69,4 +72,13 @@ pub fn evented()
 pub fn headline()
     ensures { (A : ℕ) (tells : Bool) (now : ℕ → List ℕ) (es : List Element) → 0 < A →
         Runs A (opening tells now) es → Headline A (opening tells now) es }
+{}
+
+/// The model isn't empty: a padded write of two bytes at the seam of two blocks is a run, its steps
+/// answer what the request table says, and afterwards the two blocks have the bytes.
+pub fn padded_write()
+    ensures runs { Runs 4 (opening true (λ b. zeros)) padded }
+    ensures answers { filter_map (outcome_of 4) padded ≡ answers }
+    ensures first { (after 4 (opening true (λ b. zeros)) padded).image.now 0 ≡ 0 ∷ 0 ∷ 0 ∷ 7 ∷ [] }
+    ensures second { (after 4 (opening true (λ b. zeros)) padded).image.now 1 ≡ 8 ∷ 0 ∷ 0 ∷ 0 ∷ [] }
 {}
