@@ -15,7 +15,7 @@ use Rattle.qs_model.proofs.Machine.{ForMoved}
 use Rattle.qs_model.proofs.Holders.{some_none}
 use Rattle.qs_model.proofs.Kept.{step_ok, run_ok, runs_front, runs_back, for_moved, leaves_tells}
 use Rattle.qs_model.proofs.Working.{started_apart}
-use Rattle.qs_model.proofs.Along.{gone_lasts, lasts_run, next_step}
+use Rattle.qs_model.proofs.Along.{gone_lasts, lasts_run, next_step, next_run}
 
 -- only an Ask makes a request
 pub appears : (A : ℕ) (w : World) (e : Element) (r : ℕ) (q : Req) → May A w e → w.req r ≡ None → (happens A w e).req r ≡ Some q → IsAsk r e
@@ -65,13 +65,33 @@ pub acts_at : (A : ℕ) (w : World) (r : ℕ) (e : Element) → May A w e → Ac
 acts_at A w r (Did s q act) may is = (q, ap w.req (sym is) ∙ may.0)
 acts_at A w r _ may is = absurd is
 
+-- a request that was asked is below the next
+pub asked_step : (A : ℕ) (w : World) (e : Element) (r : ℕ) → May A w e → IsAsk r e → r < (happens A w e).next
+asked_step A w (Asked s c) r may is = let f : s ≡ w.next = may.next in omega arith
+asked_step A w _ r may is = absurd is
+
+pub asked_made : (A : ℕ) (w : World) (es : List Element) (r : ℕ) → Runs A w es → WasAsked r es → r < (after A w es).next
+asked_made A w [] r run was = absurd was
+asked_made A w (e ∷ es) r run (inl is) = next_run A (happens A w e) es r (asked_step A w e r run.0 is)
+asked_made A w (e ∷ es) r run (inr was) = asked_made A (happens A w e) es r run.1 was
+
+pub asks_next : (A : ℕ) (w : World) (e : Element) (r : ℕ) → May A w e → IsAsk r e → r < w.next → ⊥
+asks_next A w (Asked s c) r may is old = let f : s ≡ w.next = may.next in omega arith
+asks_next A w _ r may is old = absurd is
+
 pub between : (A : ℕ) (w : World) (es : List Element) → 0 < A → Ok A w → ((r : ℕ) → w.req r ≡ None) → Runs A w es → Between es
-between A w es pos ok none run r before behind e split acts =
-    let run' : Runs A w (before ++ e ∷ behind) = subst (λ (l : List Element). Runs A w l) split run in
-    let front : Runs A w before = runs_front A w before _ run' in
-    let last : Runs A (after A w before) (e ∷ behind) = runs_back A w before _ run' in
-    let (q, is) = acts_at A (after A w before) r e last.0 acts in
-    (was_asked A w before r q front (none r) is, unanswered A w before r q pos ok front is)
+between A w es pos ok none run = record {
+  once = λ r before behind e split is was.
+      let run' : Runs A w (before ++ e ∷ behind) = subst (λ (l : List Element). Runs A w l) split run in
+      let last : Runs A (after A w before) (e ∷ behind) = runs_back A w before _ run' in
+      asks_next A (after A w before) e r last.0 is (asked_made A w before r (runs_front A w before _ run') was);
+  within = λ r before behind e split acts.
+      let run' : Runs A w (before ++ e ∷ behind) = subst (λ (l : List Element). Runs A w l) split run in
+      let front : Runs A w before = runs_front A w before _ run' in
+      let last : Runs A (after A w before) (e ∷ behind) = runs_back A w before _ run' in
+      let (q, is) = acts_at A (after A w before) r e last.0 acts in
+      (was_asked A w before r q front (none r) is, unanswered A w before r q pos ok front is);
+}
 
 -- the stages between the way and the answer
 abbrev pub IsGoing : Stage → Type 0

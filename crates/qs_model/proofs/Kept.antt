@@ -1,6 +1,7 @@
 -- Every step of a run keeps the facts.
 use Rattle.std.proofs.Common.{◌≡◌, ◌≢◌, ℕ, ◌<◌, ◌⊎◌, inl, inr, Bool, true, false, not, ◌&&◌, ◌||◌, ◌==◌, cond, nat_lt, List, [], ◌∷◌, ◌++◌, Option, Some, None, refl, sym, ap, ◌∙◌, subst, arith, true≢false}
 use Rattle.qs_bytes.specs.declared.ask.Ask.{Ask}
+use Rattle.qs_part.specs.declared.graph.ExportInfo.{ExportInfo}
 use Rattle.qs_model.specs.Puts.{put, without}
 use Rattle.qs_model.specs.Requests.{Client, Pads, Req, Step, Stage, ToRoute, ToList, ToStart, ToLoad, ToHold, ToStore, ToFree, ToEnd, Ready, Entering, In, edge, is_read, is_write, form_error, asked, abandoned, abandon}
 use Rattle.qs_model.specs.Worlds.{Tracker, Vacant, Has, Listing, Hold, Image, Session, Away, Live, Leaving, World, new_world}
@@ -347,17 +348,17 @@ among_without s t (x ∷ xs) other among = go (x == s) refl among (among_without
     go false is (inl e) rest = inl e
     go false is (inr a) rest = inr (rest a)
 
-pub attached_ok : (A : ℕ) (w : World) (s e : ℕ) (name : List ℕ) → Ok A w → Ok A (happens A w (Attached s name e))
-attached_ok A w s e name ok = record {
+pub attached_ok : (A : ℕ) (w : World) (s : ℕ) (name : List ℕ) (info : ExportInfo) → Ok A w → Ok A (happens A w (Attached s name info))
+attached_ok A w s name info ok = record {
   below = ok.below;
   well = ok.well;
   one = ok.one;
   owned = ok.owned;
   tracker = ok.tracker;
-  sessions = λ t d. put_cases (λ g. IsClient g d → Among t (put w.graph.clients e (s ∷ w.graph.clients e) d)) w.session s (Live e) t
-      (λ same is. put_cases (λ xs. Among t xs) w.graph.clients e (s ∷ w.graph.clients e) d (λ f. inl (sym same)) (λ f. absurd (f (sym is))))
-      (λ other is. put_cases (λ xs. Among t xs) w.graph.clients e (s ∷ w.graph.clients e) d
-      (λ f. inr (ok.sessions t e (subst (λ (n : ℕ). IsClient (w.session t) n) f is))) (λ f. ok.sessions t d is));
+  sessions = λ t d. put_cases (λ g. IsClient g d → Among t (put w.graph.clients info.e (s ∷ w.graph.clients info.e) d)) w.session s (Live info.e) t
+      (λ same is. put_cases (λ xs. Among t xs) w.graph.clients info.e (s ∷ w.graph.clients info.e) d (λ f. inl (sym same)) (λ f. absurd (f (sym is))))
+      (λ other is. put_cases (λ xs. Among t xs) w.graph.clients info.e (s ∷ w.graph.clients info.e) d
+      (λ f. inr (ok.sessions t info.e (subst (λ (n : ℕ). IsClient (w.session t) n) f is))) (λ f. ok.sessions t d is));
 }
 
 pub detached_ok : (A : ℕ) (w : World) (s e : ℕ) → Ok A w → Ok A (happens A w (Detached s e))
@@ -392,7 +393,7 @@ new_ok A tells n now = record {
 
 -- every step keeps the facts
 pub step_ok : (A : ℕ) (w : World) (e : Element) → 0 < A → Ok A w → May A w e → Ok A (happens A w e)
-step_ok A w (Attached s name e) pos ok may = attached_ok A w s e name ok
+step_ok A w (Attached s name e) pos ok may = attached_ok A w s name e ok
 step_ok A w (NoExport s name) pos ok may = ok
 step_ok A w (Crowded s name) pos ok may = ok
 step_ok A w (Left s e) pos ok may = left_ok A w s e ok may

@@ -17,3 +17,5 @@ pub mod Walk
 pub mod Once
 pub mod ReadsOnce
 pub mod WritesOnce
+pub mod Evented
+pub mod Padded

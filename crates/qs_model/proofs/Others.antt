@@ -36,7 +36,7 @@ pub equal_seat : (s t : Seat) → t ≡ s → SameSeat s t
 equal_seat s t e = subst (λ (u : Seat). SameSeat s u) (sym e) (same_seat s)
 
 pub numbered_same : (t u : Tracker) (j : ℕ) → Numbered t u → SameSeat (t.seat j) (u.seat j)
-numbered_same t u j (inl h) = equal_seat _ _ (ap (λ (v : Tracker). v.seat j) h.1)
+numbered_same t u j (inl h) = equal_seat _ _ (h.1.seat j)
 numbered_same t u j (inr h) = h.1.same j
 
 -- the place of another request is the same, but for its number

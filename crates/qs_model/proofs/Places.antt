@@ -174,7 +174,7 @@ renumbered_in_order t u re order = record {
 }
 
 pub numbered_in_order : (t u : Tracker) → Numbered t u → InOrder t → InOrder u
-numbered_in_order t u (inl h) order = subst (λ (v : Tracker). InOrder v) (sym h.1) order
+numbered_in_order t u (inl h) order = fewer_in_order t u (λ j l is. sym (h.1.seat j) ∙ is) h.1.number order
 numbered_in_order t u (inr h) order = renumbered_in_order t u h.1 order
 
 -- a span that is listed comes last, and hasn't started

@@ -1,6 +1,7 @@
 -- What can happen: one row of the request table at a time, and the events of sessions.
 use Rattle.std.specs.Prelude.{ℕ, Bool, List, Option, Some, None}
 use Rattle.qs_bytes.specs.declared.ask.Verdict.{Verdict}
+use Rattle.qs_part.specs.declared.graph.ExportInfo.{ExportInfo}
 use Rattle.qs_part.specs.declared.graph.Route.{Route}
 use Rattle.qs_part.specs.declared.stripe.Side.{Side}
 use Rattle.qs_model.specs.Requests.{Client, Req, Stage, ToRoute, ToList, ToStart, ToLoad, ToHold, ToStore, ToFree, ToEnd, Ready, Entering, In, edge}
@@ -39,7 +40,7 @@ pub data Act : Stage → Type 0 where
 -- One step of a run. A session attaches to the export at a place, is refused, leaves, is detached;
 -- a request is made; a request, as it stands, does one row; an export is made; a crash leaves these blocks.
 pub data Element : Type 0 where
-  Attached : (s : ℕ) (name : List ℕ) (e : ℕ) → Element
+  Attached : (s : ℕ) (name : List ℕ) → ExportInfo → Element
   NoExport : (s : ℕ) (name : List ℕ) → Element
   Crowded : (s : ℕ) (name : List ℕ) → Element
   Left : (s e : ℕ) → Element

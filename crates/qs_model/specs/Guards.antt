@@ -1,6 +1,7 @@
 -- When a step may happen: what the parts' tables say of each answer.
 use Rattle.std.specs.Prelude.{◌≡◌, ◌≢◌, ℕ, ◌-◌, ◌^◌, ◌<◌, ◌≤◌, ◌⊎◌, ◌↔◌, true, false, List, [], length, Some, None, IsTrue, get_or, Contains, if◌then◌else◌}
 use Rattle.std.specs.List.{AllByRecursion}
+use Rattle.qs_part.specs.declared.graph.ExportInfo.{ExportInfo}
 use Rattle.qs_part.specs.declared.stripe.Side.{Side}
 use Rattle.qs_model.specs.Requests.{Client, Pads, Req, Stage, ToList, ToStart, ToHold, ToStore, ToFree, ToEnd, Entering, In, edge, merged_at, no_route, writes}
 use Rattle.qs_model.specs.Worlds.{Tracker, Listing, Seat, Vacant, Present, Has, Conflict, Hold, Image, stripe_of, Graph, Export, Away, Live, Leaving, World}
@@ -30,14 +31,20 @@ pub record Renumbered (old new : Tracker) : Type 0 where
   pub quiesced : new.quiesced ≡ old.quiesced
   pub same : (k : ℕ) → SameSeat (old.seat k) (new.seat k)
   pub order : (j k : ℕ) (l m p n : Listing) → old.seat j ≡ Has l → old.seat k ≡ Has m → new.seat j ≡ Has p → new.seat k ≡ Has n →
-      l.number < m.number ↔ p.number < n.number
+      (l.number < m.number) ↔ (p.number < n.number)
   pub below : (k : ℕ) (l : Listing) → new.seat k ≡ Has l → l.number < new.number
   pub dense : (n : ℕ) → n < new.number → (k : ℕ) × (l : Listing) × ((new.seat k ≡ Has l) × (l.number ≡ n))
   pub room : new.number < 2 ^ 64 - 1
 
+-- the same tracker, place for place
+pub record SameTracker (old new : Tracker) : Type 0 where
+  pub quiesced : new.quiesced ≡ old.quiesced
+  pub number : new.number ≡ old.number
+  pub seat : (k : ℕ) → new.seat k ≡ old.seat k
+
 -- where the next number would be 2^64 - 1 the spans are numbered anew first
 abbrev pub Numbered : Tracker → Tracker → Type 0
-Numbered old new = ((old.number < 2 ^ 64 - 1) × (new ≡ old)) ⊎ ((2 ^ 64 - 1 ≤ old.number) × Renumbered old new)
+Numbered old new = ((old.number < 2 ^ 64 - 1) × SameTracker old new) ⊎ ((2 ^ 64 - 1 ≤ old.number) × Renumbered old new)
 
 -- Start: the place has a span, and no span of a lower number conflicts with it
 pub record CanStart (t : Tracker) (k : ℕ) (l : Listing) : Type 0 where
@@ -118,6 +125,13 @@ pub record Finds (g : Graph) (name : List ℕ) (e : ℕ) : Type 0 where
   pub stands : g.export e ≡ Some export
   pub named : (name ≡ export.name) ⊎ ((name ≡ []) × ((d : ℕ) → d < e → g.export d ≡ None))
 
+-- Attach: the name means the export at this place, which isn't crowded, and the client learns this of it
+pub record CanAttach (g : Graph) (name : List ℕ) (info : ExportInfo) : Type 0 where
+  pub finds : Finds g name info.e
+  pub size : info.size ≡ finds.export.route.size
+  pub writable : info.writable ≡ finds.export.route.writable
+  pub room : length (g.clients info.e) < 1024
+
 -- a new export takes the lowest free place, under a name that no standing one has
 pub record CanExport (g : Graph) (e : ℕ) (x : Export) : Type 0 where
   pub room : e < 64
@@ -146,7 +160,7 @@ CanDetach w s e = (w.session s ≡ Leaving e) × (HasRequest w s → ⊥)
 
 -- what may happen next
 abbrev pub May : ℕ → World → Element → Type 0
-May A w (Attached s name e) = (w.session s ≡ Away) × Finds w.graph name e × (length (w.graph.clients e) < 1024)
+May A w (Attached s name info) = (w.session s ≡ Away) × CanAttach w.graph name info
 May A w (NoExport s name) = (w.session s ≡ Away) × ((e : ℕ) → Finds w.graph name e → ⊥)
 May A w (Crowded s name) = (w.session s ≡ Away) × ((e : ℕ) × (Finds w.graph name e × (1024 ≤ length (w.graph.clients e))))
 May A w (Left s e) = w.session s ≡ Live e

@@ -1,5 +1,5 @@
 -- The laws of every run from an opening world, whichever actor is next and whatever the disks answer.
-use Rattle.std.specs.Prelude.{◌≡◌, ℕ, ◌-◌, ◌*◌, ◌≤◌, ◌⊎◌, Bool, true, List, [], ◌∷◌, ◌++◌, length, filter, get_or, IsTrue}
+use Rattle.std.specs.Prelude.{◌≡◌, ℕ, ◌-◌, ◌*◌, ◌≤◌, ◌⊎◌, Bool, true, List, [], ◌∷◌, ◌++◌, length, filter, get_or, Some, IsTrue}
 use Rattle.qs_bytes.specs.declared.ask.Verdict.TheVariants.{Got, Fine}
 use Rattle.qs_bytes.specs.Spans.{Covers, aligned_out}
 use Rattle.qs_cells.specs.declared.cell.CellEntry.TheVariants.{Read, Write}
@@ -7,9 +7,12 @@ use Rattle.qs_cells.specs.Cells.{value_after, Legal}
 use Rattle.qs_part.specs.declared.graph.Route.{Route}
 use Rattle.qs_model.specs.Requests.{Client, span_of, covers, serial, body_at}
 use Rattle.qs_model.specs.Worlds.{Listing, Has, Conflict, Tracker, World, byte_at, new_world}
-use Rattle.qs_model.specs.Acts.{Element, Did, Crashed}
+use Rattle.qs_model.specs.Acts.{Element, Did, Exported, Crashed}
 use Rattle.qs_model.specs.Guards.{CanStart}
 use Rattle.qs_model.specs.Steps.{after}
+use Rattle.qs_part.specs.declared.event.Event.{Event}
+use Rattle.qs_part.specs.declared.event.Outcome.{Outcome}
+use Rattle.qs_model.specs.Events.{outcome_of, IsEvent}
 use Rattle.qs_model.specs.Histories.{cell, is_of, Acts, Answered, IsAnswer, IsAsk, IsStore, IsStoreOf, IsRouted, IsOddStep, IsEntry}
 
 -- the core over disks with this content, as it was made
@@ -41,9 +44,10 @@ abbrev pub Unanswered : ℕ → List Element → Type 0
 Unanswered r [] = Unit {0}
 Unanswered r (e ∷ es) = (IsAnswer r e → ⊥) × Unanswered r es
 
--- Whatever a request does stands between its Ask and its answer, its entries too.
-abbrev pub Between : List Element → Type 0
-Between es = (r : ℕ) (before behind : List Element) (e : Element) → es ≡ before ++ e ∷ behind → Acts r e → WasAsked r before × Unanswered r before
+-- A request is asked once. Whatever it does stands between its Ask and its answer, its entries too.
+pub record Between (es : List Element) : Type 0 where
+  pub once : (r : ℕ) (before behind : List Element) (e : Element) → es ≡ before ++ e ∷ behind → IsAsk r e → WasAsked r before → ⊥
+  pub within : (r : ℕ) (before behind : List Element) (e : Element) → es ≡ before ++ e ∷ behind → Acts r e → WasAsked r before × Unanswered r before
 
 -- A READ that is Got has as many bytes as were asked for. It has read each byte that it covers
 -- exactly once, and its reply has that value.
@@ -90,6 +94,17 @@ pub record Ordered (t : Tracker) : Type 0 where
 abbrev pub Tracked : ℕ → World → List Element → Type 0
 Tracked A w es = (before behind : List Element) → es ≡ before ++ behind → Ordered (after A w before).tracker
 
+-- the making of an export, and a crash
+abbrev pub IsOutside : Element → Type 0
+IsOutside (Exported e x) = Unit {0}
+IsOutside (Crashed left) = Unit {0}
+IsOutside _ = ⊥
+
+-- Every other step is an event's, and has one outcome.
+abbrev pub Evented : ℕ → List Element → Type 0
+Evented A es = (before behind : List Element) (e : Element) → es ≡ before ++ e ∷ behind →
+    IsOutside e ⊎ ((event : Event) × (outcome : Outcome) × (IsEvent event e × (outcome_of A e ≡ Some outcome)))
+
 -- The laws together. Where the disks tell no content, nothing is said of the bytes.
 pub record Headline (A : ℕ) (w : World) (es : List Element) : Type 0 where
   pub cells : IsTrue w.tells → Cells A w es
@@ -100,3 +115,4 @@ pub record Headline (A : ℕ) (w : World) (es : List Element) : Type 0 where
   pub never_odd : NeverOdd es
   pub writable : Writable es
   pub tracked : Tracked A w es
+  pub evented : Evented A es

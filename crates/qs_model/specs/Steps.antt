@@ -67,7 +67,10 @@ leaves s (Some q) = Some (if q.client.session == s then abandon q else q)
 
 -- the core after a step
 abbrev pub happens : ℕ → World → Element → World
-happens A w (Attached s name e) = record w { session = put w.session s (Live e); graph = record w.graph { clients = put w.graph.clients e (s ∷ w.graph.clients e) } }
+happens A w (Attached s name info) = record w {
+  session = put w.session s (Live info.e);
+  graph = record w.graph { clients = put w.graph.clients info.e (s ∷ w.graph.clients info.e) };
+}
 happens A w (NoExport s name) = w
 happens A w (Crowded s name) = w
 happens A w (Left s e) = record w { session = put w.session s (Leaving e); req = λ r. leaves s (w.req r) }

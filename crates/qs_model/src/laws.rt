@@ -1,7 +1,10 @@
-ghost use Rattle.std.specs.Prelude.{ℕ, ◌<◌, Bool, List, IsTrue};
+ghost use Rattle.std.specs.Prelude.{◌≡◌, ℕ, ◌<◌, Bool, true, List, [], ◌∷◌, IsTrue};
+ghost use Rattle.std.specs.List.{filter_map};
+ghost use Rattle.qs_model.specs.Example.{zeros, padded, answers};
+ghost use Rattle.qs_model.specs.Events.{outcome_of};
 ghost use Rattle.qs_model.specs.Acts.{Element};
-ghost use Rattle.qs_model.specs.Steps.{Runs};
-ghost use Rattle.qs_model.specs.Laws.{opening, Cells, Between, ReadsOnce, WritesOnce, Undivided, NeverOdd, Writable, Tracked, Headline};
+ghost use Rattle.qs_model.specs.Steps.{after, Runs};
+ghost use Rattle.qs_model.specs.Laws.{opening, Cells, Between, ReadsOnce, WritesOnce, Undivided, NeverOdd, Writable, Tracked, Evented, Headline};
 
 /// Each byte's reads and writes are one legal history of a single cell, and the byte is what that
 /// history leaves, at every position of every run over disks that tell their content. Only a write
@@ -11,8 +14,9 @@ pub fn cells()
         Runs A (opening tells now) es → Cells A (opening tells now) es }
 {}
 
-/// Whatever a request does, its entries too, stands between its Ask and its answer. So nothing that
-/// a session is told is older than what any session had been answered before it asked.
+/// A request is asked once, and whatever it does, its entries too, stands between its Ask and its
+/// answer. So nothing that a session is told is older than what any session had been answered before
+/// it asked.
 pub fn between()
     ensures { (A : ℕ) (tells : Bool) (now : ℕ → List ℕ) (es : List Element) → 0 < A →
         Runs A (opening tells now) es → Between es }
@@ -57,9 +61,24 @@ pub fn writes_once()
         Runs A (opening tells now) es → WritesOnce A es }
 {}
 
+/// Every step but the making of an export and a crash is an event's, and has one outcome.
+pub fn evented()
+    ensures { (A : ℕ) (tells : Bool) (now : ℕ → List ℕ) (es : List Element) →
+        Runs A (opening tells now) es → Evented A es }
+{}
+
 /// The laws together, of every run from an opening world, whichever actor is next and whatever the
 /// disks answer. Of the bytes they speak where the disks tell their content.
 pub fn headline()
     ensures { (A : ℕ) (tells : Bool) (now : ℕ → List ℕ) (es : List Element) → 0 < A →
         Runs A (opening tells now) es → Headline A (opening tells now) es }
+{}
+
+/// The model isn't empty: a padded write of two bytes at the seam of two blocks is a run, its steps
+/// answer what the request table says, and afterwards the two blocks have the bytes.
+pub fn padded_write()
+    ensures runs { Runs 4 (opening true (λ b. zeros)) padded }
+    ensures answers { filter_map (outcome_of 4) padded ≡ answers }
+    ensures first { (after 4 (opening true (λ b. zeros)) padded).image.now 0 ≡ 0 ∷ 0 ∷ 0 ∷ 7 ∷ [] }
+    ensures second { (after 4 (opening true (λ b. zeros)) padded).image.now 1 ≡ 8 ∷ 0 ∷ 0 ∷ 0 ∷ [] }
 {}

@@ -7,6 +7,7 @@ use Rattle.qs_model.proofs.Between.{between, writable, tracked}
 use Rattle.qs_model.proofs.ReadsOnce.{reads_once}
 use Rattle.qs_model.proofs.WritesOnce.{writes_once}
 use Rattle.qs_model.proofs.Undivided.{undivided}
+use Rattle.qs_model.proofs.Evented.{evented}
 use Rattle.qs_model.proofs.Never.{never_odd}
 use Rattle.qs_model.proofs.laws.headline.Goals as goal
 
@@ -22,4 +23,5 @@ returns c = λ A tells now es pos run.
       never_odd = never_odd A (opening tells now) es pos ok run;
       writable = writable A (opening tells now) es pos ok (λ r. refl) run;
       tracked = tracked A (opening tells now) es pos ok run;
+      evented = evented A (opening tells now) es run;
     }

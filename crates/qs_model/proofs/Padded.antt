@@ -1,0 +1,97 @@
+-- The padded write of the example is a run.
+use Rattle.std.proofs.Common.{◌≡◌, ◌≢◌, ℕ, zero, suc, ◌<◌, inl, inr, true, [], ◌∷◌, Option, Some, None, refl, sym, ap, arith, lit<, get_or}
+use Rattle.std.specs.List.{filter_map}
+use Rattle.qs_part.specs.declared.stripe.Side.{Side}
+use Rattle.qs_part.specs.declared.stripe.Side.TheVariants.{Head, Tail}
+use Rattle.qs_model.specs.Puts.{put}
+use Rattle.qs_model.specs.Requests.{edge, has, serial, routed, held, started, stored, merged_at}
+use Rattle.qs_model.specs.Worlds.{Hold}
+use Rattle.qs_model.specs.Steps.{after, Runs}
+use Rattle.qs_model.specs.Laws.{opening}
+use Rattle.qs_model.specs.Events.{outcome_of}
+use Rattle.qs_model.specs.Example.{zeros, whole, client, pads, padded, answers}
+use Rattle.qs_model.proofs.Holders.{some_none}
+use Rattle.qs_model.proofs.Basics.{put_tells}
+
+pub padded_answers : filter_map (outcome_of 4) padded ≡ answers
+unfolding edge
+padded_answers = refl
+
+pub merged_first : (x : ℕ) → x < 4 → get_or (0 ∷ 0 ∷ 0 ∷ 7 ∷ []) x 0 ≡ merged_at 4 (client whole) (pads zeros zeros) 0 x
+unfolding edge
+merged_first zero h = refl
+merged_first (suc zero) h = refl
+merged_first (suc (suc zero)) h = refl
+merged_first (suc (suc (suc zero))) h = refl
+merged_first (suc (suc (suc (suc x)))) h = absurd (omega arith)
+
+pub merged_second : (x : ℕ) → x < 4 → get_or (8 ∷ 0 ∷ 0 ∷ 0 ∷ []) x 0 ≡ merged_at 4 (client whole) (pads zeros zeros) 1 x
+unfolding edge
+merged_second zero h = refl
+merged_second (suc zero) h = refl
+merged_second (suc (suc zero)) h = refl
+merged_second (suc (suc (suc zero))) h = refl
+merged_second (suc (suc (suc (suc x)))) h = absurd (omega arith)
+
+pub other_side : (c : ℕ) → put {X = Option Hold} (λ b. None) 0 (Some (record { place = 0; side = Head })) c ≢ Some (record { place = 0; side = Tail })
+other_side c is = elim (put_tells {X = Option Hold} (λ b. None) 0 (Some (record { place = 0; side = Head })) c (Some (record { place = 0; side = Tail })) is) [
+  | inl h ↦ absurd (ends h.1)
+  | inr h ↦ some_none (sym h.1)
+]
+  where
+    side_of : Option Hold → Side
+    side_of None = Head
+    side_of (Some h) = h.side
+
+    at_end : Side → Option Hold
+    at_end side = Some (record { place = 0; side = side })
+
+    ends : at_end Head ≡ at_end Tail → ⊥
+    ends e = let f : Head ≡ Tail = ap side_of e in cc
+
+pub place_of : (a h : Hold) → Some a ≡ Some h → h.place ≡ a.place
+place_of a h e = let f : h ≡ a = cc in ap (λ (x : Hold). x.place) f
+
+pub padded_runs : Runs 4 (opening true (λ b. zeros)) padded
+unfolding put edge has serial routed held started stored
+padded_runs = (
+  record { room = lit< tt; free = refl; unused = refl; lowest = λ d h. absurd (omega arith); other = λ d y is. absurd (some_none (sym is)) },
+  (
+    (refl, record { finds = record { export = record { name = 100 ∷ []; route = whole }; stands = refl; named = inl refl }; size = refl; writable = refl; room = lit< tt }),
+    (
+      record { next = refl; room = lit< tt; live = refl; unrouted = refl; buffered = λ e. refl; body = λ a b. refl },
+      (
+        (refl, record { open_ = refl; room = lit< tt; free = refl; lowest = λ j h. absurd (omega arith) }),
+        (
+          (refl, (record { name = 100 ∷ []; route = whole }, (refl, refl))),
+          (
+            (refl, (refl, inl (lit< tt, record { quiesced = refl; number = refl; seat = λ k. refl }))),
+            (
+              (refl, record { listed = refl; clear = λ j m is less c. omega arith }),
+              (
+                (refl, (record { free = refl; one = λ c same is. some_none (sym is) }, record { whole = refl; now = λ t. refl })),
+                (
+                  (refl, (record { free = refl; one = λ c same is. other_side c is }, record { whole = refl; now = λ t. refl })),
+                  (
+                    (refl, (record { free = λ h is. place_of _ h is; whole = refl; merged = merged_first; older = (inr (0, lit< tt, refl), (inl refl, tt)) }, λ told had. (1, lit< tt, refl))),
+                    (
+                      (refl, (record { free = λ h is. place_of _ h is; whole = refl; merged = merged_second; older = (inr (0, lit< tt, refl), (inl refl, tt)) }, λ told had. (1, lit< tt, refl))),
+                      (
+                        (refl, λ e. cc),
+                        tt,
+                      ),
+                    ),
+                  ),
+                ),
+              ),
+            ),
+          ),
+        ),
+      ),
+    ),
+  ),
+)
+
+pub padded_blocks : ((after 4 (opening true (λ b. zeros)) padded).image.now 0 ≡ 0 ∷ 0 ∷ 0 ∷ 7 ∷ []) × ((after 4 (opening true (λ b. zeros)) padded).image.now 1 ≡ 8 ∷ 0 ∷ 0 ∷ 0 ∷ [])
+unfolding put edge
+padded_blocks = (refl, refl)

@@ -1,0 +1,6 @@
+use Rattle.qs_model.specs.Laws.{opening}
+use Rattle.qs_model.proofs.Evented.{evented as law}
+use Rattle.qs_model.proofs.laws.evented.Goals as goal
+
+pub returns : goal.returns
+returns c = λ A tells now es run. law A (opening tells now) es run
