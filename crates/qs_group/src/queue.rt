@@ -146,8 +146,6 @@ pub fn lowest_waiting(waiting: &[Queued]) -> Option<u8>
     requires { All InRange waiting.now }
     ensures { MatchOption result (waiting.now ≡ []) (IsLowestWaiting waiting.now) }
 {
-    match first_out(&taken(waiting)) {
-        Some(ticket) => Some(ticket as u8),
-        None => None,
-    }
+    let ticket = first_out(&taken(waiting))?;
+    Some(ticket as u8)
 }
