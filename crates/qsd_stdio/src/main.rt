@@ -12,9 +12,9 @@ use qs_outside::MemClock;
 use qs_stdio::{run_stdio, stdio_words};
 use std::alloc::Global;
 use std::fs::{File, OpenOptions};
-use std::{env, io};
 use std::process::ExitCode;
 use std::rt::{Env, Files};
+use std::{env, io};
 use streams::{Reading, Writing};
 
 /// How many disks hold the image.
