@@ -48,13 +48,13 @@ same_message x y h b =
     ap f h ∙ ap g b
 
 -- heads that begin two streams alike are one
-same_head : (a b : Head) (more rest : List ℕ) → FitsHead a → FitsHead b → head_bytes a ++ more ≡ head_bytes b ++ rest → (a ≡ b) × (more ≡ rest)
+pub same_head : (a b : Head) (more rest : List ℕ) → FitsHead a → FitsHead b → head_bytes a ++ more ≡ head_bytes b ++ rest → (a ≡ b) × (more ≡ rest)
 same_head a b more rest p q e =
     let h : a ≡ b = sym (head_of-head_bytes a more p) ∙ ap (λ xs. head_of xs) e ∙ head_of-head_bytes b rest q in
     (h, append_cancel_left (head_bytes a) more rest (e ∙ ap (λ (k : Head). head_bytes k ++ rest) (sym h)))
 
 -- messages that begin two streams alike are one
-message_once : (x y : Message) (more rest : List ℕ) → IsMessage x → IsMessage y → spelling x ++ more ≡ spelling y ++ rest → (x ≡ y) × (more ≡ rest)
+pub message_once : (x y : Message) (more rest : List ℕ) → IsMessage x → IsMessage y → spelling x ++ more ≡ spelling y ++ rest → (x ≡ y) × (more ≡ rest)
 message_once x y more rest p q e =
     let h = same_head x.head y.head (x.body ++ more) (y.body ++ rest) p.fits q.fits
     (sym (append_assoc (head_bytes x.head) x.body more) ∙ e ∙ append_assoc (head_bytes y.head) y.body rest) in
@@ -62,10 +62,10 @@ message_once x y more rest p q e =
     (p.body ∙ ap (λ (k : Head). if has_body k then k.size else 0) h.0 ∙ sym q.body) h.1 in
     (same_message x y h.0 b, append_cancel_left x.body more rest (h.1 ∙ ap (λ xs. xs ++ rest) (sym b)))
 
-first_of_all : (x : Message) (xs : List Message) → All IsMessage (x ∷ xs) → IsMessage x
+pub first_of_all : (x : Message) (xs : List Message) → All IsMessage (x ∷ xs) → IsMessage x
 first_of_all x xs all = all 0 x (omega arith)
 
-rest_of_all : (x : Message) (xs : List Message) → All IsMessage (x ∷ xs) → All IsMessage xs
+pub rest_of_all : (x : Message) (xs : List Message) → All IsMessage (x ∷ xs) → All IsMessage xs
 rest_of_all x xs all = λ k d h. all (suc k) d (omega arith)
 
 pub one_reading : HasOneReading

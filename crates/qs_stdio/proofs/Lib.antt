@@ -6,3 +6,4 @@ pub mod Sought
 pub mod Turning
 pub mod Serving
 pub mod Running
+pub mod Complete

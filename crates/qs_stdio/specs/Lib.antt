@@ -7,3 +7,4 @@ pub mod Events
 pub mod Turns
 pub mod Words
 pub mod Runs
+pub mod Streams

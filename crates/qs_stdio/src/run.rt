@@ -1,8 +1,11 @@
 ghost use Rattle.std.specs.Prelude.{◌≡◌, ℕ, List, [], map};
+ghost use Rattle.qs_outside.specs.Faults.{Rose};
 ghost use Rattle.qs_image.specs.Opening.{IsImage};
 ghost use Rattle.qs_stdio.specs.Service.{IsShape};
 ghost use Rattle.qs_stdio.specs.Runs.{FinishCause, Finishing, Ran, Serves, Sitting, StatusCause};
+ghost use Rattle.qs_stdio.specs.Streams.{IsServed, IsValidStream};
 ghost use Rattle.qs_stdio.specs.Turns.{between};
+ghost use Rattle.qs_stdio.specs.Words.{IsCommand};
 
 use crate::answer::Shape;
 use crate::outbox::flush;
@@ -112,6 +115,10 @@ pub fn run_stdio<I: Source, O: Sink, D: Disk, C: Clock>(
         (record { left = I.left input.old; waiting = []; sent = O.sent output.old; held = []; disks = map D.seen disks.old.items })
         (record { left = I.left input.new; waiting = waiting; sent = O.sent output.new; held = held; disks = map D.seen disks.new.items })
         result }
+    // A valid stream is served to its end, unless memory is refused or a side fails.
+    ensures complete { (stream : List ℕ) → I.left input.old ≡ Some stream → IsValidStream stream → IsCommand words.now →
+        IsImage (map D.seen disks.old.items) → ¬ Rose (I.read_faults input.old) (I.read_faults input.new) →
+        ¬ Rose (O.write_faults output.old) (O.write_faults output.new) → IsServed result }
     ensures cause { StatusCause (I.read_faults input.old) (I.read_faults input.new) (O.write_faults output.old) (O.write_faults output.new) result }
 {
     match stdio_words(words) {

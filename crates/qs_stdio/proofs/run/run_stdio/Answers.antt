@@ -4,6 +4,7 @@ use Rattle.std.specs.Prelude.{map}
 use Rattle.qs_stdio.specs.Scenes.{Scene}
 use Rattle.qs_stdio.specs.Runs.{Ran}
 use Rattle.qs_stdio.proofs.Running.{ran_of, refilled}
+use Rattle.qs_stdio.proofs.Complete.{complete_of}
 use Rattle.qs_stdio.proofs.run.run_stdio.Goals as goal
 
 pub returns-in-None-clause-ran : goal.returns-in-None-clause-ran
@@ -36,3 +37,12 @@ returns-clause-ran g c =
           (subst (λ (disks : List g.row.D.Denot). Ran c.args.words.now (before c.as_mut_slice.result.now) (after disks) c.serve_disks.result) (sym all)
           (ran_of c.args.words.now (before c.as_mut_slice.result.now) (after c.serve_disks.new.disks) c.serve_disks.result c.in-Some.ensures.0 serves.2)),
     )
+
+pub returns-in-None-clause-complete : goal.returns-in-None-clause-complete
+returns-in-None-clause-complete g c = λ stream told valid command image read write. absurd (c.in-None.ensures command)
+
+pub returns-clause-complete : goal.returns-clause-complete
+returns-clause-complete g c = λ stream told valid command image read write.
+    let ran = returns-clause-ran g c in
+    complete_of c.args.words.now _ _ c.serve_disks.result stream ran.2 told refl valid command image
+    (λ e. read (c.serve_disks.ensures.cause.read_rose e)) (λ e. write (c.serve_disks.ensures.cause.write_rose e))
