@@ -15,17 +15,18 @@
 #include <time.h>
 #include <unistd.h>
 
-enum { HEAD = 28, REPLY = 16, READ = 0, WRITE = 1, DISC = 2 };
+enum { ROOM = 65536, HEAD = 28, REPLY = 16, READ = 0, WRITE = 1, DISC = 2 };
 
 static uint16_t kind;
 static uint64_t bytes, in_flight, places;
 
-/* `in_flight` requests and as many replies. Request i, and its reply, stand at number i % in_flight. */
-static unsigned char *requests, *replies;
+/* `in_flight` requests with their data. Request i stands at number i % in_flight. */
+static unsigned char *requests;
 static size_t request_bytes, reply_bytes;
 
 static uint64_t sent, answered;
-static size_t reply_held; /* bytes of the next reply that came already */
+static unsigned char reply_head[REPLY]; /* of the next reply */
+static size_t reply_seen;               /* bytes of the next reply that came already */
 static int to_server, from_server;
 
 static void fail(const char *why)
@@ -104,31 +105,43 @@ static void send_requests(uint64_t count)
     }
 }
 
-static void check_reply(const unsigned char *reply)
+static void check_reply(void)
 {
     uint32_t words[2];
     uint64_t cookie;
-    memcpy(words, reply, 8);
-    memcpy(&cookie, reply + 8, 8);
+    memcpy(words, reply_head, 8);
+    memcpy(&cookie, reply_head + 8, 8);
     if (be32toh(words[0]) != 0x67446698 || words[1] != 0 || be64toh(cookie) != answered)
         fail("a reply isn't the one that was due");
+}
+
+/* Takes bytes of the next reply, up to its end, and answers how many. Data are passed over. */
+static size_t pass_reply(const unsigned char *bytes_came, size_t count)
+{
+    int in_head = reply_seen < REPLY;
+    size_t missing = (in_head ? REPLY : reply_bytes) - reply_seen;
+    size_t piece = count < missing ? count : missing;
+    if (in_head)
+        memcpy(reply_head + reply_seen, bytes_came, piece);
+    reply_seen += piece;
+    if (in_head && reply_seen == REPLY)
+        check_reply();
+    if (reply_seen == reply_bytes) {
+        answered++;
+        reply_seen = 0;
+    }
+    return piece;
 }
 
 /* Reads once: what came of the replies that are due. */
 static void receive(void)
 {
-    uint64_t first = answered % in_flight;
-    uint64_t due = sent - answered;
-    uint64_t run = in_flight - first < due ? in_flight - first : due;
-    unsigned char *reply = replies + first * reply_bytes;
-    ssize_t got = read(from_server, reply + reply_held, run * reply_bytes - reply_held);
+    static unsigned char inbox[ROOM];
+    ssize_t got = read(from_server, inbox, ROOM);
     if (got <= 0)
         fail("the server gives no replies");
-    reply_held += got;
-    for (; reply_held >= reply_bytes; reply_held -= reply_bytes, reply += reply_bytes) {
-        check_reply(reply);
-        answered++;
-    }
+    for (ssize_t passed = 0; passed < got;)
+        passed += pass_reply(inbox + passed, got - passed);
 }
 
 static void receive_all(void)
@@ -173,8 +186,7 @@ static void make_buffers(void)
     request_bytes = HEAD + (kind == WRITE ? bytes : 0);
     reply_bytes = REPLY + (kind == READ ? bytes : 0);
     requests = malloc(in_flight * request_bytes);
-    replies = malloc(in_flight * reply_bytes);
-    if (!requests || !replies)
+    if (!requests)
         fail("no memory");
     for (size_t i = 0; i < in_flight * request_bytes; i++)
         requests[i] = next_random();

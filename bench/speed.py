@@ -4,8 +4,8 @@
 
 READs and WRITEs of 4 KiB and of 256 KiB at random places of a 256 MiB image, one at a time and 16 in
 flight. Builds floor.c and client.c, makes the image, runs each case N times for S seconds, the program
-and the floor one after the other, and prints the median of each as a table. `busy` is the part of the
-time in which the server, and behind the slash the client, kept a processor busy.
+and the floor one after the other, and prints the median of each as a table. `processor` is the time of a
+processor, in microseconds a request, that the server used, and behind the slash the client.
 """
 import argparse
 import os
@@ -29,10 +29,10 @@ CASES = [
 class Figures:
     """What one run gave, or the median of several."""
 
-    def __init__(self, rate, server_busy, client_busy):
+    def __init__(self, rate, server_micros, client_micros):
         self.rate = rate
-        self.server_busy = server_busy
-        self.client_busy = client_busy
+        self.server_micros = server_micros
+        self.client_micros = client_micros
 
 
 def build(name):
@@ -57,14 +57,14 @@ def run_case(client, server, case, seconds):
     words = [client, kind, str(size), str(in_flight), str(seconds), str(IMAGE_BYTES)] + server
     line = subprocess.run(words, check=True, stdout=subprocess.PIPE, text=True).stdout
     requests, took, server_used, client_used = (float(word) for word in line.split())
-    return Figures(requests / took, server_used / took, client_used / took)
+    return Figures(requests / took, server_used / requests * 1e6, client_used / requests * 1e6)
 
 
 def median(runs):
     return Figures(
         statistics.median(run.rate for run in runs),
-        statistics.median(run.server_busy for run in runs),
-        statistics.median(run.client_busy for run in runs),
+        statistics.median(run.server_micros for run in runs),
+        statistics.median(run.client_micros for run in runs),
     )
 
 
@@ -74,7 +74,7 @@ def print_row(case, program, floor):
     for figures in (program, floor):
         cells.append(f"{figures.rate:,.0f}")
         cells.append(f"{figures.rate * size / 1e6:,.0f}")
-        cells.append(f"{100 * figures.server_busy:.0f} / {100 * figures.client_busy:.0f} %")
+        cells.append(f"{figures.server_micros:,.1f} / {figures.client_micros:,.1f}")
     cells.append(f"{program.rate / floor.rate:.2f}")
     print("| " + " | ".join(cells) + " |", flush=True)
 
@@ -82,7 +82,7 @@ def print_row(case, program, floor):
 def print_head():
     names = ["kind", "size", "in flight"]
     for who in ("program", "floor"):
-        names += [f"{who} requests/s", "MB/s", "busy"]
+        names += [f"{who} requests/s", "MB/s", "processor"]
     names.append("program / floor")
     print("| " + " | ".join(names) + " |")
     print("|" + "---|" * 3 + "---:|" * 7, flush=True)
