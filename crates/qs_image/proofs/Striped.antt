@@ -1,5 +1,5 @@
 -- One disk of a list is called: what that does to the list and to the image.
-use Rattle.std.proofs.Common.{◌≡◌, ◌≢◌, ℕ, ◌+◌, ◌*◌, ◌/◌, ◌%◌, ◌<◌, ◌≤◌, ◌⊎◌, inl, inr, List, length, get_or, set, refl, sym, ap, ◌∙◌, subst, arith, length-set}
+use Rattle.std.proofs.Common.{◌≡◌, ℕ, ◌+◌, ◌*◌, ◌<◌, ◌≤◌, inl, inr, List, length, get_or, set, refl, sym, ap, ◌∙◌, subst, arith, length-set}
 use Rattle.std.specs.Prelude.{map, IsTrue, Result, Ok, Err, OnOk, OnErr}
 use Rattle.std.proofs.lemmas.List.{get_or-map, map-set, length-map, get_or-set_same, get_or-set_other}
 use Rattle.std.proofs.lemmas.Bool.{cases_eq}
@@ -8,7 +8,7 @@ use Rattle.qs_bytes.proofs.Overlays.{overlay-none}
 use Rattle.qs_bytes.specs.Pieces.{part, overlay}
 use Rattle.qs_outside.specs.Faults.{Rose, HasCause}
 use Rattle.qs_outside.specs.Blocks.{Seen, Fixed, Same, Stored, StoredOrNot, stripe_of, IsBlock}
-use Rattle.qs_image.specs.Image.{no_disk, disk, align_of, size_of, block_now, image, content, AllTell, SameDisks, SomeRose, IsFrontWritten, Loads, Stores}
+use Rattle.qs_image.specs.Image.{no_disk, disk, align_of, size_of, block_now, image, content, AllTell, SameDisks, SomeRose, Loads, Stores}
 use Rattle.qs_image.specs.Opening.{IsAlike, IsImage}
 use Rattle.qs_image.proofs.Contents.{image-same, image-stored, part-image}
 

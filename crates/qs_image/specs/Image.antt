@@ -1,5 +1,5 @@
 -- The image that eight disks hold, as one list of bytes, and what reading and writing it do.
-use Rattle.std.specs.Prelude.{◌≡◌, ℕ, ◌+◌, ◌*◌, ◌/◌, ◌%◌, ◌<◌, ◌≤◌, ◌⊎◌, Bool, false, true, IsTrue, List, [], None, Result, OnOk, OnErr, length, map, take, slice_index_or}
+use Rattle.std.specs.Prelude.{◌≡◌, ℕ, ◌/◌, ◌%◌, ◌<◌, ◌≤◌, false, IsTrue, List, [], None, Result, OnOk, OnErr, length, map, take, slice_index_or}
 use Rattle.std.specs.List.{range_with_len}
 use Rattle.qs_bytes.specs.Pieces.{part, overlay}
 use Rattle.qs_outside.specs.Faults.{Rose}

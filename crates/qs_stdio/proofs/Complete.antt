@@ -45,10 +45,7 @@ few_read (x ∷ xs) (m ∷ ms) rest last p q none e =
     let fewer : length xs ≤ length ms = few_read xs ms rest last (rest_of_all x xs p) (rest_of_all m ms q) none one.1 in
     omega arith
 
--- the messages of a session
-messages_of : List Exchange → List Message
-messages_of xs = map (λ x. x.message) xs
-
+-- the bytes of the messages of a session
 asked_is : (xs : List Exchange) → flat_map spelling (map (λ (x : Exchange). x.message) xs) ≡ asked xs
 asked_is xs = flat_map-map spelling (λ (x : Exchange). x.message) xs
 
@@ -95,7 +92,7 @@ rest_is : (xs : List Exchange) (ms : List Message) (align size : ℕ) (stream re
     BeginsNone rest → BeginsNone last → stream ≡ asked xs ++ rest → stream ≡ flat_map spelling ms ++ last → rest ≡ last
 rest_is xs ms align size stream rest last fit each none never one other =
     (one_reading (map (λ (x : Exchange). x.message) xs) ms rest last (All-from_recursion _ _ (each_message align size xs fit)) each none never
-        (ap (λ (bytes : List ℕ). bytes ++ rest) (asked_is xs) ∙ sym one ∙ other)).1
+    (ap (λ (bytes : List ℕ). bytes ++ rest) (asked_is xs) ∙ sym one ∙ other)).1
 
 -- a DISC is no WRITE
 not_write : (h : Head) → h.kind ≡ disc → has_body h ≡ true → ⊥
@@ -113,10 +110,10 @@ same_leave : (front more last : List ℕ) (leaves : Leaves last) → IsHead fron
     head_of front ≡ head_of leaves.leave
 same_leave front more last leaves is e =
     (same_head (head_of front) (head_of leaves.leave) more leaves.more is.fits leaves.is.0.fits
-        (ap (λ (xs : List ℕ). xs ++ more) (sym is.spelled)
-            ∙ e
-            ∙ leaves.whole
-            ∙ ap (λ (xs : List ℕ). xs ++ leaves.more) leaves.is.0.spelled)).0
+    (ap (λ (xs : List ℕ). xs ++ more) (sym is.spelled)
+    ∙ e
+    ∙ leaves.whole
+    ∙ ap (λ (xs : List ℕ). xs ++ leaves.more) leaves.is.0.spelled)).0
 
 -- some bytes of a message, and not all, begin with none
 cut_none : (rest : List ℕ) → IsCut rest → BeginsNone rest
@@ -145,8 +142,8 @@ magic_not rest remaining last four wrong e (inr leaves) =
     let long : 4 ≤ length rest = omega arith in
     wrong
     (sym (number32-append rest remaining long)
-        ∙ ap (λ (xs : List ℕ). number32 xs 0) (e ∙ leaves.whole ∙ ap (λ (xs : List ℕ). xs ++ leaves.more) leaves.is.0.spelled)
-        ∙ magic-head_bytes (head_of leaves.leave) leaves.more)
+    ∙ ap (λ (xs : List ℕ). number32 xs 0) (e ∙ leaves.whole ∙ ap (λ (xs : List ℕ). xs ++ leaves.more) leaves.is.0.spelled)
+    ∙ magic-head_bytes (head_of leaves.leave) leaves.more)
 
 -- nor is a WRITE that is too long
 long_not : (rest remaining last : List ℕ) → IsHead rest (head_of rest) → is_too_long (head_of rest) ≡ true → rest ++ remaining ≡ last →
@@ -166,7 +163,6 @@ opens_not disks (bad.Length n) is opens = opens.1.2 is.1.1
 opens_not disks (bad.TooLarge n) is opens = absurd (omega (arith, opens.1.0, opens.1.3, is.1.2))
 
 module _ (align size : ℕ) (stream : List ℕ) (before after : Scene) (valid : IsValidStream stream) (told : before.left ≡ Some stream) (nothing : before.waiting ≡ []) where
-
   -- what was taken, and what is left
   parts : (s : Status) (sits : Sitting align size (2 ^ 32) before after s) → Split stream (asked sits.exchanges ++ sits.rest) after.left after.waiting
   parts s sits =
@@ -186,31 +182,31 @@ module _ (align size : ℕ) (stream : List ℕ) (before after : Scene) (valid : 
       let xs : List Message = map (λ (x : Exchange). x.message) sits.exchanges in
       let behind : List ℕ = sits.rest ++ (parts status.Spent sits).remaining in
       let fewer : length xs ≤ length valid.messages =
-          few_read xs valid.messages behind valid.last (All-from_recursion _ _ (each_message align size sits.exchanges sits.fit)) valid.each (last_none valid.last valid.ends)
-          (ap (λ (bytes : List ℕ). bytes ++ behind) (asked_is sits.exchanges)
-              ∙ sym ((parts status.Spent sits).whole ∙ append_assoc (asked sits.exchanges) sits.rest (parts status.Spent sits).remaining)
-              ∙ valid.whole) in
+      few_read xs valid.messages behind valid.last (All-from_recursion _ _ (each_message align size sits.exchanges sits.fit)) valid.each (last_none valid.last valid.ends)
+      (ap (λ (bytes : List ℕ). bytes ++ behind) (asked_is sits.exchanges)
+      ∙ sym ((parts status.Spent sits).whole ∙ append_assoc (asked sits.exchanges) sits.rest (parts status.Spent sits).remaining)
+      ∙ valid.whole) in
       absurd (omega (arith, fewer, length-map sits.exchanges (λ (x : Exchange). x.message), sits.ends.1, valid.few))
 
   -- and the session doesn't end by a fault of the bytes
   not_ended : (e : SessionEnd) → Sitting align size (2 ^ 32) before after (status.Ended e) → ⊥
   not_ended end.Truncated sits =
       let whole : sits.rest ++ (parts _ sits).remaining ≡ sits.rest =
-          ap (λ (xs : List ℕ). sits.rest ++ xs) ((parts _ sits).used_up sits.ends.1.0 sits.ends.1.1) ∙ append-nil sits.rest in
+      ap (λ (xs : List ℕ). sits.rest ++ xs) ((parts _ sits).used_up sits.ends.1.0 sits.ends.1.1) ∙ append-nil sits.rest in
       let is : sits.rest ≡ valid.last = sym whole ∙ ends_stream _ sits (subst (λ (xs : List ℕ). BeginsNone xs) (sym whole) (cut_none sits.rest sits.ends.0)) in
       cut_not sits.rest sits.ends.0 (subst (λ (xs : List ℕ). (xs ≡ []) ⊎ Leaves xs) (sym is) valid.ends)
   not_ended (end.BadMagic found) sits =
       let wrong : number32 sits.rest 0 ≢ request_magic = λ e. sits.ends.2 (sits.ends.1 ∙ e) in
       magic_not sits.rest (parts _ sits).remaining valid.last sits.ends.0 wrong
       (ends_stream _ sits
-          (rests_begin.refused false sits.rest (parts _ sits).remaining (event.Bad (end.BadMagic found)) (Stuck (end.BadMagic found)) tt
-              (record { four = sits.ends.0; told = sits.ends.1; bad = sits.ends.2; stuck = refl })))
+      (rests_begin.refused false sits.rest (parts _ sits).remaining (event.Bad (end.BadMagic found)) (Stuck (end.BadMagic found)) tt
+      (record { four = sits.ends.0; told = sits.ends.1; bad = sits.ends.2; stuck = refl })))
       valid.ends
   not_ended (end.TooLong n) sits =
       long_not sits.rest (parts _ sits).remaining valid.last sits.ends.0 sits.ends.1
       (ends_stream _ sits
-          (rests_begin.refused false sits.rest (parts _ sits).remaining (event.Bad (end.TooLong n)) (Stuck (end.TooLong n)) tt
-              (record { head = sits.ends.0; long = sits.ends.1; told = sits.ends.2; stuck = refl })))
+      (rests_begin.refused false sits.rest (parts _ sits).remaining (event.Bad (end.TooLong n)) (Stuck (end.TooLong n)) tt
+      (record { head = sits.ends.0; long = sits.ends.1; told = sits.ends.2; stuck = refl })))
       valid.ends
   not_ended other sits = absurd sits.ends
 

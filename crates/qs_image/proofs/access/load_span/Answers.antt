@@ -1,5 +1,5 @@
 -- One more block is read.
-use Rattle.std.proofs.Common.{◌≡◌, ◌+◌, ◌*◌, ◌/◌, ◌≤◌, length, arith, sym, ◌∙◌}
+use Rattle.std.proofs.Common.{◌≡◌, ◌+◌, ◌*◌, ◌≤◌, length, arith, sym, ◌∙◌}
 use Rattle.std.specs.Prelude.{map}
 use Rattle.qs_image.specs.Image.{align_of}
 use Rattle.qs_image.proofs.Striped.{same_disks_trans, still_tell}

@@ -1,10 +1,10 @@
 -- One more block is written, or a part of it.
-use Rattle.std.proofs.Common.{◌≡◌, ◌+◌, ◌-◌, ◌*◌, ◌/◌, ◌≤◌, length, take, drop, arith, sym, ap, ◌∙◌, ℕ, zero-mul}
+use Rattle.std.proofs.Common.{◌≡◌, ◌+◌, ◌*◌, ◌≤◌, length, take, arith, sym, ap, ◌∙◌, ℕ, zero-mul}
 use Rattle.std.specs.Prelude.{map}
 use Rattle.qs_bytes.specs.Pieces.{overlay}
 use Rattle.qs_bytes.proofs.Overlays.{overlay-none}
-use Rattle.qs_image.specs.Image.{align_of, content, Stores}
-use Rattle.qs_image.proofs.Striped.{same_disks_refl, same_disks_trans, still_tell, rose_after}
+use Rattle.qs_image.specs.Image.{align_of, content}
+use Rattle.qs_image.proofs.Striped.{same_disks_refl, same_disks_trans, rose_after}
 use Rattle.qs_image.proofs.Turns.{stores_more, stores_cut, block_place, block_within}
 use Rattle.qs_image.proofs.access.store_span.Goals as goal
 
