@@ -1,19 +1,19 @@
 -- What a request does stands between its Ask and its answer; its stores on a way that the graph gave.
-use Rattle.std.proofs.Common.{◌≡◌, ℕ, ◌<◌, ◌≤◌, ◌⊎◌, inl, inr, Bool, true, List, [], ◌∷◌, ◌++◌, Option, Some, None, refl, sym, ap, ◌∙◌, subst, arith}
+use Rattle.std.proofs.Common.{◌≡◌, ◌≢◌, ℕ, ◌<◌, ◌≤◌, ◌⊎◌, inl, inr, Bool, true, List, [], ◌∷◌, Option, Some, None, refl, sym, ap, ◌∙◌, subst, arith}
 use Rattle.qs_bytes.specs.declared.ask.Verdict.{Verdict}
 use Rattle.qs_part.specs.declared.graph.Route.{Route}
-use Rattle.qs_model.specs.Requests.{Client, Pads, Req, Stage, ToRoute, ToList, ToStart, ToLoad, ToHold, ToStore, ToFree, ToEnd, Ready, Entering, In, asked, form_error, abandoned}
-use Rattle.qs_model.specs.Worlds.{Tracker, World}
+use Rattle.qs_model.specs.Requests.{Step, Client, Pads, Req, Stage, ToRoute, ToList, ToStart, ToLoad, ToHold, ToStore, ToFree, ToEnd, Ready, Entering, In, asked, form_error, abandoned}
+use Rattle.qs_model.specs.Worlds.{Tracker, World, Seat, Vacant, Present, Has}
 use Rattle.qs_model.specs.Acts.{Act, Answers, Waits, Enters, Routes, Shuts, Lists, Starts, Loads, LoadFails, Holds, HoldFails, Stores, StoreFails, Frees, Ends, Element, Attached, NoExport, Crowded, Left, Detached, NotAttached, Asked, Did, Exported, Crashed}
 use Rattle.qs_model.specs.Guards.{May}
 use Rattle.qs_model.specs.Steps.{moved, leaves, happens, after, Runs}
 use Rattle.qs_model.specs.Histories.{answer_of, Acts, IsAnswer, IsAsk, IsStore, IsStoreRow, IsRouted, IsRouteRow}
-use Rattle.qs_model.specs.Laws.{Between, WasAsked, Unanswered, Writable, WasRouted, Ordered, Tracked}
+use Rattle.qs_model.specs.Laws.{Between, WasAsked, Unanswered, Writable, WasRouted, Ordered, Tracked, InFlight, Placed, InPlace}
 use Rattle.qs_model.proofs.Basics.{choose, put_here, put_tells}
-use Rattle.qs_model.proofs.Facts.{Shaped, InOrder, Ok}
+use Rattle.qs_model.proofs.Facts.{Shaped, InOrder, Ok, IsAt, Manned}
 use Rattle.qs_model.proofs.Machine.{ForMoved}
 use Rattle.qs_model.proofs.Holders.{some_none}
-use Rattle.qs_model.proofs.Kept.{step_ok, run_ok, runs_front, runs_back, for_moved, leaves_tells}
+use Rattle.qs_model.proofs.Kept.{step_ok, run_ok, for_moved, leaves_tells, split_run, front_run, seated_taken}
 use Rattle.qs_model.proofs.Working.{started_apart}
 use Rattle.qs_model.proofs.Along.{gone_lasts, lasts_run, next_step, next_run}
 
@@ -81,15 +81,12 @@ asks_next A w _ r may is old = absurd is
 
 pub between : (A : ℕ) (w : World) (es : List Element) → 0 < A → Ok A w → ((r : ℕ) → w.req r ≡ None) → Runs A w es → Between es
 between A w es pos ok none run = record {
-  once = λ r before behind e split is was.
-      let run' : Runs A w (before ++ e ∷ behind) = subst (λ (l : List Element). Runs A w l) split run in
-      let last : Runs A (after A w before) (e ∷ behind) = runs_back A w before _ run' in
-      asks_next A (after A w before) e r last.0 is (asked_made A w before r (runs_front A w before _ run') was);
-  within = λ r before behind e split acts.
-      let run' : Runs A w (before ++ e ∷ behind) = subst (λ (l : List Element). Runs A w l) split run in
-      let front : Runs A w before = runs_front A w before _ run' in
-      let last : Runs A (after A w before) (e ∷ behind) = runs_back A w before _ run' in
-      let (q, is) = acts_at A (after A w before) r e last.0 acts in
+  once = λ r before e at is was.
+      let (front, may) = split_run A w es before e run at in
+      asks_next A (after A w before) e r may is (asked_made A w before r front was);
+  within = λ r before e at acts.
+      let (front, may) = split_run A w es before e run at in
+      let (q, is) = acts_at A (after A w before) r e may acts in
       (was_asked A w before r q front (none r) is, unanswered A w before r q pos ok front is);
 }
 
@@ -200,11 +197,9 @@ store_at A w r c (Did s q act) ok may is =
 store_at A w r c _ ok may is = absurd is
 
 pub writable : (A : ℕ) (w : World) (es : List Element) → 0 < A → Ok A w → ((r : ℕ) → w.req r ≡ None) → Runs A w es → Writable es
-writable A w es pos ok none run r c before behind e split store =
-    let run' : Runs A w (before ++ e ∷ behind) = subst (λ (l : List Element). Runs A w l) split run in
-    let front : Runs A w before = runs_front A w before _ run' in
-    let last : Runs A (after A w before) (e ∷ behind) = runs_back A w before _ run' in
-    let (may_write, goer) = store_at A (after A w before) r c e (run_ok A w before pos ok front) last.0 store in
+writable A w es pos ok none run r c before e at store =
+    let (front, may) = split_run A w es before e run at in
+    let (may_write, goer) = store_at A (after A w before) r c e (run_ok A w before pos ok front) may store in
     (may_write, elim (was_routed A w before r c.route front goer) [ inl g ↦ absurd (some_none (sym g.is ∙ none r)) | inr h ↦ h ])
 
 -- the listed spans
@@ -215,5 +210,38 @@ ordered t order = record {
 }
 
 pub tracked : (A : ℕ) (w : World) (es : List Element) → 0 < A → Ok A w → Runs A w es → Tracked A w es
-tracked A w es pos ok run before behind split =
-    ordered _ (run_ok A w before pos ok (runs_front A w before behind (subst (λ (l : List Element). Runs A w l) split run))).tracker
+tracked A w es pos ok run before at = ordered _ (run_ok A w before pos ok (front_run A w es before run at)).tracker
+
+-- requests in flight and their places
+pub flight_at : (w : World) (r k : ℕ) (f : InFlight w r k) → IsAt f.request.stage k
+flight_at w r k f = subst (λ (g : Stage). IsAt g k) (sym f.stage) refl
+
+pub at_stage : (g : Stage) (k : ℕ) → IsAt g k → (step : Step) × (g ≡ In k step)
+at_stage (Ready v) k at = absurd at
+at_stage Entering k at = absurd at
+at_stage (In j step) k at = (step, ap (λ (i : ℕ). In i step) at)
+
+pub vacant_or : (s : Seat) → (s ≢ Vacant → ⊥) → s ≡ Vacant
+vacant_or Vacant none = refl
+vacant_or Present none = absurd (none (λ e. cc))
+vacant_or (Has l) none = absurd (none (λ e. cc))
+
+pub placed : (A : ℕ) (w : World) → Ok A w → Placed w
+placed A w ok = record {
+  taken = taken;
+  one = λ r s k f g. ok.one r s f.request g.request k f.is g.is (flight_at w r k f) (flight_at w s k g);
+  manned = manned;
+  drained = (λ vacant r k f. taken r k f (vacant k), λ drained k. vacant_or (w.tracker.seat k) (λ full. let (r, f) = manned k full in drained r k f));
+}
+  where
+    taken : (r k : ℕ) → InFlight w r k → w.tracker.seat k ≢ Vacant
+    taken r k f = seated_taken A w.tracker f.request.client f.request.stage k (ok.well r f.request f.is).seated (flight_at w r k f)
+
+    manned : (k : ℕ) → w.tracker.seat k ≢ Vacant → (r : ℕ) × InFlight w r k
+    manned k full =
+        let o : Manned w.req k = ok.manned k full in
+        let (step, is) = at_stage o.request.stage k o.at in
+        (o.number, record { request = o.request; step = step; is = o.is; stage = is })
+
+pub in_place : (A : ℕ) (w : World) (es : List Element) → 0 < A → Ok A w → Runs A w es → InPlace A w es
+in_place A w es pos ok run before at = placed A (after A w before) (run_ok A w before pos ok (front_run A w es before run at))

@@ -16,7 +16,7 @@ use Rattle.qs_model.specs.Laws.{Cells, Alters}
 use Rattle.qs_model.proofs.Basics.{choose, put_here, put_other, same_or, block_at, block_low, block_high}
 use Rattle.qs_model.proofs.Geometry.{outside, same_eqb}
 use Rattle.qs_model.proofs.Facts.{Shaped, Storing, Keeps, Ok}
-use Rattle.qs_model.proofs.Kept.{step_ok, run_ok, runs_front, runs_back, after_append}
+use Rattle.qs_model.proofs.Kept.{step_ok, run_ok, after_append, split_run, front_run}
 
 -- these entries are legal from one value on, and leave another
 pub record Leads (from to : ℕ) (entries : List CellEntry) : Type 0 where
@@ -188,16 +188,10 @@ step_still A x v _ none = refl
 pub cells : (A : ℕ) (w : World) (es : List Element) → 0 < A → IsTrue w.tells → Ok A w → Runs A w es → Cells A w es
 cells A w es pos told ok run = record {
   legal = λ x. (run_leads A x w es pos told ok run).legal;
-  now = λ x before behind e.
-      (run_leads A x w before pos told ok (runs_front A w before behind (subst (λ (l : List Element). Runs A w l) e run))).leaves;
-  still = λ x before behind e split none.
-      let run' : Runs A w (before ++ e ∷ behind) = subst (λ (l : List Element). Runs A w l) split run in
-      let front : Runs A w before = runs_front A w before _ run' in
-      let last : Runs A (after A w before) (e ∷ behind) = runs_back A w before _ run' in
+  now = λ x before at. (run_leads A x w before pos told ok (front_run A w es before run at)).leaves;
+  still = λ x before e at none.
+      let (front, may) = split_run A w es before e run at in
       ap (λ (v : World). byte_at A v.image x) (after_append A w before (e ∷ []))
-      ∙ (step_leads A x (after A w before) e pos (told_after before w told) (run_ok A w before pos ok front) last.0).leaves
+      ∙ (step_leads A x (after A w before) e pos (told_run A w before told) (run_ok A w before pos ok front) may).leaves
       ∙ step_still A x _ e none;
 }
-  where
-    told_after : (xs : List Element) (v : World) → IsTrue v.tells → IsTrue (after A v xs).tells
-    told_after xs v t = told_run A v xs t

@@ -1,5 +1,5 @@
 -- Every step but the making of an export and a crash is an event's, with its outcome.
-use Rattle.std.proofs.Common.{◌≡◌, ℕ, ◌⊎◌, inl, inr, Bool, List, ◌∷◌, ◌++◌, Some, refl, subst}
+use Rattle.std.proofs.Common.{◌≡◌, ℕ, ◌⊎◌, inl, inr, Bool, List, Some, refl}
 use Rattle.qs_part.specs.declared.event.Actor.TheVariants.{Session as ASession, Request as ARequest}
 use Rattle.qs_part.specs.declared.event.Event.{Event}
 use Rattle.qs_part.specs.declared.event.Event.TheVariants.{Attach, Leave, Ask as AskEvent, Step as StepEvent}
@@ -11,7 +11,7 @@ use Rattle.qs_model.specs.Guards.{MayWait, MayDo, May}
 use Rattle.qs_model.specs.Steps.{after, Runs}
 use Rattle.qs_model.specs.Events.{row_outcome, moved_out, wait_note, outcome_of, IsEvent}
 use Rattle.qs_model.specs.Laws.{Evented, IsOutside}
-use Rattle.qs_model.proofs.Kept.{runs_back}
+use Rattle.qs_model.proofs.Kept.{split_run}
 
 -- an answer that leaves a request where it is has its note
 pub wait_outcome : (A : ℕ) (w : World) (c : Client) (stage : Stage) (wait : Wait) → MayWait A w c stage wait → (out : Outcome) × (moved_out (wait_note A c stage wait) ≡ Some out)
@@ -64,7 +64,4 @@ step_evented A w (Crashed left) may = inl tt
 
 -- the law
 pub evented : (A : ℕ) (w : World) (es : List Element) → Runs A w es → Evented A es
-evented A w es run before behind e split =
-    let run' : Runs A w (before ++ e ∷ behind) = subst (λ (l : List Element). Runs A w l) split run in
-    let last : Runs A (after A w before) (e ∷ behind) = runs_back A w before (e ∷ behind) run' in
-    step_evented A (after A w before) e last.0
+evented A w es run before e at = step_evented A (after A w before) e (split_run A w es before e run at).1

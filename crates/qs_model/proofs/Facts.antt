@@ -136,6 +136,13 @@ abbrev pub IsAt : Stage → ℕ → Type 0
 IsAt (In j step) k = j ≡ k
 IsAt _ k = ⊥
 
+-- a taken place is a request's
+pub record Manned (req : ℕ → Option Req) (k : ℕ) : Type 0 where
+  pub number : ℕ
+  pub request : Req
+  pub is : req number ≡ Some request
+  pub at : IsAt request.stage k
+
 -- a session at an export
 abbrev pub IsClient : Session → ℕ → Type 0
 IsClient Away e = ⊥
@@ -153,5 +160,6 @@ pub record Ok (A : ℕ) (w : World) : Type 0 where
   pub well : (r : ℕ) (q : Req) → w.req r ≡ Some q → Well A w.tells w.tracker w.image q
   pub one : (r s : ℕ) (q p : Req) (k : ℕ) → w.req r ≡ Some q → w.req s ≡ Some p → IsAt q.stage k → IsAt p.stage k → r ≡ s
   pub owned : (b : ℕ) (h : Hold) → w.image.holder b ≡ Some h → Owner A w.req h b
+  pub manned : (k : ℕ) → w.tracker.seat k ≢ Vacant → Manned w.req k
   pub tracker : InOrder w.tracker
   pub sessions : (s e : ℕ) → IsClient (w.session s) e → Among s (w.graph.clients e)

@@ -8,12 +8,14 @@ use Rattle.qs_model.specs.Worlds.{Tracker, Vacant, Has, Listing, Hold, Image, Se
 use Rattle.qs_model.specs.Acts.{Act, Answers, Waits, Enters, Routes, Shuts, Lists, Starts, Loads, LoadFails, Holds, HoldFails, Stores, StoreFails, Frees, Ends, Element, Attached, NoExport, Crowded, Left, Detached, NotAttached, Asked, Did, Exported, Crashed}
 use Rattle.qs_model.specs.Guards.{MayDo, May, CanAsk}
 use Rattle.qs_model.specs.Steps.{moved, tracked, imaged, leaves, happens, after, Runs}
+use Rattle.qs_model.specs.Laws.{Follows, Begins}
 use Rattle.qs_model.proofs.Basics.{choose, put_here, put_other, put_tells, put_cases, same_or}
-use Rattle.qs_model.proofs.Facts.{Shaped, Seated, Seats, Held, Keeps, Well, IsHolder, Owner, IsAt, IsClient, Among, Ok}
+use Rattle.qs_model.proofs.Facts.{Shaped, Seated, Seats, Held, Keeps, Well, IsHolder, Owner, Manned, IsAt, IsClient, Among, Ok}
 use Rattle.qs_model.proofs.Machine.{ForMoved, own_shaped}
 use Rattle.qs_model.proofs.Places.{own_seated, stays_in_order, present_taken}
 use Rattle.qs_model.proofs.Held.{own_kept}
 use Rattle.qs_model.proofs.Holders.{HasMoved, own_holder, holder_before, new_holder, some_none}
+use Rattle.qs_model.proofs.Manned.{taken_before, own_stays, own_takes}
 use Rattle.qs_model.proofs.Others.{Elsewhere, others_seat, same_seated, others_held}
 
 -- a request's place is taken
@@ -166,6 +168,26 @@ did_owned A w r q act ok here b h is = elim (holder_before A w q.client act b h 
       | inr n ↦ record { number = o.number; request = o.request; is = put_other w.req r _ o.number n ∙ o.is; holds = o.holds }
     ]
 
+-- each taken place has its request
+pub did_manned : (A : ℕ) (w : World) (r : ℕ) (q : Req) (act : Act q.stage) → Ok A w → w.req r ≡ Some q → MayDo A w q.client q.pads act →
+    (j : ℕ) → (tracked A w.tracker q.client act).seat j ≢ Vacant → Manned (happens A w (Did r q act)).req j
+did_manned A w r q act ok here may j taken = elim (taken_before A w q.client q.pads act j may taken) [
+  | inl e ↦ old (ok.manned j e)
+  | inr e ↦ own (has_moved _ _ (own_takes A q.client q.dropped q.pads act j e))
+]
+  where
+    own : (x : Req) × ((moved A q.client q.dropped q.pads act ≡ Some x) × IsAt x.stage j) → Manned (happens A w (Did r q act)).req j
+    own m = record { number = r; request = m.0; is = put_here w.req r _ ∙ m.1.0; at = m.1.1 }
+
+    old : Manned w.req j → Manned (happens A w (Did r q act)).req j
+    old o = elim (same_or o.number r) [
+      | inl e ↦
+          let there : w.req r ≡ Some o.request = subst (λ (n : ℕ). w.req n ≡ Some o.request) e o.is in
+          let same : o.request ≡ q = cc in
+          own (has_moved _ _ (own_stays A w q.client q.dropped q.pads act j (subst (λ (x : Req). IsAt x.stage j) same o.at) taken))
+      | inr n ↦ record { number = o.number; request = o.request; is = put_other w.req r _ o.number n ∙ o.is; at = o.at }
+    ]
+
 pub did_ok : (A : ℕ) (w : World) (r : ℕ) (q : Req) (act : Act q.stage) → 0 < A → Ok A w → May A w (Did r q act) → Ok A (happens A w (Did r q act))
 did_ok A w r q act pos ok may = record {
   below = λ s x is. elim (put_tells w.req r _ s (Some x) is) [
@@ -178,6 +200,7 @@ did_ok A w r q act pos ok may = record {
   ];
   one = did_one A w r q act ok may.0 may.1;
   owned = did_owned A w r q act ok may.0;
+  manned = did_manned A w r q act ok may.0 may.1;
   tracker = stays_in_order A w q.client q.pads act may.1 ok.tracker;
   sessions = ok.sessions;
 }
@@ -222,6 +245,9 @@ asked_ok A w r c ok can = record {
   owned = λ b h is. let o : Owner A w.req h b = ok.owned b h is in
       let other : o.number ≢ r = λ e. let lt : o.number < w.next = ok.below o.number o.request o.is in let f : r ≡ w.next = can.next in omega arith in
       record { number = o.number; request = o.request; is = put_other w.req r _ o.number other ∙ o.is; holds = o.holds };
+  manned = λ k taken. let o : Manned w.req k = ok.manned k taken in
+      let other : o.number ≢ r = λ e. let lt : o.number < w.next = ok.below o.number o.request o.is in let f : r ≡ w.next = can.next in omega arith in
+      record { number = o.number; request = o.request; is = put_other w.req r _ o.number other ∙ o.is; at = o.at };
   tracker = ok.tracker;
   sessions = ok.sessions;
 }
@@ -274,6 +300,11 @@ abandoned_at (Ready v) k at = at
 abandoned_at Entering k at = at
 abandoned_at (In j step) k at = at
 
+pub at_abandoned : (g : Stage) (k : ℕ) → IsAt g k → IsAt (abandoned g) k
+at_abandoned (Ready v) k at = at
+at_abandoned Entering k at = at
+at_abandoned (In j step) k at = at
+
 pub abandoned_holder : (A : ℕ) (c : Client) (g : Stage) (h : Hold) (b : ℕ) → IsHolder A c g h b → IsHolder A c (abandoned g) h b
 abandoned_holder A c (Ready v) h b is = is
 abandoned_holder A c Entering h b is = is
@@ -320,6 +351,9 @@ left_ok A w s e ok live = record {
   owned = λ b h is. let o : Owner A w.req h b = ok.owned b h is in
       let (x, (there, f)) = leaves_some s (w.req o.number) o.request o.is in
       record { number = o.number; request = x; is = there; holds = holds_after o.request x h b f o.holds };
+  manned = λ k taken. let o : Manned w.req k = ok.manned k taken in
+      let (x, (there, f)) = leaves_some s (w.req o.number) o.request o.is in
+      record { number = o.number; request = x; is = there; at = at_after o.request x k f o.at };
   tracker = ok.tracker;
   sessions = λ t d. put_cases (λ g. IsClient g d → Among t (w.graph.clients d)) w.session s (Leaving e) t
       (λ same is. ok.sessions t d (subst (λ (g : Session). IsClient g d) (sym (ap w.session same ∙ live)) is))
@@ -333,6 +367,10 @@ left_ok A w s e ok live = record {
     holds_after : (q x : Req) (h : Hold) (b : ℕ) → (x ≡ q) ⊎ (x ≡ abandon q) → IsHolder A q.client q.stage h b → IsHolder A x.client x.stage h b
     holds_after q x h b (inl f) holds = subst (λ (y : Req). IsHolder A y.client y.stage h b) (sym f) holds
     holds_after q x h b (inr f) holds = subst (λ (y : Req). IsHolder A y.client y.stage h b) (sym f) (abandoned_holder A q.client q.stage h b holds)
+
+    at_after : (q x : Req) (k : ℕ) → (x ≡ q) ⊎ (x ≡ abandon q) → IsAt q.stage k → IsAt x.stage k
+    at_after q x k (inl f) at = subst (λ (y : Req). IsAt y.stage k) (sym f) at
+    at_after q x k (inr f) at = subst (λ (y : Req). IsAt y.stage k) (sym f) (at_abandoned q.stage k at)
 
 -- the clients of an export
 pub among_without : (s t : ℕ) (xs : List ℕ) → t ≢ s → Among t xs → Among t (without s xs)
@@ -354,6 +392,7 @@ attached_ok A w s name info ok = record {
   well = ok.well;
   one = ok.one;
   owned = ok.owned;
+  manned = ok.manned;
   tracker = ok.tracker;
   sessions = λ t d. put_cases (λ g. IsClient g d → Among t (put w.graph.clients info.e (s ∷ w.graph.clients info.e) d)) w.session s (Live info.e) t
       (λ same is. put_cases (λ xs. Among t xs) w.graph.clients info.e (s ∷ w.graph.clients info.e) d (λ f. inl (sym same)) (λ f. absurd (f (sym is))))
@@ -367,6 +406,7 @@ detached_ok A w s e ok = record {
   well = ok.well;
   one = ok.one;
   owned = ok.owned;
+  manned = ok.manned;
   tracker = ok.tracker;
   sessions = λ t d. put_cases (λ g. IsClient g d → Among t (put w.graph.clients e (without s (w.graph.clients e)) d)) w.session s Away t
       (λ same is. absurd is)
@@ -380,6 +420,7 @@ new_ok A tells n now = record {
   well = λ r q is. absurd (some_none (sym is));
   one = λ r s q p k a b at bt. absurd (some_none (sym a));
   owned = λ b h is. absurd (some_none (sym is));
+  manned = λ k taken. absurd (taken refl);
   tracker = record {
     below = λ k l is. absurd (vacant l is);
     one = λ j k l m a b e. absurd (vacant l a);
@@ -401,7 +442,15 @@ step_ok A w (Detached s e) pos ok may = detached_ok A w s e ok
 step_ok A w (NotAttached s e) pos ok may = ok
 step_ok A w (Asked r c) pos ok may = asked_ok A w r c ok may
 step_ok A w (Did r q act) pos ok may = did_ok A w r q act pos ok may
-step_ok A w (Exported e x) pos ok may = record { below = ok.below; well = ok.well; one = ok.one; owned = ok.owned; tracker = ok.tracker; sessions = ok.sessions }
+step_ok A w (Exported e x) pos ok may = record {
+  below = ok.below;
+  well = ok.well;
+  one = ok.one;
+  owned = ok.owned;
+  manned = ok.manned;
+  tracker = ok.tracker;
+  sessions = ok.sessions;
+}
 step_ok A w (Crashed left) pos ok may = new_ok A w.tells w.next left
 
 -- and so does every run
@@ -421,3 +470,14 @@ runs_back A w (e ∷ xs) ys run = runs_back A (happens A w e) xs ys run.1
 pub after_append : (A : ℕ) (w : World) (xs ys : List Element) → after A w (xs ++ ys) ≡ after A (after A w xs) ys
 after_append A w [] ys = refl
 after_append A w (e ∷ xs) ys = after_append A (happens A w e) xs ys
+
+-- the steps before one of a run, and that it may happen there
+pub split_run : (A : ℕ) (w : World) (es before : List Element) (e : Element) → Runs A w es → Follows before e es →
+    Runs A w before × May A (after A w before) e
+split_run A w es before e run at =
+    let whole : Runs A w (before ++ e ∷ at.0) = subst (λ (l : List Element). Runs A w l) at.1 run in
+    (runs_front A w before (e ∷ at.0) whole, (runs_back A w before (e ∷ at.0) whole).0)
+
+-- the steps at the beginning of a run
+pub front_run : (A : ℕ) (w : World) (es before : List Element) → Runs A w es → Begins before es → Runs A w before
+front_run A w es before run at = runs_front A w before at.0 (subst (λ (l : List Element). Runs A w l) at.1 run)

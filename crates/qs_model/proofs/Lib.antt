@@ -6,6 +6,7 @@ pub mod Machine
 pub mod Places
 pub mod Held
 pub mod Holders
+pub mod Manned
 pub mod Kept
 pub mod Cells
 pub mod Working

@@ -1,5 +1,5 @@
 -- Answers that the core never gets.
-use Rattle.std.proofs.Common.{◌≡◌, ◌≢◌, ℕ, ◌<◌, Bool, true, List, [], ◌∷◌, ◌++◌, Some, refl, sym, ◌∙◌, subst}
+use Rattle.std.proofs.Common.{◌≡◌, ◌≢◌, ℕ, ◌<◌, Bool, true, List, [], ◌∷◌, Some, refl, sym, ◌∙◌, subst}
 use Rattle.qs_part.specs.declared.stripe.Side.{Side}
 use Rattle.qs_part.specs.declared.stripe.Side.TheVariants.{Head, Tail}
 use Rattle.qs_model.specs.Requests.{Client, Pads, Req, Stage, ToList, ToStart, ToHold, ToStore, ToFree, ToEnd, Ready, Entering, In, edge, has}
@@ -12,7 +12,7 @@ use Rattle.qs_model.specs.Laws.{NeverOdd}
 use Rattle.qs_model.proofs.Geometry.{reaches_edge, tail_other}
 use Rattle.qs_model.proofs.Facts.{Sits, IsOpen, IsHolder, Held, Owner, IsAt, IsClient, Among, Well, Ok}
 use Rattle.qs_model.proofs.Working.{Works, holder_is}
-use Rattle.qs_model.proofs.Kept.{run_ok, runs_back, runs_front}
+use Rattle.qs_model.proofs.Kept.{run_ok, split_run}
 
 -- the block that a Hold wants isn't held
 pub hold_free : (A : ℕ) (c : Client) (k : ℕ) (side other : Side) (j : ℕ) → has A c side ≡ true → IsHolder A c (In k (ToHold side)) (record { place = j; side = other }) (edge A c side) → ⊥
@@ -98,7 +98,6 @@ step_never A w _ pos ok may odd = odd
 
 -- the law
 pub never_odd : (A : ℕ) (w : World) (es : List Element) → 0 < A → Ok A w → Runs A w es → NeverOdd es
-never_odd A w es pos ok run before behind e split odd =
-    let run' : Runs A w (before ++ e ∷ behind) = subst (λ (l : List Element). Runs A w l) split run in
-    let last : Runs A (after A w before) (e ∷ behind) = runs_back A w before (e ∷ behind) run' in
-    step_never A (after A w before) e pos (run_ok A w before pos ok (runs_front A w before (e ∷ behind) run')) last.0 odd
+never_odd A w es pos ok run before e at odd =
+    let (front, may) = split_run A w es before e run at in
+    step_never A (after A w before) e pos (run_ok A w before pos ok front) may odd

@@ -18,7 +18,7 @@ use Rattle.qs_model.proofs.Basics.{choose}
 use Rattle.qs_model.proofs.Geometry.{Reaches, covers_low, covers_high, same_eqb}
 use Rattle.qs_model.proofs.Facts.{Shaped, IsBad, IsWhole, Loading, Ok}
 use Rattle.qs_model.proofs.Holders.{HasMoved, some_none}
-use Rattle.qs_model.proofs.Kept.{run_ok, runs_front, runs_back}
+use Rattle.qs_model.proofs.Kept.{run_ok, split_run}
 use Rattle.qs_model.proofs.Walk.{Plan, due_run}
 use Rattle.qs_model.proofs.Once.{rest_of, join, join_last, place_reached, from_first, entry_here, piece_value}
 
@@ -190,17 +190,13 @@ answer_whole A c d _ bytes fit is = absurd (some_none (sym is))
 -- the law
 pub reads_once : (A : ℕ) (w : World) (es : List Element) → 0 < A → Ok A w → ((r : ℕ) → w.req r ≡ None) → w.next ≡ 0 → Runs A w es → ReadsOnce A es
 reads_once A w es pos ok none zero run = record {
-  whole = λ r c bytes before behind e split answer.
-      let run' : Runs A w (before ++ e ∷ behind) = subst (λ (l : List Element). Runs A w l) split run in
-      let front : Runs A w before = runs_front A w before _ run' in
-      let last : Runs A (after A w before) (e ∷ behind) = runs_back A w before _ run' in
-      let (q, act, (is, client, answer', fit)) = answered_at A (after A w before) r c (Got bytes) e (run_ok A w before pos ok front) last.0 answer in
+  whole = λ r c bytes before e at answer.
+      let (front, may) = split_run A w es before e run at in
+      let (q, act, (is, client, answer', fit)) = answered_at A (after A w before) r c (Got bytes) e (run_ok A w before pos ok front) may answer in
       subst (λ (y : Client). length bytes ≡ y.ask.length) client (answer_whole A q.client q.dropped act bytes fit answer');
-  once = λ r c bytes before behind e split answer x covered.
-      let run' : Runs A w (before ++ e ∷ behind) = subst (λ (l : List Element). Runs A w l) split run in
-      let front : Runs A w before = runs_front A w before _ run' in
-      let last : Runs A (after A w before) (e ∷ behind) = runs_back A w before _ run' in
-      let (q, act, (is, client, answer', fit)) = answered_at A (after A w before) r c (Got bytes) e (run_ok A w before pos ok front) last.0 answer in
+  once = λ r c bytes before e at answer x covered.
+      let (front, may) = split_run A w es before e run at in
+      let (q, act, (is, client, answer', fit)) = answered_at A (after A w before) r c (Got bytes) e (run_ok A w before pos ok front) may answer in
       (due_run A x r (due_read A x r c bytes pos covered) (all_read A x r c bytes pos covered) w before q (plan_read A x r c bytes pos covered) pos ok front is
       (end_read A x r c bytes pos covered q.client q.dropped q.pads act fit client answer')).unmade (none r) (omega arith);
 }

@@ -9,15 +9,12 @@ use Rattle.qs_model.specs.Acts.{Act, Loads, Stores, StoreFails, Element, Attache
 use Rattle.qs_model.specs.Guards.{May, MayDo}
 use Rattle.qs_model.specs.Steps.{moved, leaves, happens, after, Runs}
 use Rattle.qs_model.specs.Histories.{cell_of, cell_at, cell, is_of, reads_in, writes_in}
+use Rattle.qs_model.specs.Laws.{entries}
 use Rattle.qs_model.proofs.Basics.{put_here, put_other, same_or}
 use Rattle.qs_model.proofs.Facts.{Shaped, Ok}
 use Rattle.qs_model.proofs.Holders.{HasMoved, some_none}
 use Rattle.qs_model.proofs.Kept.{step_ok}
 use Rattle.qs_model.proofs.Along.{lasts_run, gone_lasts, next_step}
-
--- the entries of a request at x that a list of steps makes
-abbrev pub entries : ℕ → ℕ → ℕ → List Element → List CellEntry
-entries A x r es = filter (is_of r) (cell A x es)
 
 -- What is still to come of a request, `due q es`, when it is to end well: `all` from the Ask on.
 pub record Plan (A x r : ℕ) (due : Req → List CellEntry → Type 0) (all : List CellEntry) : Type 0 where

@@ -18,7 +18,7 @@ use Rattle.qs_model.proofs.Basics.{choose}
 use Rattle.qs_model.proofs.Geometry.{Reaches, covers_low, covers_high, same_eqb}
 use Rattle.qs_model.proofs.Facts.{Shaped, IsBad, Storing, Ok}
 use Rattle.qs_model.proofs.Holders.{HasMoved, some_none}
-use Rattle.qs_model.proofs.Kept.{run_ok, runs_front, runs_back}
+use Rattle.qs_model.proofs.Kept.{run_ok, split_run}
 use Rattle.qs_model.proofs.Walk.{Plan, due_run}
 use Rattle.qs_model.proofs.Once.{rest_of, join, join_last, place_reached, from_first, entry_here}
 use Rattle.qs_model.proofs.ReadsOnce.{answered_at}
@@ -159,10 +159,8 @@ module _ (A : ℕ) (x : ℕ) (r : ℕ) (c : Client) (pos : 0 < A) (covered : cov
 
 -- the law
 pub writes_once : (A : ℕ) (w : World) (es : List Element) → 0 < A → Ok A w → ((r : ℕ) → w.req r ≡ None) → w.next ≡ 0 → Runs A w es → WritesOnce A es
-writes_once A w es pos ok none zero run r c before behind e split answer x covered =
-    let run' : Runs A w (before ++ e ∷ behind) = subst (λ (l : List Element). Runs A w l) split run in
-    let front : Runs A w before = runs_front A w before _ run' in
-    let last : Runs A (after A w before) (e ∷ behind) = runs_back A w before _ run' in
-    let (q, act, (is, client, answer', fit)) = answered_at A (after A w before) r c Fine e (run_ok A w before pos ok front) last.0 answer in
+writes_once A w es pos ok none zero run r c before e at answer x covered =
+    let (front, may) = split_run A w es before e run at in
+    let (q, act, (is, client, answer', fit)) = answered_at A (after A w before) r c Fine e (run_ok A w before pos ok front) may answer in
     (due_run A x r (due_write A x r c pos covered) (all_write A x r c pos covered) w before q (plan_write A x r c pos covered) pos ok front is
     (end_write A x r c pos covered q.client q.dropped q.pads act fit client answer')).unmade (none r) (omega arith)

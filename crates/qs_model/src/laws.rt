@@ -4,7 +4,7 @@ ghost use Rattle.qs_model.specs.Example.{zeros, padded, answers};
 ghost use Rattle.qs_model.specs.Events.{outcome_of};
 ghost use Rattle.qs_model.specs.Acts.{Element};
 ghost use Rattle.qs_model.specs.Steps.{after, Runs};
-ghost use Rattle.qs_model.specs.Laws.{opening, Cells, Between, ReadsOnce, WritesOnce, Undivided, NeverOdd, Writable, Tracked, Evented, Headline};
+ghost use Rattle.qs_model.specs.Laws.{opening, Cells, Between, ReadsOnce, WritesOnce, Undivided, NeverOdd, Writable, Tracked, InPlace, Evented, Headline};
 
 /// Each byte's reads and writes are one legal history of a single cell, and the byte is what that
 /// history leaves, at every position of every run over disks that tell their content. Only a write
@@ -59,6 +59,13 @@ pub fn reads_once()
 pub fn writes_once()
     ensures { (A : ℕ) (tells : Bool) (now : ℕ → List ℕ) (es : List Element) → 0 < A →
         Runs A (opening tells now) es → WritesOnce A es }
+{}
+
+/// Requests in flight have distinct places of the tracker, each of these is taken, and no other place
+/// is.
+pub fn in_place()
+    ensures { (A : ℕ) (tells : Bool) (now : ℕ → List ℕ) (es : List Element) → 0 < A →
+        Runs A (opening tells now) es → InPlace A (opening tells now) es }
 {}
 
 /// Every step but the making of an export and a crash is an event's, and has one outcome.

@@ -3,7 +3,7 @@ use Rattle.qs_model.specs.Laws.{opening}
 use Rattle.qs_model.proofs.Kept.{new_ok}
 use Rattle.qs_model.proofs.Facts.{Ok}
 use Rattle.qs_model.proofs.Cells.{cells}
-use Rattle.qs_model.proofs.Between.{between, writable, tracked}
+use Rattle.qs_model.proofs.Between.{between, writable, tracked, in_place}
 use Rattle.qs_model.proofs.ReadsOnce.{reads_once}
 use Rattle.qs_model.proofs.WritesOnce.{writes_once}
 use Rattle.qs_model.proofs.Undivided.{undivided}
@@ -24,4 +24,5 @@ returns c = λ A tells now es pos run.
       writable = writable A (opening tells now) es pos ok (λ r. refl) run;
       tracked = tracked A (opening tells now) es pos ok run;
       evented = evented A (opening tells now) es run;
+      in_place = in_place A (opening tells now) es pos ok run;
     }
