@@ -8,3 +8,7 @@ part xs at n = take n (drop at xs)
 -- old, with a piece written over it from place `at` on
 unfoldable pub overlay : List ℕ → ℕ → List ℕ → List ℕ
 overlay old at piece = take at old ++ piece ++ drop (at + length piece) old
+
+-- a buffer of as many bytes as old, with these written over its front
+abbrev pub written : List ℕ → List ℕ → List ℕ
+written old ws = take (length old) (ws ++ drop (length ws) old)

@@ -1,4 +1,7 @@
 ghost use Rattle.std.specs.Prelude.{◌≡◌, ◌↔◌, ◌++◌, [], length, IsTrue, OnOk, OnErr};
+ghost use Rattle.std.specs.Borrow.{Lends, sem, Array, u8 as byte};
+ghost use Rattle.qs_bytes.specs.contracts.buffer.Bytes.{the_row};
+ghost use Rattle.qs_bytes.specs.Pieces.{written};
 
 use crate::memory::Memory;
 use std::marker::Model;
@@ -28,6 +31,14 @@ impl Bytes {
         ensures { result.now ≡ self.now }
     {
         self.0.as_slice()
+    }
+
+    /// The bytes, to be written in place. What is last written there is what the buffer has.
+    pub fn as_mut_slice(&mut self) -> &mut [u8]
+        ensures* writes_back { sem 𝓛 (Lends the_row (Array byte 0) self.entry result (λ ws. written self.old ws)) }
+        ensures value { result.now ≡ self.old }
+    {
+        self.0.as_mut_slice()
     }
 
     /// How many bytes there are.

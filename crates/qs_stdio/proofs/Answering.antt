@@ -1,20 +1,19 @@
 -- A request is answered: each way to do it, as one step of the service.
-use Rattle.std.proofs.Common.{◌≡◌, ℕ, ◌≤◌, Bool, true, false, List, [], ◌++◌, length, refl, sym, ap, ◌∙◌, inl, inr, append_assoc}
+use Rattle.std.proofs.Common.{◌≡◌, ℕ, true, false, List, [], ◌++◌, refl, ap, ◌∙◌, inl, inr, append_assoc}
 use Rattle.std.specs.Prelude.{Option, Result, Ok, Err, OnOk, OnErr}
 use Rattle.qs_bytes.specs.declared.ask.Ask.{Ask}
 use Rattle.qs_bytes.specs.declared.ask.Errno.{Errno}
-use Rattle.qs_bytes.specs.declared.ask.Errno.TheVariants.{Io, NoMem, Inval}
-use Rattle.qs_bytes.specs.declared.ask.Verdict.{Verdict}
-use Rattle.qs_bytes.specs.declared.ask.Verdict.TheVariants.{Got, Fine, Refused}
+use Rattle.qs_bytes.specs.declared.ask.Errno.TheVariants.{Io}
+use Rattle.qs_bytes.specs.declared.ask.Verdict.TheVariants.{Got, Refused}
 use Rattle.qs_outside.specs.Blocks.{Seen}
 use Rattle.qs_bytes.specs.Pieces.{part}
-use Rattle.qs_image.specs.Image.{Loads, Stores, content}
+use Rattle.qs_image.specs.Image.{Stores, content}
 use Rattle.qs_image.proofs.Striped.{same_disks_refl}
 use Rattle.qs_nbd_transmission.specs.Replies.{is_read, reply_front, reply_of}
 use Rattle.qs_stdio.specs.Service.{is_valid, MayGet, Leads}
 use Rattle.qs_nbd_transmission.specs.Heads.{is_write}
 use Rattle.qs_stdio.specs.Waiting.{Gives, PutsRead}
-use Rattle.qs_stdio.specs.Calls.{Called, Puts, Answered, Answers, is_uncalled}
+use Rattle.qs_stdio.specs.Calls.{Puts, Answers, is_uncalled}
 use Rattle.qs_stdio.proofs.Flows.{gives_on}
 
 module _ {E : Type 0} (align size : ℕ) (a : Ask) (old new : List Seen) where

@@ -1,5 +1,5 @@
 -- A valid stream is served to its end.
-use Rattle.std.proofs.Common.{◌≡◌, ◌≢◌, ℕ, ◌+◌, ◌%◌, ◌<◌, ◌≤◌, ◌^◌, ◌⊎◌, inl, inr, Bool, true, false, List, [], ◌∷◌, ◌++◌, length, refl, sym, ap, ◌∙◌, subst, arith, append-nil, append_assoc, length-append}
+use Rattle.std.proofs.Common.{◌≡◌, ◌≢◌, ℕ, ◌≤◌, ◌^◌, ◌⊎◌, inl, inr, true, false, List, [], ◌∷◌, ◌++◌, length, refl, sym, ap, ◌∙◌, subst, arith, append-nil, append_assoc, length-append}
 use Rattle.std.specs.Prelude.{Option, None, Some, String, map}
 use Rattle.std.specs.Global.{Global}
 use Rattle.std.specs.List.{All, AllByRecursion, flat_map}
@@ -17,7 +17,7 @@ use Rattle.qs_bytes.specs.declared.status.SessionEnd.{SessionEnd}
 use Rattle.qs_bytes.specs.declared.status.SessionEnd.TheVariants as end
 use Rattle.qs_nbd_transmission.specs.declared.head.Head.{Head}
 use Rattle.qs_nbd_transmission.specs.declared.event.WireEvent.TheVariants as event
-use Rattle.qs_nbd_transmission.specs.Heads.{request_magic, FitsHead, head_bytes, head_of, disc, has_body, is_too_long, IsHead, IsHeadFront}
+use Rattle.qs_nbd_transmission.specs.Heads.{request_magic, head_bytes, head_of, disc, has_body, is_too_long, IsHead, IsHeadFront}
 use Rattle.qs_nbd_transmission.specs.Phases.{Over, Stuck}
 use Rattle.qs_nbd_transmission.specs.Messages.{Message, IsMessage, BeginsNone, spelling}
 use Rattle.qs_nbd_transmission.proofs.HeadLaws.{length-head_bytes, magic-head_bytes}
@@ -27,11 +27,11 @@ use Rattle.qs_outside.specs.Blocks.{Seen}
 use Rattle.qs_image.specs.Image.{align_of, size_of}
 use Rattle.qs_image.specs.Opening.{IsImage, Opens}
 use Rattle.qs_stdio.specs.Words.{IsCommand}
-use Rattle.qs_stdio.specs.Service.{Exchange, AllFit, MayGet, ask, asked}
+use Rattle.qs_stdio.specs.Service.{Exchange, AllFit, asked}
 use Rattle.qs_stdio.specs.Waiting.{Takes}
-use Rattle.qs_stdio.specs.Scenes.{Scene, Ending, IsCut, IsCutWrite, IsLeave}
+use Rattle.qs_stdio.specs.Scenes.{Scene, IsCut}
 use Rattle.qs_stdio.specs.Streams.{Leaves, IsValidStream, IsServed}
-use Rattle.qs_stdio.specs.Runs.{Ends, Sitting, Ran}
+use Rattle.qs_stdio.specs.Runs.{Sitting, Ran}
 
 -- no more messages are read than the stream has
 few_read : (xs ms : List Message) (rest last : List ℕ) → All IsMessage xs → All IsMessage ms → BeginsNone last →

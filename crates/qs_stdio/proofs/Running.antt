@@ -1,14 +1,13 @@
 -- From the words to the status.
-use Rattle.std.proofs.Common.{◌≡◌, ℕ, ◌<◌, ◌^◌, Bool, true, false, List, [], ◌++◌, length, get_or, take, drop, refl, sym, ap, ◌∙◌, subst, arith, append-nil}
-use Rattle.std.specs.Prelude.{Option, map, String}
+use Rattle.std.proofs.Common.{◌≡◌, ℕ, ◌^◌, List, [], ◌++◌, length, take, drop, refl, sym, ap, ◌∙◌}
+use Rattle.std.specs.Prelude.{String}
 use Rattle.std.specs.Global.{Global}
 use Rattle.std.proofs.Math.Seq.{take-append_seam}
 use Rattle.qs_bytes.specs.declared.status.Status.{Status}
 use Rattle.qs_bytes.specs.declared.status.Status.TheVariants as status
-use Rattle.qs_outside.specs.Blocks.{Seen}
-use Rattle.qs_image.specs.Image.{disk, align_of, size_of, AllTell, content}
+use Rattle.qs_image.specs.Image.{align_of, size_of}
 use Rattle.qs_image.specs.Opening.{IsImage}
-use Rattle.qs_image.proofs.Striped.{seen_at, same_disks_refl}
+use Rattle.qs_image.proofs.Striped.{same_disks_refl}
 use Rattle.qs_stdio.specs.Words.{IsCommand}
 use Rattle.qs_stdio.specs.Scenes.{Scene}
 use Rattle.qs_stdio.specs.Runs.{Serves, Sitting, Ran}

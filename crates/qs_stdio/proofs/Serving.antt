@@ -1,9 +1,7 @@
 -- Requests served one after the other.
-use Rattle.std.proofs.Common.{◌≡◌, ℕ, ◌+◌, ◌⊎◌, inl, inr, Bool, true, false, List, [], ◌∷◌, ◌++◌, length, refl, sym, ap, ◌∙◌, subst, append-nil, append_assoc, length-append}
-use Rattle.std.specs.Prelude.{Option, flat_map}
-use Rattle.std.specs.List.{AllByRecursion}
+use Rattle.std.proofs.Common.{◌≡◌, ℕ, ◌+◌, ◌⊎◌, inl, inr, List, [], ◌∷◌, ◌++◌, length, refl, sym, ap, ◌∙◌, subst, append-nil, length-append}
+use Rattle.std.specs.Prelude.{Option}
 use Rattle.std.proofs.lemmas.Grind.{flat_map-append}
-use Rattle.qs_bytes.specs.declared.ask.Verdict.{Verdict}
 use Rattle.qs_nbd_transmission.specs.Messages.{IsMessage, spelling}
 use Rattle.qs_outside.specs.Blocks.{Seen}
 use Rattle.qs_image.specs.Image.{content, AllTell, SameDisks}
@@ -14,7 +12,7 @@ use Rattle.qs_stdio.specs.Calls.{Called, CalledAll}
 use Rattle.qs_bytes.specs.declared.status.Status.{Status}
 use Rattle.qs_bytes.specs.declared.status.Status.TheVariants as status
 use Rattle.qs_stdio.specs.Scenes.{Scene, Ending, Moves, Exchanges, Stops}
-use Rattle.qs_stdio.specs.Runs.{Ends, Finishing, Sitting, is_whole}
+use Rattle.qs_stdio.specs.Runs.{Ends, Finishing, Sitting}
 use Rattle.qs_stdio.proofs.Flows.{takes_on, takes_none, gives_on, gives_none}
 
 -- so many requests were served

@@ -1,14 +1,13 @@
 -- The next event is sought, piece by piece.
-use Rattle.std.proofs.Common.{◌≡◌, ℕ, ◌<◌, ◌≤◌, Bool, true, false, List, [], ◌++◌, length, refl, sym, ap, ◌∙◌, subst, arith, append-nil}
+use Rattle.std.proofs.Common.{◌≡◌, ℕ, Bool, false, List, [], ◌++◌, refl, ◌∙◌, subst, append-nil}
 use Rattle.std.specs.Prelude.{Option, None, Some}
 use Rattle.std.specs.Io.KnownBytes.{Consumes, IsAtEnd}
-use Rattle.qs_nbd_transmission.specs.Phases.{Phase, InHead, Wants, Fills, Skips, Over, Stuck, Reader, Reaches, CanFeed, is_stuck, need}
+use Rattle.qs_nbd_transmission.specs.Phases.{Phase, InHead, Fills, Skips, Stuck, Reader, Reaches, CanFeed, is_stuck}
 use Rattle.qs_nbd_transmission.specs.declared.event.WireEvent.{WireEvent}
-use Rattle.qs_nbd_transmission.proofs.Reading.{reaches_on, need_falls}
-use Rattle.qs_stdio.specs.declared.event.Next.{Next}
+use Rattle.qs_nbd_transmission.proofs.Reading.{reaches_on}
 use Rattle.qs_stdio.specs.declared.event.Next.TheVariants as next
 use Rattle.qs_stdio.specs.Waiting.{Takes, Gives}
-use Rattle.qs_stdio.specs.Events.{Feeds, Seeks, Finds}
+use Rattle.qs_stdio.specs.Events.{Feeds, Seeks}
 use Rattle.qs_stdio.proofs.Flows.{takes_on, takes_read, takes_split, gives_on}
 
 -- all that waited was taken, and brought no event

@@ -1,26 +1,24 @@
 -- A request and its data make one exchange.
-use Rattle.std.proofs.Common.{◌≡◌, ℕ, ◌<◌, ◌≤◌, ◌⊎◌, inl, inr, Bool, true, false, List, [], ◌++◌, length, refl, sym, ap, ◌∙◌, subst, append-nil}
-use Rattle.std.specs.Prelude.{Option, Result, Ok, Err, if◌then◌else◌}
+use Rattle.std.proofs.Common.{◌≡◌, ℕ, ◌<◌, inr, Bool, true, false, List, [], ◌++◌, length, refl, sym, ap, ◌∙◌, subst}
+use Rattle.std.specs.Prelude.{Option, if◌then◌else◌}
 use Rattle.qs_bytes.specs.declared.ask.Ask.{Ask}
-use Rattle.qs_bytes.specs.declared.ask.Verdict.{Verdict}
 use Rattle.qs_bytes.specs.declared.status.Status.{Status}
 use Rattle.qs_bytes.specs.declared.status.Status.TheVariants as status
 use Rattle.qs_bytes.specs.declared.status.SessionEnd.TheVariants as end
 use Rattle.qs_nbd_transmission.specs.declared.head.Head.{Head}
 use Rattle.qs_nbd_transmission.specs.declared.event.Room.{Room}
 use Rattle.qs_nbd_transmission.specs.declared.event.Room.TheVariants.{Keep, Drop}
-use Rattle.qs_nbd_transmission.specs.Heads.{ask_of, head_of, has_body, has_data, is_too_long}
-use Rattle.qs_nbd_transmission.specs.Messages.{Message, IsMessage, spelling}
-use Rattle.qs_nbd_transmission.specs.Phases.{Phase, Reader, InHead, Wants, Fills, Skips, IsServed, phase_with_room}
+use Rattle.qs_nbd_transmission.specs.Heads.{ask_of, head_of, has_body, has_data}
+use Rattle.qs_nbd_transmission.specs.Phases.{Phase, Reader, InHead, Wants, IsServed, phase_with_room}
 use Rattle.qs_nbd_transmission.specs.Replies.{reply_of}
 use Rattle.qs_nbd_transmission.proofs.Reading.{has_data-ask_of}
 use Rattle.qs_outside.specs.Blocks.{Seen}
 use Rattle.qs_stdio.specs.declared.serve.Turn.{Turn}
 use Rattle.qs_stdio.specs.declared.serve.Turn.TheVariants as turn
-use Rattle.qs_stdio.specs.Service.{Exchange, MayGet, Leads}
+use Rattle.qs_stdio.specs.Service.{Exchange}
 use Rattle.qs_stdio.specs.Waiting.{Takes, Gives}
-use Rattle.qs_stdio.specs.Calls.{Called, Answered}
-use Rattle.qs_stdio.specs.Scenes.{Scene, Ending, Moves, Exchanges, Stops}
+use Rattle.qs_stdio.specs.Calls.{Answered}
+use Rattle.qs_stdio.specs.Scenes.{Scene, Ending, Moves, Exchanges}
 use Rattle.qs_stdio.specs.Turns.{AwaitsRoom, Finishes, HasRoom, IsData, TakesTurn, Cutting, awaited, between}
 use Rattle.qs_stdio.proofs.Flows.{takes_on, gives_on}
 

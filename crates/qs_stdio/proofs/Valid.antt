@@ -1,9 +1,8 @@
 -- What a valid request is.
-use Rattle.std.proofs.Common.{◌≡◌, ℕ, ◌+◌, ◌%◌, ◌≤◌, ◌<◌, Bool, true, false, arith, refl, sym}
-use Rattle.std.specs.Prelude.{not, ◌&&◌, ◌||◌, ◌==◌, nat_lt, nat_le}
+use Rattle.std.proofs.Common.{◌≡◌, ℕ, ◌+◌, ◌%◌, ◌≤◌, true, arith}
 use Rattle.std.proofs.lemmas.Bool.Decides.{nat_tests}
 use Rattle.qs_bytes.specs.declared.ask.Ask.{Ask}
-use Rattle.qs_nbd_transmission.specs.Heads.{is_write, longest}
+use Rattle.qs_nbd_transmission.specs.Heads.{longest}
 use Rattle.qs_nbd_transmission.specs.Replies.{is_read}
 use Rattle.qs_stdio.specs.Service.{is_valid}
 

@@ -1,10 +1,10 @@
 -- A part of a buffer, and what is written behind it.
-use Rattle.std.proofs.Common.{◌≡◌, ℕ, ◌+◌, ◌-◌, ◌≤◌, List, ◌++◌, length, take, drop, refl, sym, ap, ◌∙◌, subst, arith, append_assoc, length-append}
-use Rattle.std.specs.Prelude.{Result, Ok, Err, OnOk, OnErr}
+use Rattle.std.proofs.Common.{◌≡◌, ℕ, ◌+◌, ◌-◌, ◌≤◌, List, ◌++◌, length, take, drop, sym, ap, ◌∙◌, arith, append_assoc, length-append}
+use Rattle.std.specs.Prelude.{Result, Ok, Err}
 use Rattle.std.proofs.lemmas.List.{drop-drop, drop-take}
 use borrow.Rule.Slice.PartMut.{put_mid, post_of}
 use Rattle.qs_bytes.specs.Pieces.{part, overlay}
-use Rattle.qs_bytes.proofs.Overlays.{part-add, part-overlay_same, overlay-append, length-overlay, length-part}
+use Rattle.qs_bytes.proofs.Overlays.{part-add, part-overlay_same, overlay-append}
 use Rattle.qs_nbd_transmission.proofs.Overlays.{take-overlay_below}
 use Rattle.qs_outside.specs.Blocks.{Seen}
 use Rattle.qs_image.specs.Image.{Loads}

@@ -1,7 +1,7 @@
 -- The next event of the input.
-use Rattle.std.specs.Prelude.{◌≡◌, ℕ, ◌<◌, ◌≤◌, Bool, false, List, [], ◌++◌, length, Option, None, Some, IfNone}
+use Rattle.std.specs.Prelude.{◌≡◌, ℕ, ◌<◌, ◌≤◌, List, [], ◌++◌, length, Option, None, Some, IfNone}
 use Rattle.std.specs.Io.KnownBytes.{Consumes, IsAtEnd}
-use Rattle.qs_nbd_transmission.specs.Phases.{Reader, Reaches, is_stuck}
+use Rattle.qs_nbd_transmission.specs.Phases.{Reader, Reaches}
 use Rattle.qs_nbd_transmission.specs.declared.event.WireEvent.{WireEvent}
 use Rattle.qs_outside.specs.Faults.{Rose}
 use Rattle.qs_stdio.specs.declared.event.Refill.{Refill}

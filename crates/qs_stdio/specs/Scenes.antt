@@ -1,12 +1,12 @@
 -- What is seen of a session from outside, and how it ends.
-use Rattle.std.specs.Prelude.{◌≡◌, ◌≢◌, ℕ, ◌<◌, ◌⊎◌, Bool, true, false, List, [], ◌++◌, length, Option, None, Some}
+use Rattle.std.specs.Prelude.{◌≡◌, ◌≢◌, ℕ, ◌<◌, ◌⊎◌, true, false, List, [], ◌++◌, length, Option}
 use Rattle.std.specs.Io.KnownBytes.{IsAtEnd}
 use Rattle.qs_bytes.specs.Numbers.{number32}
 use Rattle.qs_bytes.specs.declared.status.SessionEnd.TheVariants as end
 use Rattle.qs_bytes.specs.declared.status.Status.{Status}
 use Rattle.qs_bytes.specs.declared.status.Status.TheVariants.{Done, ReadFault, WriteFault, Ended}
 use Rattle.qs_nbd_transmission.specs.Heads.{request_magic, head_of, IsHead, IsHeadFront, disc, is_too_long, has_body}
-use Rattle.qs_nbd_transmission.specs.Messages.{Message, IsMessage, spelling}
+use Rattle.qs_nbd_transmission.specs.Messages.{IsMessage, spelling}
 use Rattle.qs_outside.specs.Blocks.{Seen}
 use Rattle.qs_stdio.specs.Waiting.{Takes, Gives}
 use Rattle.qs_stdio.specs.Service.{Exchange, ask, MayGet, reply}

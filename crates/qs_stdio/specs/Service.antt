@@ -1,6 +1,6 @@
 -- The plain service: what requests of whole blocks, one after the other, are answered, and what each
 -- makes of the image. There are no blocks in it and no disks, only contents.
-use Rattle.std.specs.Prelude.{◌≡◌, ℕ, ◌+◌, ◌%◌, ◌≤◌, ◌⊎◌, Bool, true, false, not, ◌&&◌, ◌==◌, nat_lt, nat_le, List, [], ◌∷◌, ◌++◌, length, flat_map}
+use Rattle.std.specs.Prelude.{◌≡◌, ℕ, ◌+◌, ◌%◌, ◌⊎◌, Bool, true, false, not, ◌&&◌, ◌==◌, nat_lt, nat_le, List, [], ◌∷◌, length, flat_map}
 use Rattle.std.specs.List.{AllByRecursion}
 use Rattle.qs_bytes.specs.Pieces.{part, overlay}
 use Rattle.qs_bytes.specs.declared.ask.Ask.{Ask}

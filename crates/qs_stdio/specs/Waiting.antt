@@ -1,5 +1,5 @@
 -- Bytes that wait in a buffer, and the streams at its two ends.
-use Rattle.std.specs.Prelude.{◌≡◌, ℕ, ◌+◌, List, ◌++◌, length, Option, Result, OnOk, OnErr}
+use Rattle.std.specs.Prelude.{◌≡◌, ℕ, List, ◌++◌, length, Option, Result, OnOk, OnErr}
 use Rattle.std.specs.Io.KnownBytes.{Consumes, Appends}
 use Rattle.qs_bytes.specs.Pieces.{overlay}
 use Rattle.qs_outside.specs.Blocks.{Seen}

@@ -1,5 +1,5 @@
 -- The words of the command.
-use Rattle.std.specs.Prelude.{◌≡◌, ℕ, Bool, true, false, List, [], ◌∷◌, nat_eq, codes, String, string_bytes}
+use Rattle.std.specs.Prelude.{◌≡◌, true, false, List, [], ◌∷◌, nat_eq, codes, String, string_bytes}
 use Rattle.std.specs.Global.{Global}
 use Rattle.std.specs.List.{starts_with}
 use Rattle.qs_stdio.specs.declared.words.StdioWords.{StdioWords}

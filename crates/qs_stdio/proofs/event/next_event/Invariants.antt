@@ -1,7 +1,6 @@
 -- What was taken so far brought no event, and all of it was taken.
-use Rattle.std.proofs.Common.{◌≡◌, ◌≤◌, false, [], length}
-use Rattle.qs_nbd_transmission.specs.Phases.{CanFeed, is_stuck, need}
-use Rattle.qs_stdio.specs.Events.{Seeks}
+use Rattle.std.proofs.Common.{◌≡◌, ◌≤◌, []}
+use Rattle.qs_nbd_transmission.specs.Phases.{need}
 use Rattle.qs_stdio.proofs.Sought.{Sought}
 use Rattle.qs_stdio.proofs.event.next_event.Given as goal
 

@@ -1,5 +1,5 @@
 -- The words aren't the command's, or the disks are served.
-use Rattle.std.proofs.Common.{◌≡◌, List, [], ◌++◌, take, drop, length, refl, sym, ap, ◌∙◌, subst, arith}
+use Rattle.std.proofs.Common.{◌≡◌, List, [], ◌++◌, take, drop, length, refl, sym, ◌∙◌, subst}
 use Rattle.std.specs.Prelude.{map}
 use Rattle.qs_stdio.specs.Scenes.{Scene}
 use Rattle.qs_stdio.specs.Runs.{Ran}

@@ -6,7 +6,7 @@ use Rattle.qs_image.specs.Image.{align_of, size_of}
 use Rattle.qs_outside.specs.Blocks.{Seen}
 use Rattle.qs_image.proofs.Striped.{seen_at}
 use Rattle.qs_stdio.specs.Scenes.{Scene}
-use Rattle.qs_stdio.specs.Runs.{Serves, Sitting}
+use Rattle.qs_stdio.specs.Runs.{Sitting}
 use Rattle.qs_stdio.proofs.Running.{sits_none, serves_of}
 use Rattle.qs_stdio.proofs.run.serve_disks.Goals as goal
 

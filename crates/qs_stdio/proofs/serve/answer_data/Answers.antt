@@ -1,5 +1,5 @@
 -- A request that is invalid, or whose memory was refused, is refused, and no disk is called.
-use Rattle.std.proofs.Common.{refl, []}
+use Rattle.std.proofs.Common.{refl}
 use Rattle.qs_bytes.specs.declared.ask.Errno.TheVariants.{Inval, NoMem}
 use Rattle.qs_stdio.proofs.Answering.{refused}
 use Rattle.qs_stdio.proofs.Flows.{gives_none}

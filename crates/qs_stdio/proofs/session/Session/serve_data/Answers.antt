@@ -1,7 +1,7 @@
 -- The data came, as many as were announced, and the WRITE was answered, or its reply couldn't be.
-use Rattle.std.proofs.Common.{◌≡◌, ℕ, [], false, ap, ◌∙◌, subst}
-use Rattle.qs_nbd_transmission.specs.Phases.{Reader, InHead}
-use Rattle.qs_stdio.specs.Turns.{IsData, awaited, between}
+use Rattle.std.proofs.Common.{ℕ, [], ap, ◌∙◌, subst}
+use Rattle.qs_nbd_transmission.specs.Phases.{InHead}
+use Rattle.qs_stdio.specs.Turns.{IsData}
 use Rattle.qs_stdio.proofs.Flows.{gives_on}
 use Rattle.qs_stdio.proofs.Turning.{data_awaited, data_room, data_length, still_simple, answered_after}
 use Rattle.qs_stdio.proofs.session.Session.serve_data.Goals as goal

@@ -1,5 +1,5 @@
 -- A request came: one turn with its data, or without.
-use Rattle.std.proofs.Common.{[], refl, sym, ◌∙◌, true, false}
+use Rattle.std.proofs.Common.{[], refl, sym, ◌∙◌, false}
 use Rattle.std.specs.Prelude.{map}
 use Rattle.qs_nbd_transmission.proofs.Reading.{asks_room}
 use Rattle.qs_stdio.proofs.Flows.{gives_on, takes_none}

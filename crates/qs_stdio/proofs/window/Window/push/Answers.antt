@@ -1,5 +1,5 @@
 -- The part, and what was written behind it.
-use Rattle.std.proofs.Common.{◌≡◌, ◌-◌, ◌+◌, ◌≤◌, arith, ap, ◌∙◌, List, ℕ, ◌++◌, length}
+use Rattle.std.proofs.Common.{◌≡◌, ◌-◌, ◌+◌, arith, ap, ◌∙◌, List, ℕ, ◌++◌, length}
 use Rattle.std.specs.Prelude.{vec_len}
 use Rattle.qs_bytes.specs.Pieces.{part}
 use Rattle.qs_stdio.proofs.Windows.{part-overlay_behind}

@@ -1,7 +1,6 @@
 -- The reply stands behind the part, or nothing does.
-use Rattle.std.proofs.Common.{◌≡◌, ◌-◌, ◌+◌, ◌≤◌, arith, ap, sym, ◌∙◌, List, ℕ, ◌++◌, length}
+use Rattle.std.proofs.Common.{◌≡◌, ◌-◌, arith, ap, sym}
 use Rattle.std.specs.Prelude.{vec_len}
-use Rattle.qs_bytes.specs.Pieces.{part}
 use Rattle.qs_stdio.proofs.Windows.{puts_read, puts_nothing}
 use Rattle.qs_stdio.specs.Waiting.{Waiting}
 use Rattle.qs_stdio.proofs.window.Window.push_read.Goals as goal
