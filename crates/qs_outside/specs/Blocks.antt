@@ -1,12 +1,7 @@
 -- What a disk means: one of eight that hold an image in turn, sixteen blocks at a time.
 use Rattle.std.specs.Prelude.{◌≡◌, ◌≢◌, ℕ, ◌+◌, ◌*◌, ◌/◌, ◌%◌, ◌≤◌, ◌⊎◌, Bool, false, List, Option, None, Some, Contains}
 use Rattle.std.specs.List.{AllByRecursion}
-
--- the failures that are planned: the next load, the next store, and whether it reaches the disk all the same, the next sync
-pub record Plans : Type 0 where
-  pub load : Bool
-  pub store : Option Bool
-  pub sync : Bool
+use Rattle.qs_outside.specs.declared.rigged_disk.Plans.{Plans}
 
 -- All that a disk means. A real file tells neither its content nor its plans; `now` and `past` are
 -- by block number, and empty at the blocks of other stripes.

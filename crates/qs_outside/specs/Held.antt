@@ -46,4 +46,3 @@ pub record IsZeros (stripe align size : ℕ) (disk : Seen) : Type 0 where
   pub tells : disk.tells ≡ true
   pub now : (b : ℕ) → IsBlock disk b → disk.now b ≡ replicate align 0
   pub past : (b : ℕ) → disk.past b ≡ disk.now b ∷ []
-  pub planned : disk.planned ≡ None

@@ -1,5 +1,6 @@
 -- Disks in memory that keep each store since the last sync, so that a crash can be played.
-use Rattle.std.specs.Prelude.{◌≡◌, ℕ, ◌==◌, true, List, [], ◌∷◌, None, Some, length, map, filter, take, drop, nat_le}
+use Rattle.std.specs.Prelude.{◌≡◌, ℕ, ◌==◌, true, List, [], ◌∷◌, Some, length, map, filter, take, drop, nat_le}
+use Rattle.qs_outside.specs.declared.rigged_disk.Plans.{Plans}
 use Rattle.qs_outside.specs.Blocks.{Fixed, Seen}
 use Rattle.qs_outside.specs.Held.{Held, block_of, quiet_seen}
 
@@ -9,13 +10,14 @@ pub record Kept : Type 0 where
   pub bytes : List ℕ
 
 -- What the blocks hold, what they held at the last sync, the stores since then in their order, how many
--- of them are kept at most, and how many calls failed.
+-- of them are kept at most, how many calls failed, and the failures that are planned.
 pub record Journal : Type 0 where
   pub now : Held
   pub synced : Held
   pub stores : List Kept
   pub room : ℕ
   pub faults : ℕ
+  pub planned : Plans
 
 -- the contents that were stored in a block, in their order
 abbrev pub contents_of : ℕ → List Kept → List (List ℕ)
@@ -35,7 +37,7 @@ journal_seen disk = record {
   tells = true;
   now = block_of disk.now;
   past = past_of disk;
-  planned = None;
+  planned = Some disk.planned;
   full = Some (nat_le disk.room (length disk.stores));
 }
 

@@ -2,5 +2,6 @@ pub mod Blocks
 pub mod Faults
 pub mod Held
 pub mod Journal
+pub mod Rigged
 pub mod StoreLogs
 pub mod Streams

@@ -11,6 +11,7 @@ mod mem_disk;
 mod mem_sink;
 mod mem_source;
 mod quiet_disk;
+mod rigged_disk;
 mod store_log;
 mod stream;
 
@@ -21,6 +22,7 @@ pub use mem_disk::MemDisk;
 pub use mem_sink::MemSink;
 pub use mem_source::MemSource;
 pub use quiet_disk::QuietDisk;
+pub use rigged_disk::{Fail, Plans, RiggedDisk};
 pub use stream::{Failed, Sink, Source};
 
 #[cfg(test)]

@@ -4,7 +4,7 @@ ghost use Rattle.qs_outside.specs.Blocks.{Fixed, IsBlock};
 use super::*;
 use qs_bytes::Bytes;
 use std::sync::Arc;
-use std::test::Fail;
+use std::test::Fail as Failure;
 
 fn read_from<S: Source>(source: &mut S, into: &mut [u8]) -> Result<usize, Failed> {
     source.read(into)
@@ -44,8 +44,14 @@ fn sync_of<D: Disk>(disk: &mut D) -> Result<(), Failed>
     disk.sync()
 }
 
+fn plan_of<D: RiggedDisk>(disk: &mut D, fail: Fail)
+    ensures { Fixed (D.seen disk.old) (D.seen disk.new) }
+{
+    disk.plan(fail)
+}
+
 #[test]
-fn reads_are_cut_and_fail_as_told(rt: HostRuntime) -> Result<(), Fail> {
+fn reads_are_cut_and_fail_as_told(rt: HostRuntime) -> Result<(), Failure> {
     let bytes = Bytes::of([1, 2, 3, 4, 5, 6].to_vec(rt.alloc())?);
     let cuts = [2, 0, 9].to_vec(rt.alloc())?;
     let fails = [2].to_vec(rt.alloc())?;
@@ -65,7 +71,7 @@ fn reads_are_cut_and_fail_as_told(rt: HostRuntime) -> Result<(), Fail> {
 }
 
 #[test]
-fn a_full_sink_fails(rt: HostRuntime) -> Result<(), Fail> {
+fn a_full_sink_fails(rt: HostRuntime) -> Result<(), Failure> {
     let fails = [0].to_vec(rt.alloc())?;
     let mut sink = MemSink::new(rt.alloc(), 3, fails)?;
     for (piece, want) in [
@@ -81,7 +87,7 @@ fn a_full_sink_fails(rt: HostRuntime) -> Result<(), Fail> {
 }
 
 #[test]
-fn clocks_stand_still(rt: HostRuntime) -> Result<(), Fail> {
+fn clocks_stand_still(rt: HostRuntime) -> Result<(), Failure> {
     let clock = MemClock::new(7);
     assert_eq!(rt; time_of(&clock), 7);
     assert_eq!(rt; time_of(&&clock), 7);
@@ -90,7 +96,7 @@ fn clocks_stand_still(rt: HostRuntime) -> Result<(), Fail> {
 }
 
 #[test]
-fn a_store_is_loaded_back(rt: HostRuntime) -> Result<(), Fail> {
+fn a_store_is_loaded_back(rt: HostRuntime) -> Result<(), Failure> {
     let mut disk = QuietDisk::new(rt.alloc(), 1, 2, 256)?;
     assert_eq!(rt; shape_of(&disk), (1, 2, 256));
     let mut into = [0u8; 2];
@@ -104,7 +110,7 @@ fn a_store_is_loaded_back(rt: HostRuntime) -> Result<(), Fail> {
 }
 
 #[test]
-fn a_full_disk_fails_until_its_sync(rt: HostRuntime) -> Result<(), Fail> {
+fn a_full_disk_fails_until_its_sync(rt: HostRuntime) -> Result<(), Failure> {
     let mut disk = MemDisk::new(rt.alloc(), 0, 2, 256, 1)?;
     assert_eq!(rt; shape_of(&disk), (0, 2, 256));
     let mut into = [0u8; 2];
@@ -116,5 +122,43 @@ fn a_full_disk_fails_until_its_sync(rt: HostRuntime) -> Result<(), Fail> {
     assert_eq!(rt; store_to(&mut disk, 3, &[3, 4]), Ok(()));
     assert_eq!(rt; load_from(&mut disk, 3, &mut into), Ok(()));
     assert_eq!(rt; into, [3, 4]);
+    Ok(())
+}
+
+#[test]
+fn each_planned_call_fails_once(rt: HostRuntime) -> Result<(), Failure> {
+    let mut disk = MemDisk::new(rt.alloc(), 0, 2, 256, 4)?;
+    let mut into = [0u8; 2];
+    plan_of(&mut disk, Fail::Load);
+    assert_eq!(rt; load_from(&mut disk, 3, &mut into), Err(Failed));
+    assert_eq!(rt; load_from(&mut disk, 3, &mut into), Ok(()));
+    plan_of(&mut disk, Fail::Sync);
+    assert_eq!(rt; sync_of(&mut disk), Err(Failed));
+    assert_eq!(rt; sync_of(&mut disk), Ok(()));
+    for (fail, want) in [(Fail::StoreOld, [0, 0]), (Fail::StoreNew, [7, 7])] {
+        plan_of(&mut disk, fail);
+        assert_eq!(rt; store_to(&mut disk, 3, &[7, 7]), Err(Failed));
+        assert_eq!(rt; load_from(&mut disk, 3, &mut into), Ok(()));
+        assert_eq!(rt; into, want);
+    }
+    assert_eq!(rt; store_to(&mut disk, 3, &[8, 8]), Ok(()));
+    Ok(())
+}
+
+#[test]
+fn a_later_plan_of_a_store_replaces_the_earlier(rt: HostRuntime) -> Result<(), Failure> {
+    let mut disk = MemDisk::new(rt.alloc(), 0, 2, 256, 1)?;
+    let mut into = [0u8; 2];
+    plan_of(&mut disk, Fail::StoreOld);
+    plan_of(&mut disk, Fail::StoreNew);
+    assert_eq!(rt; store_to(&mut disk, 3, &[7, 7]), Err(Failed));
+    assert_eq!(rt; load_from(&mut disk, 3, &mut into), Ok(()));
+    assert_eq!(rt; into, [7, 7]);
+    plan_of(&mut disk, Fail::StoreNew);
+    assert_eq!(rt; store_to(&mut disk, 3, &[8, 8]), Err(Failed));
+    assert_eq!(rt; load_from(&mut disk, 3, &mut into), Ok(()));
+    assert_eq!(rt; into, [7, 7]);
+    assert_eq!(rt; sync_of(&mut disk), Ok(()));
+    assert_eq!(rt; store_to(&mut disk, 3, &[8, 8]), Ok(()));
     Ok(())
 }

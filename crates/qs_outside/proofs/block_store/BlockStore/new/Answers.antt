@@ -17,7 +17,6 @@ returns-in-Ok-clause-zeros c = record {
   now = λ b inside. block-zeros _ b _ (c.in-Ok.ensures.items_if_clones_equal (λ y same. same)) inside.here
       (rank-room b c.args.align c.args.length c.room_for.result c.requires inside.inside c.room_for.ensures);
   past = λ b. refl;
-  planned = refl;
 }
 
 pub returns-in-Ok-clause-exact : goal.returns-in-Ok-clause-exact

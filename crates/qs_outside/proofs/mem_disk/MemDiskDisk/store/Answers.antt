@@ -1,41 +1,27 @@
-use Rattle.std.proofs.Common.{List, [], ◌∷◌, ◌++◌, ap, ◌∙◌}
-use Rattle.qs_outside.specs.Journal.{Journal, Kept, KeptStores}
+use Rattle.std.proofs.Common.{rules}
 use Rattle.qs_outside.proofs.Journals.{may_leave-stored, may_leave-kept, past-now}
 use Rattle.qs_outside.proofs.mem_disk.MemDiskDisk.store.Goals as goal
 
 pub returns-then-is_full-clause-past : goal.returns-then-is_full-clause-past
 returns-then-is_full-clause-past c =
-    let new : Journal = record {
-      now = c.self.inside.now;
-      synced = c.self.inside.synced;
-      stores = c.self.inside.log.stores;
-      room = c.self.inside.log.room;
-      faults = c.saturating_add-self-inside.result;
-    } in
-    may_leave-kept c.args.self.now new c.args.b c.args.bytes.now (ap (λ (d : Journal). d.synced) c.self.view_is) (ap (λ (d : Journal). d.stores) c.self.view_is)
+    may_leave-kept c.args.self.now c.count_fault.new.self c.args.b c.args.bytes.now (search rules) (search rules)
 
-pub returns-clause-past : goal.returns-clause-past
-returns-clause-past c =
-    let new : Journal = record {
-      now = c.store.new.self;
-      synced = c.self.inside.synced;
-      stores = c.push.new.self.stores;
-      room = c.push.new.self.room;
-      faults = c.self.inside.faults;
-    } in
-    let more : List Kept → List Kept = λ xs. xs ++ (record { block = c.args.b; bytes = c.args.bytes.now }) ∷ [] in
-    may_leave-stored c.args.self.now new c.args.b c.args.bytes.now (ap (λ (d : Journal). d.synced) c.self.view_is)
-    (ap (λ (s : KeptStores). s.stores) c.push.ensures ∙ ap (λ (d : Journal). more d.stores) c.self.view_is)
+pub returns-in-None-clause-past : goal.returns-in-None-clause-past
+returns-in-None-clause-past c =
+    may_leave-stored c.args.self.now c.write.new.self c.args.b c.args.bytes.now (search rules) (search rules)
 
-pub returns-clause-past_now : goal.returns-clause-past_now
-returns-clause-past_now c = λ held.
-    let new : Journal = record {
-      now = c.store.new.self;
-      synced = c.self.inside.synced;
-      stores = c.push.new.self.stores;
-      room = c.push.new.self.room;
-      faults = c.self.inside.faults;
-    } in
-    let more : List Kept → List Kept = λ xs. xs ++ (record { block = c.args.b; bytes = c.args.bytes.now }) ∷ [] in
-    past-now c.args.self.now new c.args.b c.args.bytes.now (ap (λ (d : Journal). d.synced) c.self.view_is)
-    (ap (λ (s : KeptStores). s.stores) c.push.ensures ∙ ap (λ (d : Journal). more d.stores) c.self.view_is) c.store.ensures.stored.here
+pub returns-in-None-clause-past_now : goal.returns-in-None-clause-past_now
+returns-in-None-clause-past_now c = λ held.
+    past-now c.args.self.now c.write.new.self c.args.b c.args.bytes.now (search rules) (search rules) c.write.ensures.stored.here
+
+pub returns-in-Some-true-clause-past : goal.returns-in-Some-true-clause-past
+returns-in-Some-true-clause-past c =
+    may_leave-stored c.args.self.now c.count_fault-in-Some-true.new.self c.args.b c.args.bytes.now (search rules) (search rules)
+
+pub returns-in-Some-true-clause-past_now : goal.returns-in-Some-true-clause-past_now
+returns-in-Some-true-clause-past_now c = λ held.
+    past-now c.args.self.now c.count_fault-in-Some-true.new.self c.args.b c.args.bytes.now (search rules) (search rules) (search rules)
+
+pub returns-in-Some-false-clause-past : goal.returns-in-Some-false-clause-past
+returns-in-Some-false-clause-past c =
+    may_leave-stored c.args.self.now c.count_fault-in-Some-false.new.self c.args.b c.args.bytes.now (search rules) (search rules)

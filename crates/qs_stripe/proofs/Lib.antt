@@ -1,0 +1,2 @@
+mod HoldLists
+mod HeldThrough

@@ -1,0 +1,113 @@
+-- The operations of a stripe: which answer may come, and what it leaves.
+use Rattle.std.specs.Prelude.{◌≡◌, ◌≢◌, ℕ, ◌+◌, ◌*◌, ◌≤◌, List, length, Option, Some, None, IsTrue, Contains}
+use Rattle.qs_part.specs.declared.stripe.Side.{Side}
+use Rattle.qs_part.specs.declared.stripe.StripeOp.{StripeOp}
+use Rattle.qs_part.specs.declared.stripe.StripeOp.TheVariants.{Load, Hold, Store, Free}
+use Rattle.qs_part.specs.declared.stripe.StripeReply.{StripeReply}
+use Rattle.qs_part.specs.declared.stripe.StripeReply.TheVariants.{Filled, Fault, HeldBy, Taken, Done, Freed, NotHeld}
+use Rattle.qs_outside.specs.Faults.{Rose}
+use Rattle.qs_outside.specs.Blocks.{Seen, Fixed, Same, Stored, StoredOrNot, MayLeave, stripe_of, load_spent, store_spent}
+use Rattle.qs_stripe.specs.declared.geometry.Geometry.{Geometry}
+use Rattle.qs_stripe.specs.declared.holds.Ends.{Ends}
+use Rattle.qs_stripe.specs.Holds.{holds_of, IsHeld, IsFree, IsFreeFor, Takes, LetsGo}
+
+-- a stripe: what its disk means, and the block that the place of a request holds at an end
+pub record StripeValue : Type 0 where
+  pub disk : Seen
+  pub hold : ℕ → Side → Option ℕ
+
+-- a stripe in the program: its disk, and the holds of each place
+pub record StripeState (D : Type 0) : Type 0 where
+  pub disk : D
+  pub places : List Ends
+
+-- what it means, by what its disk means
+abbrev pub value_of : {D : Type 0} → (D → Seen) → StripeState D → StripeValue
+value_of seen s = record { disk = seen s.disk; hold = holds_of s.places }
+
+-- what never changes
+abbrev pub geometry : StripeValue → Geometry
+geometry v = record { stripe = v.disk.stripe; align = v.disk.align; size = v.disk.size }
+
+-- nothing is held
+abbrev pub Opened : StripeValue → Type 0
+Opened v = (k : ℕ) (side : Side) → v.hold k side ≡ None
+
+-- a block of the stripe, inside the image
+pub record IsBlockOf (g : Geometry) (b : ℕ) : Type 0 where
+  pub here : stripe_of b ≡ g.stripe
+  pub inside : (b + 1) * g.align ≤ g.size
+
+-- such a block, with a buffer of one block
+pub record IsWhole (g : Geometry) (b : ℕ) (buf : List ℕ) : Type 0 where
+  pub block : IsBlockOf g b
+  pub whole : length buf ≡ g.align
+
+-- an operation is on a block of the stripe, with a buffer of one block
+abbrev pub Fits : Geometry → StripeOp → Type 0
+Fits g (Load b k buf) = IsWhole g b buf
+Fits g (Hold b k end buf) = IsWhole g b buf
+Fits g (Store b k buf) = IsWhole g b buf
+Fits g (Free b k) = IsBlockOf g b
+
+-- the disk was read: nothing but its count of faults and the plan of a load changes
+pub record Reads (old new : Seen) : Type 0 where
+  pub fixed : Fixed old new
+  pub now : IsTrue old.tells → Same old.now new.now
+  pub past : IsTrue old.tells → Same old.past new.past
+  pub planned : new.planned ≡ load_spent old.planned
+  pub full : new.full ≡ old.full
+  pub later : old.faults ≤ new.faults
+
+-- the bytes that the disk has in a block, where it tells them
+pub record IsContent (disk : Seen) (b : ℕ) (bytes : List ℕ) : Type 0 where
+  pub whole : length bytes ≡ disk.align
+  pub now : IsTrue disk.tells → bytes ≡ disk.now b
+
+-- the disk refused to read, and the buffer comes back
+pub record Refuses (old new : Seen) (back : List ℕ) : Type 0 where
+  pub whole : length back ≡ old.align
+  pub rose : Rose old.faults new.faults
+
+-- A block was written, or the disk refused. A crash leaves a content from before, or these bytes;
+-- it may leave what the block holds now, if that was so before.
+pub record Writes (b : ℕ) (bytes : List ℕ) (old new : Seen) : Type 0 where
+  pub fixed : Fixed old new
+  pub past : IsTrue old.tells → MayLeave b bytes old.past new.past
+  pub past_now : IsTrue old.tells → Contains (old.past b) (old.now b) → Contains (new.past b) (new.now b)
+  pub planned : new.planned ≡ store_spent old.planned
+  pub later : old.faults ≤ new.faults
+
+-- it was written
+abbrev pub IsStored : ℕ → List ℕ → Seen → Seen → Type 0
+IsStored b bytes old new = IsTrue old.tells → Stored b bytes old.now new.now
+
+-- the disk refused: its count of faults rose, and the block has the old content or the new
+pub record MayBeStored (b : ℕ) (bytes : List ℕ) (old new : Seen) : Type 0 where
+  pub now : IsTrue old.tells → StoredOrNot b bytes old.now new.now
+  pub rose : Rose old.faults new.faults
+
+-- a stripe answers an operation, and what it is then
+abbrev pub answers : StripeValue → StripeOp → StripeReply → StripeValue → Type 0
+answers old (Load b k buf) (Filled got) new =
+    Reads old.disk new.disk × IsContent old.disk b got × (new.hold ≡ old.hold)
+answers old (Load b k buf) (Fault (Some back)) new =
+    Reads old.disk new.disk × Refuses old.disk new.disk back × (new.hold ≡ old.hold)
+answers old (Hold b k end buf) (HeldBy j back) new =
+    IsHeld old.hold j b × (back ≡ buf) × (new ≡ old)
+answers old (Hold b k end buf) (Taken c back) new =
+    IsFree old.hold b × (old.hold k end ≡ Some c) × (back ≡ buf) × (new ≡ old)
+answers old (Hold b k end buf) (Filled got) new =
+    IsFree old.hold b × (old.hold k end ≡ None) × Reads old.disk new.disk × IsContent old.disk b got × Takes k end b old.hold new.hold
+answers old (Hold b k end buf) (Fault (Some back)) new =
+    IsFree old.hold b × (old.hold k end ≡ None) × Reads old.disk new.disk × Refuses old.disk new.disk back × (new.hold ≡ old.hold)
+answers old (Store b k buf) (HeldBy j back) new =
+    IsHeld old.hold j b × (j ≢ k) × (back ≡ buf) × (new ≡ old)
+answers old (Store b k buf) (Done back) new =
+    IsFreeFor old.hold k b × Writes b buf old.disk new.disk × IsStored b buf old.disk new.disk × (back ≡ buf) × LetsGo k b old.hold new.hold
+answers old (Store b k buf) (Fault (Some back)) new =
+    IsFreeFor old.hold k b × Writes b buf old.disk new.disk × MayBeStored b buf old.disk new.disk × (back ≡ buf) × LetsGo k b old.hold new.hold
+answers old (Free b k) Freed new =
+    IsHeld old.hold k b × (new.disk ≡ old.disk) × LetsGo k b old.hold new.hold
+answers old (Free b k) NotHeld new = (IsHeld old.hold k b → ⊥) × (new ≡ old)
+answers _ _ _ _ = ⊥
