@@ -1,0 +1,4 @@
+pub mod Lowest
+pub mod Seats
+pub mod Ranks
+pub mod Sound
