@@ -2,3 +2,5 @@ pub mod Lowest
 pub mod Seats
 pub mod Ranks
 pub mod Sound
+pub mod Dense
+pub mod Renumbering

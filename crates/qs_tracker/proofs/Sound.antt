@@ -3,6 +3,7 @@ use Rattle.std.proofs.Common.{◌≡◌, ◌≢◌, ℕ, ◌+◌, ◌-◌, ◌^�
 use Rattle.std.specs.Prelude.{nat_lt, nat_le, IsTrue, count_by}
 use Rattle.std.proofs.lemmas.Bool.Decides.{nat_tests}
 use Rattle.std.proofs.Math.ListN.{get_or-map}
+use Rattle.std.proofs.lemmas.List.{length-set, length-map}
 use Rattle.qs_bytes.specs.Spans.{Places, Overlap}
 use Rattle.qs_part.specs.declared.tracker.TrackerOp.{TrackerOp}
 use Rattle.qs_part.specs.declared.tracker.TrackerOp.TheVariants.{Enter, List as ToList, Start, End, Quiesce, Drained, Resume}
@@ -20,6 +21,7 @@ use Rattle.qs_tracker.proofs.Ranks.{rank_le, rank_lt, rank_below, inside}
 
 -- numbers of listed spans are below the next one and differ, and a span that goes is clear
 pub record Sound (v : TrackerValue) : Type 0 where
+  pub size : length v.seats ≡ 256
   pub below : (k : ℕ) (l : Listing) → IsListed v k l → l.number < v.number
   pub one : (j k : ℕ) (l m : Listing) → IsListed v j l → IsListed v k m → l.number ≡ m.number → j ≡ k
   pub clear : (k : ℕ) (l : Listing) → Goes v k l → IsClear v.seats l
@@ -39,6 +41,7 @@ present_not l e = cc
 
 pub fresh_sound : (n : ℕ) → Sound (fresh n)
 fresh_sound n = record {
+  size = refl;
   below = λ k l h. absurd (none k l h);
   one = λ j k l m h f e. absurd (none j l h);
   clear = λ k l h. absurd (none k l h.0);
@@ -50,6 +53,7 @@ fresh_sound n = record {
 -- a place gets a seat that has no span
 pub without_sound : (v : TrackerValue) (k : ℕ) (s : Seat) → ((l : Listing) → s ≡ Has l → ⊥) → ((l : Listing) → Precedes s l → ⊥) → Sound v → Sound (placed v k s)
 without_sound v k s never none sound = record {
+  size = length-set v.seats k s ∙ sound.size;
   below = λ j l h. sound.below j l (was j l h);
   one = λ i j l m h f e. sound.one i j l m (was i l h) (was j m f) e;
   clear = λ j l h i p. sound.clear j l (was j l h.0, h.1) i
@@ -75,6 +79,7 @@ pub record Was (v : TrackerValue) (j : ℕ) (l : Listing) : Type 0 where
 pub started_sound : (v : TrackerValue) (k : ℕ) (own : Listing) → seat_at v.seats k ≡ Has own → IsClear v.seats own → Sound v →
     Sound (placed v k (Has (record own { started = true })))
 started_sound v k own at free sound = record {
+  size = length-set v.seats k (Has (record own { started = true })) ∙ sound.size;
   below = λ j l h. let w : Was v j l = was j l h in omega (arith, sound.below j w.old w.listed_then, w.number);
   one = λ i j l m h f e. let a : Was v i l = was i l h in let b : Was v j m = was j m f in
       sound.one i j a.old b.old a.listed_then b.listed_then (a.number ∙ e ∙ sym b.number);
@@ -86,13 +91,13 @@ started_sound v k own at free sound = record {
         at_set (λ (t : Seat). t ≡ Has l → Was v j l) v.seats k (Has (record own { started = true })) j
         (λ f. record { old = l; listed_then = f; number = refl; clear = λ e. sound.clear j l (f, e) })
         (λ same f.
-            let is : record own { started = true } ≡ l = same_listing (record own { started = true }) l f in
-            record {
-              old = own;
-              listed_then = rw same at;
-              number = ap (λ (x : Listing). x.number) is;
-              clear = λ e. subst (λ (x : Listing). IsClear v.seats x) is (λ i p. free i (going_precedes (seat_at v.seats i) own p));
-            })
+        let is : record own { started = true } ≡ l = same_listing (record own { started = true }) l f in
+        record {
+          old = own;
+          listed_then = rw same at;
+          number = ap (λ (x : Listing). x.number) is;
+          clear = λ e. subst (λ (x : Listing). IsClear v.seats x) is (λ i p. free i (going_precedes (seat_at v.seats i) own p));
+        })
         h
 
     back : (l : Listing) (i : ℕ) → Precedes (seat_at (placed v k (Has (record own { started = true }))).seats i) l → Precedes (seat_at v.seats i) l
@@ -106,6 +111,7 @@ ListedBefore v k j l = (IsListed v j l × (l.number < v.number)) ⊎ ((j ≡ k) 
 
 pub listed_sound : (v : TrackerValue) (k : ℕ) (span : Places) (serial : Bool) → Sound v → Sound (listed v k span serial)
 listed_sound v k span serial sound = record {
+  size = length-set v.seats k (Has (record { span = span; serial = serial; number = v.number; started = false })) ∙ sound.size;
   below = λ j l h. below j l (was j l h);
   one = λ i j l m h f e. one i j l m (was i l h) (was j m f) e;
   clear = λ j l h. clear j l h.1 (was j l h.0);
@@ -119,8 +125,8 @@ listed_sound v k span serial sound = record {
         at_set (λ (t : Seat). t ≡ Has l → ListedBefore v k j l) v.seats k (Has (record { span = span; serial = serial; number = v.number; started = false })) j
         (λ f. inl (f, sound.below j l f))
         (λ same f.
-            let is : record { span = span; serial = serial; number = v.number; started = false } ≡ l = same_listing _ l f in
-            inr (same, sym (ap (λ (x : Listing). x.number) is), sym (ap (λ (x : Listing). x.started) is)))
+        let is : record { span = span; serial = serial; number = v.number; started = false } ≡ l = same_listing _ l f in
+        inr (same, sym (ap (λ (x : Listing). x.number) is), sym (ap (λ (x : Listing). x.started) is)))
         h
 
     below : (j : ℕ) (l : Listing) → ListedBefore v k j l → l.number < v.number + 1
@@ -137,8 +143,8 @@ listed_sound v k span serial sound = record {
     clear j l e (inl w) i p =
         sound.clear j l (w.0, e) i
         (at_set (λ (t : Seat). Precedes t l → Precedes (seat_at v.seats i) l) v.seats k
-            (Has (record { span = span; serial = serial; number = v.number; started = false })) i (λ q. q)
-            (λ _ q. absurd (omega (arith, q.0, w.1))) p)
+        (Has (record { span = span; serial = serial; number = v.number; started = false })) i (λ q. q)
+        (λ _ q. absurd (omega (arith, q.0, w.1))) p)
     clear j l e (inr w) i p = absurd (never (sym e ∙ w.2))
       where
         never : true ≡ false → ⊥
@@ -164,6 +170,7 @@ before seats j l h = go (seat_at seats j) refl (sym (ranked_at seats j) ∙ h)
 pub renumbered_sound : (v : TrackerValue) → Sound v →
     Sound (record { seats = renumbered v.seats; number = count_by is_listed v.seats; quiesced = v.quiesced })
 renumbered_sound v sound = record {
+  size = length-map v.seats (ranked v.seats) ∙ sound.size;
   below = λ j l h. let b : Before v.seats j l = before v.seats j l h in
       omega (arith, ap (λ (x : Listing). x.number) b.is, rank_below v.seats j b.old b.at);
   one = λ i j l m h f e. one i j l m (before v.seats i l h) (before v.seats j m f) e;
@@ -185,8 +192,8 @@ renumbered_sound v sound = record {
     clear j l e b i p =
         sound.clear j b.old (b.at, ap (λ (x : Listing). x.started) b.is ∙ e) i
         (back (seat_at v.seats i)
-            (subst (λ (x : Listing). Precedes (ranked v.seats (seat_at v.seats i)) x) (sym b.is)
-                (subst (λ (s : Seat). Precedes s l) (ranked_at v.seats i) p)))
+        (subst (λ (x : Listing). Precedes (ranked v.seats (seat_at v.seats i)) x) (sym b.is)
+        (subst (λ (s : Seat). Precedes s l) (ranked_at v.seats i) p)))
       where
         lower : (x : Listing) → rank v.seats x.number < rank v.seats b.old.number → x.number < b.old.number
         lower x h = go (nat_lt x.number b.old.number) refl
@@ -220,8 +227,8 @@ after_sound v Enter (Entered k) sound may = without_sound v k Present present_no
 after_sound v (ToList k span serial) (Listed n) sound may = listed_sound (numbered v) k span serial (numbered_sound v sound)
 after_sound v (Start k) Started sound may = start_sound v k (seat_at v.seats k) refl may sound
 after_sound v (End k) Ended sound may = without_sound v k Vacant vacant_not (λ l p. p) sound
-after_sound v Quiesce Stopped sound may = record { below = sound.below; one = sound.one; clear = sound.clear }
-after_sound v Resume Resumed sound may = record { below = sound.below; one = sound.one; clear = sound.clear }
+after_sound v Quiesce Stopped sound may = record { size = sound.size; below = sound.below; one = sound.one; clear = sound.clear }
+after_sound v Resume Resumed sound may = record { size = sound.size; below = sound.below; one = sound.one; clear = sound.clear }
 after_sound v _ _ sound may = sound
 
 pub run_sound : (v : TrackerValue) (es : List Entry) → Sound v → Runs v es → Sound (left_by v es)

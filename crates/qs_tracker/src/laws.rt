@@ -1,10 +1,10 @@
-ghost use Rattle.std.specs.Prelude.{◌≡◌, ℕ, List};
+ghost use Rattle.std.specs.Prelude.{◌≡◌, ℕ, ◌-◌, ◌^◌, ◌≤◌, List};
 ghost use Rattle.qs_part.specs.declared.tracker.TrackerOp.TheVariants.{Start};
 ghost use Rattle.qs_part.specs.declared.tracker.TrackerReply.TheVariants.{Started};
 ghost use Rattle.qs_tracker.specs.declared.seat.Listing.{Listing};
 ghost use Rattle.qs_tracker.specs.Seats.{Conflict, IsClear};
-ghost use Rattle.qs_tracker.specs.Table.{fresh, May};
-ghost use Rattle.qs_tracker.specs.History.{Entry, Runs, left_by, IsListed, Goes, IsLowest};
+ghost use Rattle.qs_tracker.specs.Table.{fresh, numbered, May};
+ghost use Rattle.qs_tracker.specs.History.{Entry, Runs, left_by, IsListed, Goes, IsLowest, Renumbered};
 
 /// In every history of a fresh tracker no two spans that go conflict, and one that goes has no
 /// listed conflicting span of a lower number.
@@ -23,4 +23,11 @@ pub fn lowest()
         (j : ℕ) × (m : Listing) × IsLowest (left_by (fresh first) es) j m }
     ensures starts { (first : ℕ) (es : List Entry) (k : ℕ) (l : Listing) → Runs (fresh first) es →
         IsLowest (left_by (fresh first) es) k l → May (left_by (fresh first) es) (Start k) Started }
+{}
+
+/// In every history of a fresh tracker, where the next number would be 2^64 - 1, the listed spans
+/// are numbered 0, 1, 2 and so on, in their order, and nothing else about them changes.
+pub fn renumbering()
+    ensures { (first : ℕ) (es : List Entry) → Runs (fresh first) es → 2 ^ 64 - 1 ≤ (left_by (fresh first) es).number →
+        Renumbered (left_by (fresh first) es) (numbered (left_by (fresh first) es)) }
 {}

@@ -194,3 +194,6 @@ impl Part for Tracker {
         }
     }
 }
+
+#[cfg(test)]
+mod tests;

@@ -15,7 +15,7 @@ loop-seat-preserved c =
     c.seat-item.is ∙ get_or_default c.args.seats.now c.loop-seat.seat-index c.seat-item.result Vacant c.loop-seat-test.true in
     rw c.lower-lowest.ensures
     (up_to_more c.args.seats.now c.loop-seat.seat-index c.args.own.now c.loop-seat.lowest c.number_before.result c.loop-seat.invariant
-        (subst (λ (s : Seat). Here s c.args.own.now c.number_before.result) is c.number_before.ensures))
+    (subst (λ (s : Seat). Here s c.args.own.now c.number_before.result) is c.number_before.ensures))
 
 pub returns : goal.returns
 returns c = up_to_all c.args.seats.now c.loop-seat.seat-index c.args.own.now c.loop-seat.lowest c.loop-seat-test.false c.loop-seat.invariant

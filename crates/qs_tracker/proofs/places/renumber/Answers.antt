@@ -12,9 +12,9 @@ pub loop-seat-preserved : goal.loop-seat-preserved
 loop-seat-preserved c =
     rw c.ranked.ensures
     (map_over_more (ranked c.copy_from_slice.new.self) c.copy_from_slice.new.self c.loop-seat.seat-items c.loop-seat.seat-index
-        (get_or c.loop-seat.seat-items c.loop-seat.seat-index c.seat-item.result)
-        (omega (arith, c.copy_from_slice.ensures.len, c.requires, c.loop-seat-test.true)) c.loop-seat.invariant
-        (ap (λ (x : Seat). get_or c.loop-seat.seat-items c.loop-seat.seat-index x) c.seat-item.is))
+    (get_or c.loop-seat.seat-items c.loop-seat.seat-index c.seat-item.result)
+    (omega (arith, c.copy_from_slice.ensures.len, c.requires, c.loop-seat-test.true)) c.loop-seat.invariant
+    (ap (λ (x : Seat). get_or c.loop-seat.seat-items c.loop-seat.seat-index x) c.seat-item.is))
 
 all : (old items now : List Seat) (i : ℕ) → length now ≤ i → old ≡ now → items ≡ map (ranked old) (take i old) ++ drop i old → items ≡ renumbered now
 all old items now i long same is =
