@@ -1,0 +1,6 @@
+pub mod Lowest
+pub mod Seats
+pub mod Ranks
+pub mod Sound
+pub mod Dense
+pub mod Renumbering

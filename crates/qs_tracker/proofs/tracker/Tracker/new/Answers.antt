@@ -1,0 +1,16 @@
+use Rattle.std.proofs.Common.{◌≡◌, ℕ, List, replicate, false, ap}
+use Rattle.qs_tracker.specs.declared.seat.Seat.{Seat}
+use Rattle.qs_tracker.specs.declared.seat.Seat.TheVariants.{Vacant}
+use Rattle.qs_tracker.specs.Table.{TrackerValue, fresh}
+use Rattle.qs_tracker.proofs.tracker.Tracker.new.Goals as goal
+
+of_seats : List Seat → ℕ → TrackerValue
+of_seats seats n = record { seats = seats; number = n; quiesced = false }
+
+made : (seats : List Seat) (n : ℕ) → seats ≡ replicate 256 Vacant → of_seats seats n ≡ fresh n
+unfolding of_seats
+made seats n is = ap (λ (xs : List Seat). of_seats xs n) is
+
+pub returns : goal.returns
+unfolding of_seats
+returns c = made _ c.args.first c.in_ok-from_array.ensures.items
