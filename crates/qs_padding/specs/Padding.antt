@@ -1,5 +1,5 @@
 -- The blocks that a span covers in part, and what is merged into them.
-use Rattle.std.specs.Prelude.{◌≡◌, ℕ, ◌+◌, ◌-◌, ◌*◌, ◌/◌, ◌≤◌, nat_le, nat_lt, ◌&&◌, if◌then◌else◌, List}
+use Rattle.std.specs.Prelude.{ℕ, ◌+◌, ◌-◌, ◌*◌, ◌/◌, ◌≤◌, nat_le, nat_lt, ◌&&◌, if◌then◌else◌, List}
 use Rattle.std.specs.List.{slice_index_or}
 use Rattle.qs_bytes.specs.Spans.{Places}
 

@@ -1,6 +1,6 @@
 -- The numbers of spans that are numbered anew are 0, 1, 2 and so on.
-use Rattle.std.proofs.Common.{◌≡◌, ℕ, ◌+◌, ◌<◌, ◌≤◌, zero, suc, List, [], ◌∷◌, length, get_or, Bool, true, false, cond, refl, sym, ◌∙◌, ap, subst, arith, inl, inr, ◌⊎◌}
-use Rattle.std.specs.Prelude.{count_by, nat_lt, nat_le, ◌==◌}
+use Rattle.std.proofs.Common.{◌≡◌, ℕ, ◌+◌, ◌<◌, ◌≤◌, zero, suc, List, [], ◌∷◌, Bool, true, false, refl, sym, ◌∙◌, ap, subst, arith, inl, inr, ◌⊎◌}
+use Rattle.std.specs.Prelude.{count_by, nat_lt}
 use Rattle.std.proofs.lemmas.Bool.Decides.{nat_tests}
 use Rattle.qs_tracker.specs.declared.seat.Listing.{Listing}
 use Rattle.qs_tracker.specs.declared.seat.Seat.{Seat}
@@ -49,8 +49,10 @@ rank_step (x ∷ xs) t d = go (same_below t x) (rank_step xs t (distinct_rest x 
         (rank (x ∷ xs) (t + 1) ≡ rank (x ∷ xs) t) ⊎ ((rank (x ∷ xs) (t + 1) ≡ rank (x ∷ xs) t + 1) × Stands (x ∷ xs) t)
     go (inl e) (inl f) = inl (omega (arith, count_cons (is_listed_below (t + 1)) x xs, count_cons (is_listed_below t) x xs, e, f))
     go (inl e) (inr f) = inr (omega (arith, count_cons (is_listed_below (t + 1)) x xs, count_cons (is_listed_below t) x xs, e, f.0), stands_more x xs t f.1)
-    go (inr h) (inl f) = inr (omega (arith, count_cons (is_listed_below (t + 1)) x xs, count_cons (is_listed_below t) x xs, f, above, under),
-      record { place = 0; span = h.0; at = h.1.0; number = h.1.1 })
+    go (inr h) (inl f) = inr (
+      omega (arith, count_cons (is_listed_below (t + 1)) x xs, count_cons (is_listed_below t) x xs, f, above, under),
+      record { place = 0; span = h.0; at = h.1.0; number = h.1.1 },
+    )
       where
         above : one_if (is_listed_below (t + 1) x) ≡ 1
         above = subst (λ (s : Seat). one_if (is_listed_below (t + 1) s) ≡ 1) (sym h.1.0) (pick (nat_lt h.0.number (t + 1)) refl)

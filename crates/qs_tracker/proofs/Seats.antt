@@ -1,12 +1,12 @@
 -- Places that are read after a write.
-use Rattle.std.proofs.Common.{◌≡◌, ◌≢◌, ℕ, ◌<◌, ◌≤◌, List, length, set, get_or, replicate, Bool, true, false, refl, sym, ◌∙◌, subst, arith}
+use Rattle.std.proofs.Common.{◌≡◌, ℕ, ◌<◌, ◌≤◌, List, length, replicate, Bool, true, false, refl, sym, ◌∙◌, subst, arith}
 use Rattle.std.specs.Prelude.{◌==◌, nat_lt}
 use Rattle.std.specs.List.{slice_set}
 use Rattle.std.proofs.lemmas.Bool.Decides.{nat_tests}
 use Rattle.std.proofs.lemmas.List.{get_or-set_same, get_or-set_other, get_or_past, length-set, get_or-replicate, length-replicate}
 use Rattle.qs_tracker.specs.declared.seat.Listing.{Listing}
 use Rattle.qs_tracker.specs.declared.seat.Seat.{Seat}
-use Rattle.qs_tracker.specs.declared.seat.Seat.TheVariants.{Vacant, Present, Has}
+use Rattle.qs_tracker.specs.declared.seat.Seat.TheVariants.{Vacant, Has}
 use Rattle.qs_tracker.specs.Seats.{seat_at, Precedes}
 
 -- what holds of a place, and of what is written at k, holds of the place after the write

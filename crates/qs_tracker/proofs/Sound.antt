@@ -1,21 +1,21 @@
 -- What holds of a tracker in every history.
-use Rattle.std.proofs.Common.{◌≡◌, ◌≢◌, ℕ, ◌+◌, ◌-◌, ◌^◌, ◌<◌, ◌≤◌, zero, suc, List, [], ◌∷◌, length, get_or, map, replicate, Bool, true, false, cond, refl, sym, ◌∙◌, ap, subst, inl, inr, ◌⊎◌, arith}
+use Rattle.std.proofs.Common.{◌≡◌, ℕ, ◌+◌, ◌-◌, ◌^◌, ◌<◌, ◌≤◌, zero, suc, List, [], ◌∷◌, length, replicate, Bool, true, false, cond, refl, sym, ◌∙◌, ap, subst, inl, inr, ◌⊎◌, arith}
 use Rattle.std.specs.Prelude.{nat_lt, nat_le, IsTrue, count_by}
 use Rattle.std.proofs.lemmas.Bool.Decides.{nat_tests}
 use Rattle.std.proofs.Math.ListN.{get_or-map}
 use Rattle.std.proofs.lemmas.List.{length-set, length-map}
-use Rattle.qs_bytes.specs.Spans.{Places, Overlap}
+use Rattle.qs_bytes.specs.Spans.{Places}
 use Rattle.qs_part.specs.declared.tracker.TrackerOp.{TrackerOp}
-use Rattle.qs_part.specs.declared.tracker.TrackerOp.TheVariants.{Enter, List as ToList, Start, End, Quiesce, Drained, Resume}
+use Rattle.qs_part.specs.declared.tracker.TrackerOp.TheVariants.{Enter, List as ToList, Start, End, Quiesce, Resume}
 use Rattle.qs_part.specs.declared.tracker.TrackerReply.{TrackerReply}
 use Rattle.qs_part.specs.declared.tracker.TrackerReply.TheVariants.{Entered, Listed, Started, Ended, Stopped, Resumed}
 use Rattle.qs_tracker.specs.declared.seat.Listing.{Listing}
 use Rattle.qs_tracker.specs.declared.seat.Seat.{Seat}
 use Rattle.qs_tracker.specs.declared.seat.Seat.TheVariants.{Vacant, Present, Has}
-use Rattle.qs_tracker.specs.Seats.{Conflict, seat_at, is_listed, number_of, Precedes, IsClear, rank, ranked, renumbered}
+use Rattle.qs_tracker.specs.Seats.{Conflict, seat_at, is_listed, Precedes, IsClear, rank, ranked, renumbered}
 use Rattle.qs_tracker.specs.Table.{TrackerValue, fresh, numbered, placed, listed, going, MayStart, May, after}
 use Rattle.qs_tracker.specs.History.{Entry, Runs, left_by, IsListed, Goes, IsLowest}
-use Rattle.qs_tracker.proofs.Seats.{at_set, past, nobody}
+use Rattle.qs_tracker.proofs.Seats.{at_set, nobody}
 use Rattle.qs_tracker.proofs.Lowest.{one_more}
 use Rattle.qs_tracker.proofs.Ranks.{rank_le, rank_lt, rank_below, inside}
 

@@ -1,10 +1,10 @@
 -- The places of the tracker, and which listed span goes before another.
-use Rattle.std.specs.Prelude.{◌≡◌, ℕ, ◌<◌, ◌≤◌, ◌⊎◌, nat_lt, min, Bool, true, false, not, List, map, count_by, Option, Some, None, IsTrue, MatchOption}
+use Rattle.std.specs.Prelude.{◌≡◌, ℕ, ◌<◌, ◌≤◌, ◌⊎◌, nat_lt, min, Bool, true, false, not, List, map, count_by, Option, Some, None, IsTrue}
 use Rattle.std.specs.List.{slice_index_or}
 use Rattle.qs_bytes.specs.Spans.{Overlap}
 use Rattle.qs_tracker.specs.declared.seat.Listing.{Listing}
 use Rattle.qs_tracker.specs.declared.seat.Seat.{Seat}
-use Rattle.qs_tracker.specs.declared.seat.Seat.TheVariants.{Vacant, Present, Has}
+use Rattle.qs_tracker.specs.declared.seat.Seat.TheVariants.{Vacant, Has}
 
 -- two listed spans conflict: they overlap, and one of them is serialising (QEMU block/io.c)
 abbrev pub Conflict : Listing → Listing → Type 0

@@ -1,6 +1,6 @@
 use Rattle.qs_tracker.specs.Table.{fresh}
 use Rattle.qs_tracker.specs.History.{left_by}
-use Rattle.qs_tracker.proofs.Sound.{Sound, fresh_run, goes_apart}
+use Rattle.qs_tracker.proofs.Sound.{fresh_run, goes_apart}
 use Rattle.qs_tracker.proofs.laws.apart.Goals as goal
 
 pub returns-clause-apart : goal.returns-clause-apart
