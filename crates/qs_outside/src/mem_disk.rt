@@ -223,10 +223,10 @@ impl Disk for MemDisk {
         ensures cause { HasCause self.old.faults self.new.faults result }
         ensures unsettled { OnErr result (self.new ≡ record self.old { planned = record self.old.planned { sync = false }; faults = self.new.faults }) }
         ensures settled { OnOk result (self.new ≡ record self.old {
-            synced = self.old.now;
-            stores = [];
-            planned = record self.old.planned { sync = false };
-            faults = self.new.faults
+          synced = self.old.now;
+          stores = [];
+          planned = record self.old.planned { sync = false };
+          faults = self.new.faults;
         }) }
     {
         let planned = self.spend_sync();

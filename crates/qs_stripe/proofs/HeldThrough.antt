@@ -1,6 +1,6 @@
 -- A hold stands until its place stores or frees the block.
 use Rattle.std.proofs.Common.{◌≡◌, ◌≢◌, ℕ, ◌⊎◌, List, [], ◌∷◌, ◌++◌, refl, sym, ap, subst, ◌∙◌, inl, inr}
-use Rattle.std.specs.Prelude.{Option, Some, None, IsSome}
+use Rattle.std.specs.Prelude.{Option, Some, None}
 use Rattle.std.specs.List.{AllByRecursion}
 use Rattle.std.proofs.lemmas.Bool.Decides.{eqb_tells}
 use Rattle.qs_part.specs.declared.stripe.Side.{Side}
@@ -35,22 +35,22 @@ takes-end : (k b j : ℕ) (side : Side) (c : ℕ) (old new : ℕ → Side → Op
     → old k e ≡ Some b → new k e ≡ Some b
 takes-end k b j side c old new e takes free h =
     elim (eqb_tells k j) [
-    | inl same ↦ elim (same_side e side) [
-      | inl end ↦ absurd (subst Something (sym h ∙ ap (λ i. old i e) same.1 ∙ ap (old j) end ∙ free) tt)
-      | inr end ↦ takes.others k e (inr end) ∙ h
+      | inl same ↦ elim (same_side e side) [
+        | inl end ↦ absurd (subst Something (sym h ∙ ap (λ i. old i e) same.1 ∙ ap (old j) end ∙ free) tt)
+        | inr end ↦ takes.others k e (inr end) ∙ h
       ]
-    | inr other ↦ takes.others k e (inl other.1) ∙ h
+      | inr other ↦ takes.others k e (inl other.1) ∙ h
     ]
 
 goes-end : (k b j c : ℕ) (old new : ℕ → Side → Option ℕ) (e : Side) → LetsGo j c old new → ((c ≡ b) × (j ≡ k) → ⊥)
     → old k e ≡ Some b → new k e ≡ Some b
 goes-end k b j c old new e goes not h =
     elim (eqb_tells k j) [
-    | inl same ↦ elim (eqb_tells c b) [
-      | inl block ↦ absurd (not (block.1, sym same.1))
-      | inr block ↦ goes.others k e (inr (λ s. block.1 (ap block_or (sym s ∙ h)))) ∙ h
+      | inl same ↦ elim (eqb_tells c b) [
+        | inl block ↦ absurd (not (block.1, sym same.1))
+        | inr block ↦ goes.others k e (inr (λ s. block.1 (ap block_or (sym s ∙ h)))) ∙ h
       ]
-    | inr other ↦ goes.others k e (inl other.1) ∙ h
+      | inr other ↦ goes.others k e (inl other.1) ∙ h
     ]
 
 takes-keeps : (k b j : ℕ) (side : Side) (c : ℕ) (old new : ℕ → Side → Option ℕ) → Takes j side c old new → old j side ≡ None

@@ -1,18 +1,18 @@
 -- Laws of lists of holds.
-use Rattle.std.proofs.Common.{◌≡◌, ℕ, replicate, length, get_or, refl, sym, ap, ◌∙◌, arith, inl, inr}
+use Rattle.std.proofs.Common.{◌≡◌, ℕ, replicate, ap, arith, inl, inr}
 use Rattle.std.specs.Prelude.{None, slice_index_or}
 use Rattle.std.proofs.lemmas.List.{get_or-replicate, get_or_past, length-replicate}
 use Rattle.std.proofs.lemmas.Bool.{cases_lt}
 use Rattle.qs_part.specs.declared.stripe.Side.{Side}
 use Rattle.qs_part.specs.declared.stripe.Side.TheVariants.{Head, Tail}
 use Rattle.qs_stripe.specs.declared.holds.Ends.{Ends}
-use Rattle.qs_stripe.specs.Holds.{end_at, holds_of, no_ends}
+use Rattle.qs_stripe.specs.Holds.{holds_of, no_ends}
 
 no_ends-replicate : (n k : ℕ) → slice_index_or (replicate n no_ends) k no_ends ≡ no_ends
 no_ends-replicate n k =
     elim (cases_lt k n) [
-    | inl below ↦ get_or-replicate n k no_ends no_ends below
-    | inr past ↦ get_or_past (replicate n no_ends) k no_ends (omega (arith, length-replicate n no_ends))
+      | inl below ↦ get_or-replicate n k no_ends no_ends below
+      | inr past ↦ get_or_past (replicate n no_ends) k no_ends (omega (arith, length-replicate n no_ends))
     ]
 
 -- places that hold nothing

@@ -1,5 +1,5 @@
 -- Histories of a stripe, and the holds in them.
-use Rattle.std.specs.Prelude.{◌≡◌, ℕ, List, [], ◌∷◌, Option, Some}
+use Rattle.std.specs.Prelude.{◌≡◌, ℕ, List, [], ◌∷◌}
 use Rattle.qs_part.specs.declared.stripe.StripeOp.{StripeOp}
 use Rattle.qs_part.specs.declared.stripe.StripeOp.TheVariants.{Hold, Store, Free}
 use Rattle.qs_part.specs.declared.stripe.StripeReply.{StripeReply}

@@ -143,7 +143,7 @@ impl<D: RiggedDisk + Drop> Stripe<D> {
     pub fn plan(&mut self, fail: Fail)
         ensures holds { self.new.places ≡ self.old.places }
         ensures disk { D.Disk.seen self.new.disk ≡ record (D.Disk.seen self.old.disk) {
-            planned = Some (planned_too fail (plans_of (D.Disk.seen self.old.disk).planned))
+          planned = Some (planned_too fail (plans_of (D.Disk.seen self.old.disk).planned));
         } }
     {
         self.disk.plan(fail);

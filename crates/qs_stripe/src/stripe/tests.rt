@@ -52,7 +52,12 @@ fn step_of<P: Part>(rt: &impl Abort, part: &mut P, op: P::Op) -> P::Reply {
     part.step(op)
 }
 
-fn answer(rt: &impl Abort, alloc: Global, stripe: &mut Stripe<MemDisk>, ask: Ask) -> Result<Told, AllocError> {
+fn answer(
+    rt: &impl Abort,
+    alloc: Global,
+    stripe: &mut Stripe<MemDisk>,
+    ask: Ask,
+) -> Result<Told, AllocError> {
     let op = match ask {
         Ask::Load(b, k) => StripeOp::Load {
             b,
@@ -79,7 +84,12 @@ fn answer(rt: &impl Abort, alloc: Global, stripe: &mut Stripe<MemDisk>, ask: Ask
     Ok(told_of(step_of(rt, stripe, op)))
 }
 
-fn run(rt: &impl Abort, alloc: Global, stripe: &mut Stripe<MemDisk>, script: &[(Ask, Told)]) -> Result<(), AllocError> {
+fn run(
+    rt: &impl Abort,
+    alloc: Global,
+    stripe: &mut Stripe<MemDisk>,
+    script: &[(Ask, Told)],
+) -> Result<(), AllocError> {
     for (ask, want) in script.iter() {
         assert_eq!(rt; answer(rt, alloc, stripe, *ask)?, *want);
     }

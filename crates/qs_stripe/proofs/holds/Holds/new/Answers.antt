@@ -1,4 +1,3 @@
-use Rattle.std.proofs.Common.{rules}
 use Rattle.qs_stripe.proofs.HoldLists.{holds_of-replicate}
 use Rattle.qs_stripe.proofs.holds.Holds.new.Goals as goal
 
