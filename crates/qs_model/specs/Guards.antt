@@ -30,7 +30,8 @@ SameSeat _ _ = ⊥
 pub record Renumbered (old new : Tracker) : Type 0 where
   pub quiesced : new.quiesced ≡ old.quiesced
   pub same : (k : ℕ) → SameSeat (old.seat k) (new.seat k)
-  pub order : (j k : ℕ) (l m p n : Listing) → old.seat j ≡ Has l → old.seat k ≡ Has m → new.seat j ≡ Has p → new.seat k ≡ Has n →
+  pub order : (j k : ℕ) (l m p n : Listing) → old.seat j ≡ Has l → old.seat k ≡ Has m →
+      new.seat j ≡ Has p → new.seat k ≡ Has n →
       (l.number < m.number) ↔ (p.number < n.number)
   pub below : (k : ℕ) (l : Listing) → new.seat k ≡ Has l → l.number < new.number
   pub dense : (n : ℕ) → n < new.number → (k : ℕ) × (l : Listing) × ((new.seat k ≡ Has l) × (l.number ≡ n))
@@ -85,7 +86,7 @@ pub record CanStore (A : ℕ) (i : Image) (k : ℕ) (c : Client) (p : Pads) (b :
 abbrev pub MayKeep : World → ℕ → List ℕ → List (List ℕ) → Type 0
 MayKeep w b now past = IsTrue w.tells → Contains (w.image.past b) (w.image.now b) → Contains past now
 
--- the answers that leave a request where it is
+-- the answers that leave a request where it is, each where its part's table says so
 abbrev pub MayWait : ℕ → World → Client → Stage → Wait → Type 0
 MayWait A w c Entering Quiesced = w.tracker.quiesced ≡ true
 MayWait A w c Entering Full = IsFull w.tracker
@@ -94,7 +95,8 @@ MayWait A w c (In k ToStart) (NotYet n) = MustWait w.tracker k n
 MayWait A w c (In k ToStart) Strange = (l : Listing) → w.tracker.seat k ≢ Has l
 MayWait A w c (In k (ToHold side)) (HeldBy j) = (h : Hold) × ((w.image.holder (edge A c side) ≡ Some h) × (h.place ≡ j))
 MayWait A w c (In k (ToHold side)) (Taken b) =
-    (w.image.holder (edge A c side) ≡ None) × (stripe_of b ≡ stripe_of (edge A c side)) × (w.image.holder b ≡ Some (record { place = k; side = side }))
+    (w.image.holder (edge A c side) ≡ None) × (stripe_of b ≡ stripe_of (edge A c side))
+    × (w.image.holder b ≡ Some (record { place = k; side = side }))
 MayWait A w c (In k (ToStore b)) (HeldBy j) = (h : Hold) × ((w.image.holder b ≡ Some h) × (h.place ≡ j) × (j ≢ k))
 MayWait A w c (In k (ToFree side)) NotHeld = (h : Hold) → w.image.holder (edge A c side) ≡ Some h → h.place ≢ k
 MayWait A w c (In k (ToEnd v)) Strange = w.tracker.seat k ≡ Vacant

@@ -83,7 +83,8 @@ WritesOnce A es = (r : ℕ) (c : Client) (before : List Element) (e : Element) �
 -- Between two block entries of a serialising request no block entry of another stands on a block of
 -- its span aligned outward.
 abbrev pub Undivided : ℕ → List Element → Type 0
-Undivided A es = (r s : ℕ) (c d : Client) (m n b : ℕ) (first other last : Element) (before middle rest behind : List Element) →
+Undivided A es =
+    (r s : ℕ) (c d : Client) (m n b : ℕ) (first other last : Element) (before middle rest behind : List Element) →
     es ≡ before ++ first ∷ (middle ++ other ∷ (rest ++ last ∷ behind)) →
     IsEntry A r c m first → IsEntry A r c n last → serial A c ≡ true →
     IsEntry A s d b other → Covers (aligned_out (span_of c) A) (b * A) → s ≡ r

@@ -54,7 +54,8 @@ written i b now past = record {
 
 -- the image after a row of the request table
 abbrev pub imaged : ℕ → Image → Client → {stage : Stage} → Act stage → Image
-imaged A i c (Holds {k = k} {side = side} bytes) = record i { holder = put i.holder (edge A c side) (Some (record { place = k; side = side })) }
+imaged A i c (Holds {k = k} {side = side} bytes) =
+    record i { holder = put i.holder (edge A c side) (Some (record { place = k; side = side })) }
 imaged A i c (Stores {b = b} bytes past) = written i b bytes past
 imaged A i c (StoreFails {b = b} bytes took past) = written i b (if took then bytes else i.now b) past
 imaged A i c (Frees {side = side}) = record i { holder = put i.holder (edge A c side) None }
@@ -74,7 +75,10 @@ happens A w (Attached s name info) = record w {
 happens A w (NoExport s name) = w
 happens A w (Crowded s name) = w
 happens A w (Left s e) = record w { session = put w.session s (Leaving e); req = λ r. leaves s (w.req r) }
-happens A w (Detached s e) = record w { session = put w.session s Away; graph = record w.graph { clients = put w.graph.clients e (without s (w.graph.clients e)) } }
+happens A w (Detached s e) = record w {
+  session = put w.session s Away;
+  graph = record w.graph { clients = put w.graph.clients e (without s (w.graph.clients e)) };
+}
 happens A w (NotAttached s e) = w
 happens A w (Asked r c) = record w { next = w.next + 1; req = put w.req r (Some (asked c)) }
 happens A w (Did r q act) = record w {
