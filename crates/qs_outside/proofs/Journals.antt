@@ -2,7 +2,7 @@
 use Rattle.std.proofs.Common.{◌≡◌, ◌≢◌, ℕ, suc, ◌*◌, ◌≤◌, ◌⊎◌, List, [], ◌∷◌, ◌++◌, ◌==◌, length, take, drop, map, refl, sym, ap, subst, ◌∙◌, inl, inr, arith, append-nil}
 use Rattle.std.specs.List.{AllByRecursion, Contains}
 use Rattle.std.proofs.lemmas.List.{map-append, take_all, take-append-le, length-drop}
-use Rattle.std.proofs.lemmas.List.Elements.{filter-append, recursion_from_All, All-contains_itself, Contains-push, Contains-append_left}
+use Rattle.std.proofs.lemmas.List.Elements.{filter-append, recursion_from_All, All-contains_itself, Contains-push}
 use Rattle.std.proofs.lemmas.Bool.{eq-eqb, ne_eqb}
 use Rattle.std.proofs.Math.Seq.{drop-append-le}
 use Rattle.qs_outside.specs.Blocks.{MayLeave}
@@ -77,9 +77,3 @@ pub past-now : (old new : Journal) (b : ℕ) (piece : List ℕ) → new.synced �
 past-now old new b piece synced stores now =
     let last : Contains (past_of old b ++ piece ∷ []) (block_of new.now b) = rw now (Contains-push (past_of old b) piece) in
     subst (λ (xs : List (List ℕ)). Contains xs (block_of new.now b)) (sym (past-stored old new b piece synced stores)) last
-
--- what may be left before may be left after a store too
-pub past-before : (old new : Journal) (b : ℕ) (piece now : List ℕ) → new.synced ≡ old.synced → new.stores ≡ old.stores ++ (record { block = b; bytes = piece }) ∷ []
-    → Contains (past_of old b) now → Contains (past_of new b) now
-past-before old new b piece now synced stores held =
-    subst (λ (xs : List (List ℕ)). Contains xs now) (sym (past-stored old new b piece synced stores)) (Contains-append_left (past_of old b) (piece ∷ []) now held)

@@ -135,12 +135,14 @@ fn each_planned_call_fails_once(rt: HostRuntime) -> Result<(), Failure> {
     plan_of(&mut disk, Fail::Sync);
     assert_eq!(rt; sync_of(&mut disk), Err(Failed));
     assert_eq!(rt; sync_of(&mut disk), Ok(()));
-    for (fail, want) in [(Fail::StoreOld, [0, 0]), (Fail::StoreNew, [7, 7])] {
-        plan_of(&mut disk, fail);
-        assert_eq!(rt; store_to(&mut disk, 3, &[7, 7]), Err(Failed));
-        assert_eq!(rt; load_from(&mut disk, 3, &mut into), Ok(()));
-        assert_eq!(rt; into, want);
-    }
+    plan_of(&mut disk, Fail::StoreOld);
+    assert_eq!(rt; store_to(&mut disk, 3, &[7, 7]), Err(Failed));
+    assert_eq!(rt; load_from(&mut disk, 3, &mut into), Ok(()));
+    assert_eq!(rt; into, [0, 0]);
+    plan_of(&mut disk, Fail::StoreNew);
+    assert_eq!(rt; store_to(&mut disk, 3, &[7, 7]), Err(Failed));
+    assert_eq!(rt; load_from(&mut disk, 3, &mut into), Ok(()));
+    assert_eq!(rt; into, [7, 7]);
     assert_eq!(rt; store_to(&mut disk, 3, &[8, 8]), Ok(()));
     Ok(())
 }
