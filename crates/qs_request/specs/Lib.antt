@@ -1,0 +1,6 @@
+pub mod Shapes
+pub mod Table
+pub mod Rows
+pub mod Value
+pub mod Kept
+pub mod Inside

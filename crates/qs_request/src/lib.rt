@@ -1,0 +1,17 @@
+//! The machine of one request: which operation a client's READ or WRITE does next on a part of the
+//! daemon, and what the part's answer makes of it.
+#![tactic(auto)]
+
+mod machine;
+mod making;
+mod moves;
+mod pads;
+mod replies;
+pub mod req;
+pub mod shape;
+mod stage;
+pub mod todo;
+
+pub use req::Req;
+pub use shape::{Blocks, Shape};
+pub use todo::{PartReply, Todo};

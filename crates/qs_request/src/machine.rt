@@ -1,0 +1,236 @@
+ghost use Rattle.std.specs.Prelude.{◌≡◌, [], length, false};
+ghost use Rattle.qs_model.specs.Requests.{abandon};
+ghost use Rattle.qs_model.specs.Worlds.{stripe_of};
+ghost use Rattle.qs_request.specs.Shapes.{IsShape};
+ghost use Rattle.qs_request.specs.Table.{FitsPart, IsMerged, WantsAt};
+ghost use Rattle.qs_request.specs.Value.{Leaves};
+ghost use Rattle.qs_request.specs.Inside.{Goes, HasBuffers, IsFree, IsGoing, IsLoading, IsSound, IsStoring, client_of, lends, request_of, stage_of, value_of, verdict_of};
+
+use crate::moves::is_read;
+use crate::pads::PadBuffer;
+use crate::shape::Shape;
+use crate::stage::{Ending, Stage, Step};
+use crate::todo::Todo;
+use qs_bytes::{Ask, Bytes, Verdict};
+use qs_padding::padding::merge;
+use qs_part::graph::{GraphOp, Route};
+use qs_part::stripe::{Side, StripeOp};
+use qs_part::tracker::TrackerOp;
+use std::alloc::Global;
+use std::mem;
+
+/// The fields of a request.
+#[derive(Debug, Drop)]
+pub struct Machine {
+    pub session: u32,
+    pub export: u8,
+    pub ask: Ask,
+    pub buffered: bool,
+    /// The way to the image, once the graph told it.
+    pub route: Option<Route>,
+    pub shape: Shape,
+    /// The session has left.
+    pub dropped: bool,
+    pub stage: Stage,
+    /// A READ's buffer, or a WRITE's bytes.
+    pub body: Bytes,
+    /// The block that operations are lent.
+    pub work: Bytes,
+    pub pads: PadBuffer,
+    /// An operation waits for its reply.
+    pub waits: bool,
+    pub answered: bool,
+    /// Makes buffers of no bytes, which take no memory.
+    pub alloc: Global,
+}
+
+/// The stripe of a block: every eighth run of 16 blocks.
+fn stripe_of(b: u64) -> u8
+    ensures { result ≡ stripe_of b }
+{
+    (b / 16 % 8) as u8
+}
+
+/// Puts the pad over the block, if there is one.
+fn put_pad(block: &mut [u8], pad: &[u8])
+    ensures kept { length pad.now ≡ length block.old → block.new ≡ pad.now }
+{
+    if pad.len() == block.len() {
+        block.copy_from_slice(pad);
+    }
+}
+
+/// The next operations.
+impl Machine {
+    fn lend(&mut self) -> Bytes
+        ensures work { result ≡ self.old.work }
+        ensures same { self.new ≡ record self.old { work = [] } }
+    {
+        mem::replace(&mut self.work, Bytes::of(Vec::new(self.alloc)))
+    }
+
+    /// What block `b` is stored with: the covered bytes, and the kept pad's where the request
+    /// doesn't cover it.
+    pub fn merged(&self, b: u64, work: Bytes) -> Bytes
+        requires shape { IsShape self.now.shape }
+        requires storing { IsStoring self.now b }
+        requires body { length self.now.body ≡ self.now.ask.length }
+        requires whole { length work ≡ self.now.shape.align }
+        ensures whole { length result ≡ self.now.shape.align }
+        ensures merged { IsMerged self.now.shape.align (client_of self.now) self.now.pads.pads b result }
+    {
+        let side = if b == self.edge(Side::Head) {
+            Side::Head
+        } else {
+            Side::Tail
+        };
+        let span = self.span();
+        let mut block = work.into_vec();
+        put_pad(block.as_mut_slice(), self.pads.kept(side));
+        merge(block.as_mut_slice(), b, &span, self.body.as_slice());
+        Bytes::of(block)
+    }
+
+    fn listing(&self, k: u8) -> Todo
+        requires shape { IsShape self.now.shape }
+        requires going { IsGoing self.now }
+        ensures wants { WantsAt self.now.shape.align (client_of self.now) self.now.pads.pads (stage_of self.now (Stage.In k Step.List)) result }
+        ensures fits { FitsPart self.now.shape result }
+    {
+        Todo::Tracker(TrackerOp::List {
+            k,
+            span: self.plan().whole,
+            serial: self.is_serial(),
+        })
+    }
+
+    fn load(&mut self, k: u8, b: u64) -> Todo
+        requires shape { IsShape self.old.shape }
+        requires loading { IsLoading self.old b }
+        requires work { length self.old.work ≡ self.old.shape.align }
+        ensures wants { WantsAt self.old.shape.align (client_of self.old) self.old.pads.pads (stage_of self.old (Stage.In k (Step.Load b))) result }
+        ensures fits { FitsPart self.old.shape result }
+        ensures same { self.new ≡ record self.old { work = [] } }
+    {
+        let buf = self.lend();
+        Todo::Stripe(stripe_of(b), StripeOp::Load { b, k, buf })
+    }
+
+    fn hold(&mut self, k: u8, end: Side) -> Todo
+        requires shape { IsShape self.old.shape }
+        requires going { IsGoing self.old }
+        requires work { length self.old.work ≡ self.old.shape.align }
+        ensures wants { WantsAt self.old.shape.align (client_of self.old) self.old.pads.pads (stage_of self.old (Stage.In k (Step.Hold end))) result }
+        ensures fits { FitsPart self.old.shape result }
+        ensures same { self.new ≡ record self.old { work = [] } }
+    {
+        let b = self.edge(end);
+        let buf = self.lend();
+        Todo::Stripe(stripe_of(b), StripeOp::Hold { b, k, end, buf })
+    }
+
+    fn store(&mut self, k: u8, b: u64) -> Todo
+        requires shape { IsShape self.old.shape }
+        requires storing { IsStoring self.old b }
+        requires body { length self.old.body ≡ self.old.ask.length }
+        requires work { length self.old.work ≡ self.old.shape.align }
+        ensures wants { WantsAt self.old.shape.align (client_of self.old) self.old.pads.pads (stage_of self.old (Stage.In k (Step.Store b))) result }
+        ensures fits { FitsPart self.old.shape result }
+        ensures same { self.new ≡ record self.old { work = [] } }
+    {
+        let work = self.lend();
+        let buf = self.merged(b, work);
+        Todo::Stripe(stripe_of(b), StripeOp::Store { b, k, buf })
+    }
+
+    fn free(&self, k: u8, side: Side) -> Todo
+        requires shape { IsShape self.now.shape }
+        requires going { IsGoing self.now }
+        ensures wants { WantsAt self.now.shape.align (client_of self.now) self.now.pads.pads (stage_of self.now (Stage.In k (Step.Free side))) result }
+        ensures fits { FitsPart self.now.shape result }
+    {
+        let b = self.edge(side);
+        Todo::Stripe(stripe_of(b), StripeOp::Free { b, k })
+    }
+
+    /// The operation of a request in flight.
+    fn next_of(&mut self, k: u8, step: Step) -> Todo
+        requires shape { IsShape self.old.shape }
+        requires goes { Goes self.old step }
+        requires buffers { HasBuffers self.old false }
+        ensures wants { WantsAt self.old.shape.align (client_of self.old) self.old.pads.pads (stage_of self.old (Stage.In k step)) result }
+        ensures fits { FitsPart self.old.shape result }
+        ensures same { self.new ≡ record self.old { work = self.new.work } }
+        ensures work { lends step ≡ false → self.new.work ≡ self.old.work }
+    {
+        match step {
+            Step::Route => Todo::Graph(GraphOp::Route { e: self.export }),
+            Step::List => self.listing(k),
+            Step::Start => Todo::Tracker(TrackerOp::Start { k }),
+            Step::Load(b) => self.load(k, b),
+            Step::Hold(side) => self.hold(k, side),
+            Step::Store(b) => self.store(k, b),
+            Step::Free(side) => self.free(k, side),
+            Step::End(_) => Todo::Tracker(TrackerOp::End { k }),
+        }
+    }
+
+    /// What a request answers that ends so. A READ's bytes are given away.
+    pub fn answer(&mut self, ending: Ending) -> Verdict
+        ensures verdict { result ≡ verdict_of self.old ending }
+        ensures same { self.new ≡ record self.old { body = self.new.body } }
+    {
+        match ending {
+            Ending::Success => {
+                if is_read(self.ask.kind) {
+                    let empty = Bytes::of(Vec::new(self.alloc));
+                    Verdict::Got(mem::replace(&mut self.body, empty))
+                } else {
+                    Verdict::Fine
+                }
+            }
+            Ending::Failed(errno) => Verdict::Refused(errno),
+            Ending::Dropped => Verdict::Dropped,
+        }
+    }
+
+    /// What the request does next.
+    pub fn next(&mut self) -> Todo
+        requires { IsFree self.old }
+        ensures wants { WantsAt self.old.shape.align (client_of self.old) self.old.pads.pads (stage_of self.old self.old.stage) result }
+        ensures fits { FitsPart self.old.shape result }
+        ensures leaves { Leaves (value_of self.old) result (value_of self.new) }
+        ensures sound { self.new.answered ≡ false → IsSound self.new }
+    {
+        match self.stage {
+            Stage::Ready(ending) => {
+                self.answered = true;
+                Todo::Answer(self.answer(ending))
+            }
+            Stage::Entering => {
+                self.waits = true;
+                Todo::Tracker(TrackerOp::Enter)
+            }
+            Stage::In(k, step) => {
+                let todo = self.next_of(k, step);
+                self.waits = true;
+                todo
+            }
+        }
+    }
+
+    /// The session has left.
+    pub fn abandon(&mut self)
+        requires { IsFree self.old }
+        ensures request { request_of self.new ≡ abandon (request_of self.old) }
+        ensures shape { self.new.shape ≡ self.old.shape }
+        ensures free { IsFree self.new }
+    {
+        self.dropped = true;
+        self.stage = match self.stage {
+            Stage::Ready(_) | Stage::Entering => Stage::Ready(Ending::Dropped),
+            Stage::In(k, Step::Route | Step::List) => Stage::In(k, Step::End(Ending::Dropped)),
+            stage => stage,
+        };
+    }
+}

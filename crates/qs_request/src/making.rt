@@ -1,0 +1,103 @@
+ghost use Rattle.std.specs.Prelude.{◌≡◌, [], length, IsSome};
+ghost use Rattle.std.specs.Option.{ForSome};
+ghost use Rattle.qs_model.specs.Requests.{asked, form_error};
+ghost use Rattle.qs_request.specs.Shapes.{IsShape, IsRoom};
+ghost use Rattle.qs_request.specs.Value.{client_for, given_bytes, has_buffers};
+ghost use Rattle.qs_request.specs.Inside.{IsFree, first_stage, request_of};
+ghost use Rattle.qs_request.specs.Kept.{no_pads};
+
+use crate::machine::Machine;
+use crate::moves::{is_read, is_write};
+use crate::pads::PadBuffer;
+use crate::shape::{Blocks, Shape};
+use crate::stage::{Ending, Stage};
+use qs_bytes::{Ask, Bytes, Errno};
+use std::alloc::Global;
+
+/// The most bytes that a READ may ask for.
+const MAX_READ: u64 = 33_554_432;
+
+/// Whether a request is refused by its form alone.
+fn is_form_error(ask: Ask) -> bool
+    ensures { result ≡ form_error ask }
+{
+    let reads = is_read(ask.kind);
+    let known = reads || is_write(ask.kind);
+    !known || !ask.flags_fit || ask.fua || (reads && ask.length > MAX_READ)
+}
+
+fn first_stage(ask: Ask, buffered: bool) -> Stage
+    ensures { result ≡ first_stage ask buffered }
+{
+    if is_form_error(ask) {
+        Stage::Ready(Ending::Failed(Errno::Inval))
+    } else if buffered {
+        Stage::Entering
+    } else {
+        Stage::Ready(Ending::Failed(Errno::NoMem))
+    }
+}
+
+fn given(alloc: Global, body: Option<Bytes>) -> Bytes
+    ensures { result ≡ given_bytes body }
+{
+    match body {
+        Some(bytes) => bytes,
+        None => Bytes::of(Vec::new(alloc)),
+    }
+}
+
+/// The block to work in, and the pads.
+fn parted(alloc: Global, blocks: Option<Blocks>, align: u32) -> (Bytes, PadBuffer)
+    requires { ForSome blocks (IsRoom align) }
+    ensures work { IsSome blocks → length result.0 ≡ align }
+    ensures align { IsSome blocks → result.1.align ≡ align }
+    ensures pads { result.1 ≡ no_pads result.1.align }
+{
+    match blocks {
+        Some(Blocks { work, pads }) => (work, PadBuffer::new(pads, align as usize)),
+        None => {
+            let none = Bytes::of(Vec::new(alloc));
+            let pads = PadBuffer::new(Bytes::of(Vec::new(alloc)), 0);
+            (none, pads)
+        }
+    }
+}
+
+impl Machine {
+    pub fn new(
+        alloc: Global,
+        session: u32,
+        ask: Ask,
+        export: u8,
+        body: Option<Bytes>,
+        blocks: Option<Blocks>,
+        shape: Shape,
+    ) -> Self
+        requires shape { IsShape shape }
+        requires body { ForSome body (λ bytes. length bytes ≡ ask.length) }
+        requires blocks { ForSome blocks (IsRoom shape.align) }
+        ensures request { request_of result ≡ asked (client_for session ask export body blocks) }
+        ensures shape { result.shape ≡ shape }
+        ensures free { IsFree result }
+    {
+        let buffered = ask.length == 0 || (body.is_some() && blocks.is_some());
+        let (work, pads) = parted(alloc, blocks, shape.align);
+        Machine {
+            session,
+            export,
+            ask,
+            buffered,
+            route: None,
+            shape,
+            dropped: false,
+            stage: first_stage(ask, buffered),
+            body: given(alloc, body),
+            work,
+            pads,
+            waits: false,
+            answered: false,
+            alloc,
+        }
+    }
+}

@@ -1,0 +1,228 @@
+ghost use Rattle.std.specs.Prelude.{◌≡◌, ◌≢◌, ◌+◌, ◌^◌, ◌<◌, ◌≤◌, ◌⊎◌, length, Some, true, false};
+ghost use Rattle.std.specs.Prelude.{nat_lt, is_some};
+ghost use Rattle.qs_bytes.specs.Spans.{aligned_out};
+ghost use Rattle.qs_part.specs.declared.stripe.Side.TheVariants.{Head as HeadSide, Tail as TailSide};
+ghost use Rattle.qs_model.specs.Requests.{edge, has, held, hold_failed, is_read, is_write, routed, serial, span_of, started, store_failed, stored};
+ghost use Rattle.qs_request.specs.Shapes.{IsShape};
+ghost use Rattle.qs_request.specs.Inside.{Goes, HasKeptTo, IsAsked, IsGoing, IsStoring, client_of, step_of, way_of};
+
+use crate::machine::Machine;
+use crate::stage::{Ending, Step};
+use qs_bytes::{Errno, Kind, Span};
+use qs_padding::padding::plan;
+use qs_padding::planned::Plan;
+use qs_part::stripe::Side;
+
+pub fn is_read(kind: Kind) -> bool
+    ensures { result ≡ is_read kind }
+{
+    matches!(kind, Kind::Read)
+}
+
+pub fn is_write(kind: Kind) -> bool
+    ensures { result ≡ is_write kind }
+{
+    matches!(kind, Kind::Write)
+}
+
+/// Whether the bytes from an offset on pass a size. A sum above 2^64 - 1 passes each.
+fn passes(offset: u64, length: u64, size: u64) -> bool
+    ensures { result ≡ nat_lt size (offset + length) }
+{
+    match offset.checked_add(length) {
+        Some(end) => size < end,
+        None => true,
+    }
+}
+
+/// The choices of the request table.
+impl Machine {
+    fn route_offset(&self) -> u64
+        ensures { result ≡ (way_of self.now.route).offset }
+    {
+        match self.route {
+            Some(route) => route.offset,
+            None => 0,
+        }
+    }
+
+    fn route_size(&self) -> u64
+        ensures { result ≡ (way_of self.now.route).size }
+    {
+        match self.route {
+            Some(route) => route.size,
+            None => 0,
+        }
+    }
+
+    fn may_write(&self) -> bool
+        ensures { result ≡ (way_of self.now.route).writable }
+    {
+        match self.route {
+            Some(route) => route.writable,
+            None => false,
+        }
+    }
+
+    /// The places of the image that the request covers.
+    pub fn span(&self) -> Span
+        requires shape { IsShape self.now.shape }
+        requires going { IsGoing self.now }
+        ensures { result ≡ span_of (client_of self.now) }
+    {
+        let lo = self.route_offset() + self.ask.offset;
+        match Span::of(lo, self.ask.length) {
+            Some(span) => span,
+            None => unreachable!(),
+        }
+    }
+
+    /// The whole blocks that the span reaches, and those of its ends that it covers in part.
+    pub fn plan(&self) -> Plan
+        requires shape { IsShape self.now.shape }
+        requires going { IsGoing self.now }
+        ensures whole { result.whole ≡ aligned_out (span_of (client_of self.now)) self.now.shape.align }
+        ensures head { is_some result.head ≡ has self.now.shape.align (client_of self.now) HeadSide }
+        ensures tail { is_some result.tail ≡ has self.now.shape.align (client_of self.now) TailSide }
+    {
+        plan(&self.span(), self.shape.align)
+    }
+
+    /// The block at an end of the span.
+    #[tactic(auto, unfolding(qs_model::specs::Requests::edge))]
+    pub fn edge(&self, side: Side) -> u64
+        requires shape { IsShape self.now.shape }
+        requires going { IsGoing self.now }
+        ensures { result ≡ edge self.now.shape.align (client_of self.now) side }
+    {
+        let span = self.span();
+        let align = u64::from(self.shape.align);
+        match side {
+            Side::Head => span.lo() / align,
+            Side::Tail => (span.hi() - 1) / align,
+        }
+    }
+
+    /// Whether the span covers the block at this end only in part. A span inside one block has no tail.
+    pub fn has(&self, side: Side) -> bool
+        requires shape { IsShape self.now.shape }
+        requires going { IsGoing self.now }
+        ensures { result ≡ has self.now.shape.align (client_of self.now) side }
+    {
+        let plan = self.plan();
+        match side {
+            Side::Head => plan.head.is_some(),
+            Side::Tail => plan.tail.is_some(),
+        }
+    }
+
+    /// Whether the request is serialising (QEMU block/io.c).
+    #[tactic(auto, unfolding(qs_model::specs::Requests::serial))]
+    pub fn is_serial(&self) -> bool
+        requires shape { IsShape self.now.shape }
+        requires going { IsGoing self.now }
+        ensures { result ≡ serial self.now.shape.align (client_of self.now) }
+    {
+        is_write(self.ask.kind) && !self.span().is_aligned(self.shape.align)
+    }
+
+    /// What a request does that has its way: the first rule that refuses it, or no place to do
+    /// anything to, or List (NBD proto.md, "Error values").
+    #[tactic(auto, unfolding(qs_model::specs::Requests::routed))]
+    pub fn routed(&self) -> Step
+        requires asked { IsAsked self.now }
+        requires body { length self.now.body ≡ self.now.ask.length }
+        requires inside { (way_of self.now.route).offset + (way_of self.now.route).size ≤ self.now.shape.size }
+        ensures step { step_of self.now result ≡ routed (client_of self.now) }
+        ensures goes { Goes self.now result }
+    {
+        let writes = is_write(self.ask.kind);
+        if writes && !self.may_write() {
+            return Step::End(Ending::Failed(Errno::Perm));
+        }
+        if passes(self.ask.offset, self.ask.length, self.route_size()) {
+            return Step::End(Ending::Failed(if writes { Errno::NoSpace } else { Errno::Inval }));
+        }
+        if self.ask.length == 0 {
+            return Step::End(Ending::Success);
+        }
+        Step::List
+    }
+
+    /// What a WRITE does once it has the pad of this end, or wants none.
+    #[tactic(auto, unfolding(qs_model::specs::Requests::held))]
+    pub fn held(&self, side: Side) -> Step
+        requires shape { IsShape self.now.shape }
+        requires going { IsGoing self.now }
+        requires writing { self.now.ask.kind ≡ Kind.Write }
+        requires kept { HasKeptTo self.now side }
+        ensures step { step_of self.now result ≡ held self.now.shape.align (client_of self.now) side }
+        ensures goes { Goes self.now result }
+    {
+        match side {
+            Side::Head if self.has(Side::Tail) => Step::Hold(Side::Tail),
+            _ => Step::Store(self.edge(Side::Head)),
+        }
+    }
+
+    /// What a request does that has started: a READ loads, a WRITE holds its ends and stores.
+    #[tactic(auto, unfolding(qs_model::specs::Requests::started))]
+    pub fn started(&self) -> Step
+        requires shape { IsShape self.now.shape }
+        requires going { IsGoing self.now }
+        ensures step { step_of self.now result ≡ started self.now.shape.align (client_of self.now) }
+        ensures goes { Goes self.now result }
+    {
+        if is_read(self.ask.kind) {
+            Step::Load(self.edge(Side::Head))
+        } else if self.has(Side::Head) {
+            Step::Hold(Side::Head)
+        } else {
+            self.held(Side::Head)
+        }
+    }
+
+    /// What a WRITE does that has stored block `b`.
+    #[tactic(auto, unfolding(qs_model::specs::Requests::stored))]
+    pub fn stored(&self, b: u64) -> Step
+        requires shape { IsShape self.now.shape }
+        requires storing { IsStoring self.now b }
+        ensures step { step_of self.now result ≡ stored self.now.shape.align (client_of self.now) b }
+        ensures goes { Goes self.now result }
+    {
+        if b == self.edge(Side::Tail) {
+            Step::End(Ending::Success)
+        } else {
+            Step::Store(b + 1)
+        }
+    }
+
+    /// What a WRITE does whose Hold of this end was refused: the hold that is still open is given up.
+    #[tactic(auto, unfolding(qs_model::specs::Requests::hold_failed))]
+    pub fn hold_failed(&self, side: Side) -> Step
+        requires shape { IsShape self.now.shape }
+        requires going { IsGoing self.now }
+        ensures step { step_of self.now result ≡ hold_failed self.now.shape.align (client_of self.now) side }
+        ensures goes { Goes self.now result }
+    {
+        match side {
+            Side::Tail if self.has(Side::Head) => Step::Free(Side::Head),
+            _ => Step::End(Ending::Failed(Errno::Io)),
+        }
+    }
+
+    /// The same where the Store of block `b` was refused.
+    #[tactic(auto, unfolding(qs_model::specs::Requests::store_failed))]
+    pub fn store_failed(&self, b: u64) -> Step
+        requires shape { IsShape self.now.shape }
+        requires going { IsGoing self.now }
+        ensures step { step_of self.now result ≡ store_failed self.now.shape.align (client_of self.now) b }
+        ensures goes { Goes self.now result }
+    {
+        if self.has(Side::Tail) && b != self.edge(Side::Tail) {
+            Step::Free(Side::Tail)
+        } else {
+            Step::End(Ending::Failed(Errno::Io))
+        }
+    }
+}

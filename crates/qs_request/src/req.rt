@@ -1,0 +1,145 @@
+ghost use Rattle.std.specs.Prelude.{◌≡◌, ◌↔◌, IsTrue, length, false, true};
+ghost use Rattle.std.specs.Option.{ForSome};
+ghost use Rattle.qs_model.specs.Requests.{abandon, asked};
+ghost use Rattle.qs_request.specs.Shapes.{IsShape, IsRoom};
+ghost use Rattle.qs_request.specs.Table.{FitsPart, MayReply, Wants, followed};
+ghost use Rattle.qs_request.specs.Value.{IsReady, Leaves, client_for};
+
+use crate::machine::Machine;
+use crate::shape::{Blocks, Shape};
+use crate::stage::Stage;
+use crate::todo::{PartReply, Todo};
+use qs_bytes::{Ask, Bytes};
+use std::alloc::Global;
+use std::marker::Model;
+
+/// One client's READ or WRITE, at any offset: it gives the operation of a part that comes next, takes
+/// the part's reply, and gives its answer at the end (the request table; for padded writes QEMU's
+/// block/io.c). Nothing here takes memory.
+#[derive(Debug, Drop)]
+pub struct Req {
+    machine: Machine,
+}
+
+impl Model for Req {
+    ghost use Rattle.std.specs.Prelude.{◌≡◌, false};
+    ghost use Rattle.qs_request.specs.Value.{RequestValue};
+
+    ghost Value = { RequestValue };
+
+    ghost use Rattle.qs_request.specs.Inside.{IsSound, value_of};
+
+    ghost view = { λ r. value_of r.machine };
+
+    ghost invariant = { λ r. r.machine.answered ≡ false → IsSound r.machine };
+}
+
+impl Req {
+    /// The request of a session to the export at place `e`.
+    ///
+    /// The body is a READ's buffer or a WRITE's bytes. A READ or WRITE of some length without a body
+    /// or without blocks had its memory refused, and answers so; one of length 0 wants neither. The
+    /// allocator makes buffers of no bytes alone, which take no memory.
+    pub fn new(
+        alloc: Global,
+        session: u32,
+        ask: Ask,
+        e: u8,
+        body: Option<Bytes>,
+        blocks: Option<Blocks>,
+        shape: Shape,
+    ) -> Req
+        requires shape { IsShape shape }
+        requires body { ForSome body (λ bytes. length bytes ≡ ask.length) }
+        requires blocks { ForSome blocks (IsRoom shape.align) }
+        ensures { result ≡ record {
+          request = asked (client_for session ask e body blocks);
+          shape = shape;
+          waits = false;
+          answered = false;
+        } }
+    {
+        Req {
+            machine: Machine::new(alloc, session, ask, e, body, blocks, shape),
+        }
+    }
+
+    /// The session that asked.
+    pub fn session(&self) -> u32
+        ensures { result ≡ self.now.request.client.session }
+    {
+        self.machine.session
+    }
+
+    /// The place of the session's export.
+    pub fn export(&self) -> u8
+        ensures { result ≡ self.now.request.client.export }
+    {
+        self.machine.export
+    }
+
+    /// What the client asked for.
+    pub fn ask(&self) -> Ask
+        ensures { result ≡ self.now.request.client.ask }
+    {
+        self.machine.ask
+    }
+
+    /// Whether the answer is next.
+    pub fn is_ready(&self) -> bool
+        ensures { IsTrue result ↔ IsReady self.now.request.stage }
+    {
+        matches!(self.machine.stage, Stage::Ready(_))
+    }
+
+    /// Whether an operation waits for its reply.
+    pub fn is_waiting(&self) -> bool
+        ensures { result ≡ self.now.waits }
+    {
+        self.machine.waits
+    }
+
+    /// Whether the answer was given.
+    pub fn is_answered(&self) -> bool
+        ensures { result ≡ self.now.answered }
+    {
+        self.machine.answered
+    }
+
+    /// What the request does next. `now` is the clock's reading in nanoseconds, which nothing wants
+    /// yet. The operation fits the part that it names, where that part is of this shape.
+    pub fn next(&mut self, now: u64) -> Todo
+        requires free { self.old.waits ≡ false }
+        requires unanswered { self.old.answered ≡ false }
+        ensures wants { Wants self.old.shape.align self.old.request result }
+        ensures fits { FitsPart self.old.shape result }
+        ensures leaves { Leaves self.old result self.new }
+    {
+        let _ = now;
+        self.machine.next()
+    }
+
+    /// Takes the reply to the operation that was given last. An answer that isn't in the request
+    /// table leaves the stage as it was, so the same operation comes next.
+    pub fn after(&mut self, reply: PartReply)
+        requires waits { self.old.waits ≡ true }
+        requires unanswered { self.old.answered ≡ false }
+        requires may { MayReply self.old.shape self.old.request reply }
+        ensures { self.new ≡ record self.old {
+          request = followed self.old.shape.align self.old.request reply;
+          waits = false;
+        } }
+    {
+        self.machine.after(reply);
+    }
+
+    /// The session has left: a request that hasn't entered is dropped at once, one without a span
+    /// ends, and another runs on. Its verdict is Dropped.
+    pub fn abandon(&mut self)
+        requires free { self.old.waits ≡ false }
+        requires unanswered { self.old.answered ≡ false }
+        ensures { self.new ≡ record self.old { request = abandon self.old.request } }
+    {
+        self.machine.abandon();
+    }
+}

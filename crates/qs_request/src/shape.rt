@@ -1,0 +1,41 @@
+ghost use Rattle.std.specs.Prelude.{◌≡◌, ◌⊎◌, length, IfOk};
+ghost use Rattle.qs_request.specs.Shapes.{IsRoom};
+
+use qs_bytes::{Bytes, Memory};
+use std::alloc::Global;
+
+/// The image that requests go to: the bytes of a block, 512 or 4096, and those of the whole image.
+#[derive(Clone, Copy, Debug, PartialEq, Eq)]
+pub struct Shape {
+    pub align: u32,
+    pub size: u64,
+}
+
+/// The memory that a request of some length works in. `work` is one block, and is lent to each
+/// operation on a block; `pads` is two blocks, and keeps those of the span's two ends.
+#[derive(Debug, Drop)]
+pub struct Blocks {
+    pub work: Bytes,
+    pub pads: Bytes,
+}
+
+fn zeros(alloc: Global, count: usize) -> Result<Bytes, Memory>
+    ensures { IfOk result (λ b. length b ≡ count) }
+{
+    let bytes = vec![in alloc; 0; count]?;
+    Ok(Bytes::of(bytes))
+}
+
+impl Blocks {
+    /// The blocks for requests to an image with blocks of `align` bytes. Its only error is refused
+    /// memory.
+    pub fn new(alloc: Global, align: u32) -> Result<Blocks, Memory>
+        requires { (align ≡ 512) ⊎ (align ≡ 4096) }
+        ensures { IfOk result (IsRoom align) }
+    {
+        let size = align as usize;
+        let work = zeros(alloc, size)?;
+        let pads = zeros(alloc, 2 * size)?;
+        Ok(Blocks { work, pads })
+    }
+}
