@@ -1,10 +1,11 @@
 -- What stands in a request's fields, and what they keep.
-use Rattle.std.specs.Prelude.{◌≡◌, ℕ, ◌-◌, ◌*◌, ◌<◌, ◌≤◌, ◌⊎◌, max, Bool, true, false, ◌&&◌, List, length, take, if◌then◌else◌, Option, Some, None}
+use Rattle.std.specs.Prelude.{◌≡◌, ℕ, ◌+◌, ◌-◌, ◌*◌, ◌^◌, ◌<◌, ◌≤◌, ◌⊎◌, max, Bool, true, false, ◌&&◌, List, length, take, if◌then◌else◌, Option, Some, None}
 use Rattle.qs_bytes.specs.declared.ask.Ask.{Ask}
 use Rattle.qs_bytes.specs.declared.ask.Errno.TheVariants.{Inval, NoMem}
 use Rattle.qs_bytes.specs.declared.ask.Kind.TheVariants.{Read, Write}
 use Rattle.qs_bytes.specs.declared.ask.Verdict.{Verdict}
 use Rattle.qs_bytes.specs.declared.ask.Verdict.TheVariants.{Refused, Dropped}
+use Rattle.qs_bytes.specs.Spans.{Places}
 use Rattle.qs_part.specs.declared.graph.Route.{Route}
 use Rattle.qs_part.specs.declared.stripe.Side.{Side}
 use Rattle.qs_part.specs.declared.stripe.Side.TheVariants.{Head, Tail}
@@ -90,6 +91,13 @@ pub record IsReached (m : Machine) (b : ℕ) : Type 0 where
   pub first : edge m.shape.align (client_of m) Head ≤ b
   pub last : b ≤ edge m.shape.align (client_of m) Tail
 
+-- a block of A bytes from this place on has a place of the span, and no place above 2^40
+pub record IsPlaced (s : Places) (A start : ℕ) : Type 0 where
+  pub some : s.lo < s.hi
+  pub begins : s.lo < start + A
+  pub ends : start < s.hi
+  pub small : start + A ≤ 2 ^ 40
+
 -- the pad of an end that it has is kept
 abbrev pub IsKept : Machine → Side → Type 0
 IsKept m side = has m.shape.align (client_of m) side ≡ true → length (pad m.pads.pads side) ≡ m.shape.align
@@ -99,10 +107,14 @@ abbrev pub HasKept : Machine → Side → Type 0
 HasKept m Head = Unit {0}
 HasKept m Tail = IsKept m Head
 
--- those after it
+-- all pads are kept
+abbrev pub HasPads : Machine → Type 0
+HasPads m = (side : Side) → IsKept m side
+
+-- the pads that are kept after it
 abbrev pub HasKeptTo : Machine → Side → Type 0
 HasKeptTo m Head = IsKept m Head
-HasKeptTo m Tail = (side : Side) → IsKept m side
+HasKeptTo m Tail = HasPads m
 
 pub record IsLoading (m : Machine) (b : ℕ) : Type 0 where
   pub reading : m.ask.kind ≡ Read
@@ -116,7 +128,7 @@ pub record IsHolding (m : Machine) (side : Side) : Type 0 where
 pub record IsStoring (m : Machine) (b : ℕ) : Type 0 where
   pub writing : m.ask.kind ≡ Write
   pub reached : IsReached m b
-  pub kept : (side : Side) → IsKept m side
+  pub kept : HasPads m
 
 -- what each step keeps
 abbrev pub Goes : Machine → Next → Type 0

@@ -1,4 +1,6 @@
-ghost use Rattle.std.specs.Prelude.{◌≡◌, [], length, false};
+ghost use Rattle.std.specs.Prelude.{◌≡◌, ℕ, ◌+◌, ◌*◌, ◌<◌, ◌==◌, if◌then◌else◌, [], length, false};
+ghost use Rattle.std.specs.List.{slice_index_or};
+ghost use Rattle.qs_padding.specs.Padding.{merged_at};
 ghost use Rattle.qs_model.specs.Requests.{abandon};
 ghost use Rattle.qs_model.specs.Worlds.{stripe_of};
 ghost use Rattle.qs_request.specs.Shapes.{IsShape};
@@ -11,7 +13,7 @@ use crate::pads::PadBuffer;
 use crate::shape::Shape;
 use crate::stage::{Ending, Stage, Step};
 use crate::todo::Todo;
-use qs_bytes::{Ask, Bytes, Verdict};
+use qs_bytes::{Ask, Bytes, Span, Verdict};
 use qs_padding::padding::merge;
 use qs_part::graph::{GraphOp, Route};
 use qs_part::stripe::{Side, StripeOp};
@@ -52,12 +54,42 @@ fn stripe_of(b: u64) -> u8
 }
 
 /// Puts the pad over the block, if there is one.
-fn put_pad(block: &mut [u8], pad: &[u8])
-    ensures kept { length pad.now ≡ length block.old → block.new ≡ pad.now }
+fn pad_over(block: &mut [u8], pad: &[u8])
+    ensures { block.new ≡ (if length pad.now == length block.old then pad.now else block.old) }
 {
     if pad.len() == block.len() {
         block.copy_from_slice(pad);
     }
+}
+
+/// The same over the bytes of a vector.
+fn pad_into(block: &mut Vec<u8>, pad: &[u8])
+    ensures { block.new.items ≡ (if length pad.now == length block.old.items then pad.now else block.old.items) }
+{
+    pad_over(block.as_mut_slice(), pad);
+}
+
+/// Merges the covered bytes of block `b` into the bytes of a vector.
+fn merge_into(block: &mut Vec<u8>, b: u64, span: &Span, bytes: &[u8])
+    requires { span.now.lo + length bytes.now ≡ span.now.hi }
+    ensures len { length block.new.items ≡ length block.old.items }
+    ensures merged { (i : ℕ) → i < length block.old.items →
+        slice_index_or block.new.items i 0 ≡ merged_at span.now bytes.now (b * length block.old.items + i) (slice_index_or block.old.items i 0) }
+{
+    merge(block.as_mut_slice(), b, span, bytes);
+}
+
+/// The block with the pad over it and the covered bytes merged.
+fn merged(work: Bytes, pad: &[u8], b: u64, span: &Span, bytes: &[u8]) -> Bytes
+    requires { span.now.lo + length bytes.now ≡ span.now.hi }
+    ensures len { length result ≡ length work }
+    ensures merged { (i : ℕ) → i < length work →
+        slice_index_or result i 0 ≡ merged_at span.now bytes.now (b * length work + i) (slice_index_or (if length pad.now == length work then pad.now else work) i 0) }
+{
+    let mut block = work.into_vec();
+    pad_into(&mut block, pad);
+    merge_into(&mut block, b, span, bytes);
+    Bytes::of(block)
 }
 
 /// The next operations.
@@ -71,7 +103,7 @@ impl Machine {
 
     /// What block `b` is stored with: the covered bytes, and the kept pad's where the request
     /// doesn't cover it.
-    pub fn merged(&self, b: u64, work: Bytes) -> Bytes
+    fn content(&self, b: u64, work: Bytes) -> Bytes
         requires shape { IsShape self.now.shape }
         requires storing { IsStoring self.now b }
         requires body { length self.now.body ≡ self.now.ask.length }
@@ -79,16 +111,9 @@ impl Machine {
         ensures whole { length result ≡ self.now.shape.align }
         ensures merged { IsMerged self.now.shape.align (client_of self.now) self.now.pads.pads b result }
     {
-        let side = if b == self.edge(Side::Head) {
-            Side::Head
-        } else {
-            Side::Tail
-        };
+        let side = self.side_of(b);
         let span = self.span();
-        let mut block = work.into_vec();
-        put_pad(block.as_mut_slice(), self.pads.kept(side));
-        merge(block.as_mut_slice(), b, &span, self.body.as_slice());
-        Bytes::of(block)
+        merged(work, self.pads.kept(side), b, &span, self.body.as_slice())
     }
 
     fn listing(&self, k: u8) -> Todo
@@ -139,7 +164,7 @@ impl Machine {
         ensures same { self.new ≡ record self.old { work = [] } }
     {
         let work = self.lend();
-        let buf = self.merged(b, work);
+        let buf = self.content(b, work);
         Todo::Stripe(stripe_of(b), StripeOp::Store { b, k, buf })
     }
 

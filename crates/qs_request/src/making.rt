@@ -64,6 +64,12 @@ fn parted(alloc: Global, blocks: Option<Blocks>, align: u32) -> (Bytes, PadBuffe
     }
 }
 
+fn is_buffered(ask: &Ask, body: &Option<Bytes>, blocks: &Option<Blocks>) -> bool
+    ensures { result ≡ has_buffers ask.now body.now blocks.now }
+{
+    ask.length == 0 || (body.is_some() && blocks.is_some())
+}
+
 impl Machine {
     pub fn new(
         alloc: Global,
@@ -81,7 +87,7 @@ impl Machine {
         ensures shape { result.shape ≡ shape }
         ensures free { IsFree result }
     {
-        let buffered = ask.length == 0 || (body.is_some() && blocks.is_some());
+        let buffered = is_buffered(&ask, &body, &blocks);
         let (work, pads) = parted(alloc, blocks, shape.align);
         Machine {
             session,

@@ -1,10 +1,10 @@
 ghost use Rattle.std.specs.Prelude.{◌≡◌, ◌≢◌, ◌+◌, ◌^◌, ◌<◌, ◌≤◌, ◌⊎◌, length, Some, true, false};
-ghost use Rattle.std.specs.Prelude.{nat_lt, is_some};
+ghost use Rattle.std.specs.Prelude.{nat_lt, is_some, ◌*◌, ◌==◌, if◌then◌else◌};
 ghost use Rattle.qs_bytes.specs.Spans.{aligned_out};
 ghost use Rattle.qs_part.specs.declared.stripe.Side.TheVariants.{Head as HeadSide, Tail as TailSide};
-ghost use Rattle.qs_model.specs.Requests.{edge, has, held, hold_failed, is_read, is_write, routed, serial, span_of, started, store_failed, stored};
+ghost use Rattle.qs_model.specs.Requests.{edge, has, held, hold_failed, is_read, is_write, routed, serial, span_of, started, store_failed, stored, ToStore};
 ghost use Rattle.qs_request.specs.Shapes.{IsShape};
-ghost use Rattle.qs_request.specs.Inside.{Goes, HasKeptTo, IsAsked, IsGoing, IsStoring, client_of, step_of, way_of};
+ghost use Rattle.qs_request.specs.Inside.{Goes, HasKeptTo, HasPads, IsAsked, IsGoing, IsLoading, IsPlaced, IsReached, IsStoring, client_of, step_of, way_of};
 
 use crate::machine::Machine;
 use crate::stage::{Ending, Step};
@@ -149,6 +149,18 @@ impl Machine {
         Step::List
     }
 
+    /// A WRITE that has all its pads begins to store.
+    fn first_store(&self) -> Step
+        requires shape { IsShape self.now.shape }
+        requires going { IsGoing self.now }
+        requires writing { self.now.ask.kind ≡ Kind.Write }
+        requires kept { HasPads self.now }
+        ensures step { step_of self.now result ≡ ToStore (edge self.now.shape.align (client_of self.now) HeadSide) }
+        ensures goes { Goes self.now result }
+    {
+        Step::Store(self.edge(Side::Head))
+    }
+
     /// What a WRITE does once it has the pad of this end, or wants none.
     #[tactic(auto, unfolding(qs_model::specs::Requests::held))]
     pub fn held(&self, side: Side) -> Step
@@ -160,8 +172,14 @@ impl Machine {
         ensures goes { Goes self.now result }
     {
         match side {
-            Side::Head if self.has(Side::Tail) => Step::Hold(Side::Tail),
-            _ => Step::Store(self.edge(Side::Head)),
+            Side::Head => {
+                if self.has(Side::Tail) {
+                    Step::Hold(Side::Tail)
+                } else {
+                    self.first_store()
+                }
+            }
+            Side::Tail => self.first_store(),
         }
     }
 
@@ -180,6 +198,43 @@ impl Machine {
         } else {
             self.held(Side::Head)
         }
+    }
+
+    /// What a READ does that has block `b`.
+    pub fn after_load(&self, b: u64) -> Step
+        requires shape { IsShape self.now.shape }
+        requires loading { IsLoading self.now b }
+        ensures step { result ≡ (if b == edge self.now.shape.align (client_of self.now) TailSide then Step.End Ending.Success else Step.Load (b + 1)) }
+        ensures goes { Goes self.now result }
+    {
+        if b == self.edge(Side::Tail) {
+            Step::End(Ending::Success)
+        } else {
+            Step::Load(b + 1)
+        }
+    }
+
+    /// The end whose pad a block may have.
+    pub fn side_of(&self, b: u64) -> Side
+        requires shape { IsShape self.now.shape }
+        requires going { IsGoing self.now }
+        ensures { result ≡ (if b == edge self.now.shape.align (client_of self.now) HeadSide then HeadSide else TailSide) }
+    {
+        if b == self.edge(Side::Head) {
+            Side::Head
+        } else {
+            Side::Tail
+        }
+    }
+
+    /// The place where block `b` begins.
+    pub fn start(&self, b: u64) -> u64
+        requires shape { IsShape self.now.shape }
+        requires reached { IsReached self.now b }
+        ensures start { result ≡ b * self.now.shape.align }
+        ensures placed { IsPlaced (span_of (client_of self.now)) self.now.shape.align result }
+    {
+        b * u64::from(self.shape.align)
     }
 
     /// What a WRITE does that has stored block `b`.

@@ -1,4 +1,4 @@
-ghost use Rattle.std.specs.Prelude.{◌≡◌, ◌+◌, ◌<◌, ◌≤◌, ◌++◌, length, true, false, take, Some, None};
+ghost use Rattle.std.specs.Prelude.{◌≡◌, ◌+◌, ◌-◌, ◌^◌, ◌<◌, ◌≤◌, length, max, min, false, take, Some};
 ghost use Rattle.qs_bytes.specs.Pieces.{overlay};
 ghost use Rattle.qs_part.specs.declared.stripe.StripeReply.{StripeReply as Reply};
 ghost use Rattle.qs_model.specs.Requests.{held, keep, loaded, piece, In as InFlight};
@@ -14,6 +14,37 @@ use qs_bytes::{Bytes, Errno};
 use qs_part::graph::GraphReply;
 use qs_part::stripe::{Side, StripeReply};
 use qs_part::tracker::TrackerReply;
+
+/// Where the covered bytes of a block are: at `from` to `to` in the block, and from `at` on in the
+/// bytes that the request covers.
+#[derive(Clone, Copy, Debug)]
+struct Cut {
+    at: usize,
+    from: usize,
+    to: usize,
+}
+
+/// The bytes that the span from `lo` to `hi` covers of the block of `align` bytes at `start`.
+fn cut_of(lo: u64, hi: u64, start: u64, align: u64) -> Cut
+    requires some { lo < hi }
+    requires begins { lo < start + align }
+    requires ends { start < hi }
+    requires small { start + align ≤ 2 ^ 40 }
+    ensures at { result.at ≡ max lo start - lo }
+    ensures from { result.from ≡ max lo start - start }
+    ensures to { result.to ≡ min hi (start + align) - start }
+    ensures order { result.from ≤ result.to }
+    ensures inside { result.to ≤ align }
+    ensures whole { result.at + (result.to - result.from) ≤ hi - lo }
+{
+    let from = lo.max(start);
+    let to = hi.min(start + align);
+    Cut {
+        at: (from - lo) as usize,
+        from: (from - start) as usize,
+        to: (to - start) as usize,
+    }
+}
 
 /// What follows an answer of a part.
 impl Machine {
@@ -76,13 +107,10 @@ impl Machine {
         } }
     {
         let span = self.span();
-        let align = u64::from(self.shape.align);
-        let start = b * align;
-        let from = span.lo().max(start);
-        let to = span.hi().min(start + align);
-        let at = (from - span.lo()) as usize;
-        let piece = &self.work.as_slice()[(from - start) as usize..(to - start) as usize];
-        write_part(&mut self.body, at, piece);
+        let start = self.start(b);
+        let part = cut_of(span.lo(), span.hi(), start, u64::from(self.shape.align));
+        let piece = &self.work.as_slice()[part.from..part.to];
+        write_part(&mut self.body, part.at, piece);
     }
 
     /// A READ has block `b`.
@@ -96,14 +124,7 @@ impl Machine {
         ensures same { self.new ≡ record self.old { body = self.new.body; stage = self.new.stage } }
     {
         self.copy_covered(b);
-        self.stage = Stage::In(
-            k,
-            if b == self.edge(Side::Tail) {
-                Step::End(Ending::Success)
-            } else {
-                Step::Load(b + 1)
-            },
-        );
+        self.stage = Stage::In(k, self.after_load(b));
     }
 
     /// A WRITE holds the block of this end.

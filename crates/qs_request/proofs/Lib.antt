@@ -1,0 +1,6 @@
+pub mod Reached
+pub mod Ends
+pub mod Loads
+pub mod Merges
+pub mod Made
+pub mod Rows

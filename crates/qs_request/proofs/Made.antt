@@ -1,0 +1,99 @@
+-- A request as it is made.
+use Rattle.std.proofs.Common.{◌≡◌, ℕ, ◌<◌, ◌⊎◌, inl, inr, Bool, true, false, not, ◌&&◌, ◌||◌, ◌==◌, cond, List, [], length, Option, Some, None, is_some, IsSome, refl, sym, ap, ◌∙◌, subst, arith, true≢false}
+use Rattle.std.specs.Option.{ForSome}
+use Rattle.qs_bytes.specs.declared.ask.Ask.{Ask}
+use Rattle.qs_bytes.specs.declared.ask.Errno.TheVariants.{Inval, NoMem}
+use Rattle.qs_bytes.specs.declared.ask.Verdict.TheVariants.{Refused}
+use Rattle.qs_bytes.specs.declared.ask.Kind.{Kind}
+use Rattle.qs_bytes.specs.declared.ask.Kind.TheVariants.{Read, Write, Zero, Trim, Flush, Unknown}
+use Rattle.qs_model.specs.Requests.{Client, Pads, Req, Ready, Entering, Stage, asked, form_error, is_read, is_write, no_route}
+use Rattle.qs_request.specs.declared.shape.Blocks.{Blocks}
+use Rattle.qs_request.specs.declared.stage.Ending.TheVariants.{Failed}
+use Rattle.qs_request.specs.declared.stage.Stage.{Stage as At}
+use Rattle.qs_request.specs.declared.stage.Stage.TheVariants.{Ready as ReadyAt, Entering as EnteringAt}
+use Rattle.qs_request.specs.declared.machine.Machine.{Machine}
+use Rattle.qs_request.specs.Shapes.{IsShape}
+use Rattle.qs_request.specs.Value.{bytes_of, given_bytes, has_buffers, client_for}
+use Rattle.qs_request.specs.Inside.{HasBuffers, IsAsked, IsFree, IsSound, Stands, client_of, first_stage, request_of, stage_of}
+
+pub first_is : (m : Machine) (a : Ask) (buffered : Bool) →
+    stage_of m (first_stage a buffered) ≡ cond (form_error a) (Ready (Refused Inval)) (cond buffered Entering (Ready (Refused NoMem)))
+first_is m a buffered = go (form_error a) buffered
+  where
+    go : (f d : Bool) → stage_of m (cond f (ReadyAt (Failed Inval)) (cond d EnteringAt (ReadyAt (Failed NoMem)))) ≡ cond f (Ready (Refused Inval)) (cond d Entering (Ready (Refused NoMem)))
+    go true d = refl
+    go false true = refl
+    go false false = refl
+
+-- a form that passes is a READ's or a WRITE's
+pub known : (k : Kind) (x y z : Bool) → not (is_read k || is_write k) || x || y || z ≡ false → (k ≡ Read) ⊎ (k ≡ Write)
+known Read x y z is = inl refl
+known Write x y z is = inr refl
+known Zero x y z is = absurd (true≢false is)
+known Trim x y z is = absurd (true≢false is)
+known Flush x y z is = absurd (true≢false is)
+known (Unknown n) x y z is = absurd (true≢false is)
+
+pub first_stands : (m : Machine) → Stands m (first_stage m.ask m.buffered)
+first_stands m = go (form_error m.ask) m.buffered refl refl
+  where
+    go : (f d : Bool) → form_error m.ask ≡ f → m.buffered ≡ d → Stands m (cond f (ReadyAt (Failed Inval)) (cond d EnteringAt (ReadyAt (Failed NoMem))))
+    go true d e g = tt
+    go false true e g = record { kind = known m.ask.kind _ _ _ e; buffered = g }
+    go false false e g = tt
+
+abbrev with_parts : Client → Bool → Pads → Stage → Req
+with_parts c d p stage = record { client = c; dropped = d; pads = p; stage = stage }
+
+abbrev empty_pads : Pads
+empty_pads = record { head = []; tail = [] }
+
+pub made_request : (m : Machine) (c : Client) → client_of m ≡ c → m.dropped ≡ false → m.pads.pads ≡ empty_pads → m.stage ≡ first_stage m.ask m.buffered →
+    request_of m ≡ asked c
+made_request m c client dropped pads stage =
+    ap (λ (d : Bool). with_parts (client_of m) d m.pads.pads (stage_of m m.stage)) dropped
+    ∙ ap (λ (p : Pads). with_parts (client_of m) false p (stage_of m m.stage)) pads
+    ∙ ap (λ (s : Stage). with_parts (client_of m) false empty_pads s) (ap (λ (s : At). stage_of m s) stage ∙ first_is m m.ask m.buffered)
+    ∙ ap asked client
+
+abbrev client_with : ℕ → Ask → ℕ → List ℕ → Bool → Client
+client_with session ask e bytes buffered =
+    record { session = session; export = e; ask = ask; body = bytes_of ask.kind bytes; buffered = buffered; route = no_route }
+
+pub made_client : (session : ℕ) (ask : Ask) (e : ℕ) (body : Option (List ℕ)) (blocks : Option Blocks) (bytes : List ℕ) (buffered : Bool) →
+    bytes ≡ given_bytes body → buffered ≡ has_buffers ask body blocks → client_with session ask e bytes buffered ≡ client_for session ask e body blocks
+made_client session ask e body blocks bytes buffered bytes_is buffered_is =
+    ap (λ (xs : List ℕ). client_with session ask e xs buffered) bytes_is
+    ∙ ap (λ (t : Bool). client_with session ask e (given_bytes body) t) buffered_is
+
+pub given_length : (ask : Ask) (body : Option (List ℕ)) (blocks : Option Blocks) → ForSome body (λ bytes. length bytes ≡ ask.length) →
+    has_buffers ask body blocks ≡ true → length (given_bytes body) ≡ ask.length
+given_length ask None blocks given is = go (ask.length == 0) refl is
+  where
+    go : (t : Bool) → (ask.length == 0) ≡ t → t || (false && is_some blocks) ≡ true → 0 ≡ ask.length
+    go true e f = grind (arith, e)
+    go false e f = absurd (true≢false (sym f))
+given_length ask (Some bytes) blocks given is = given bytes refl
+
+pub some_blocks : (ask : Ask) (body : Option (List ℕ)) (blocks : Option Blocks) → 0 < ask.length → has_buffers ask body blocks ≡ true → IsSome blocks
+some_blocks ask body blocks some is = go (ask.length == 0) (is_some body) blocks refl is
+  where
+    go : (t s : Bool) (given : Option Blocks) → (ask.length == 0) ≡ t → t || (s && is_some given) ≡ true → IsSome given
+    go true s given e f = absurd (grind (arith, e, some))
+    go false true (Some x) e f = refl
+    go false true None e f = absurd (true≢false (sym f))
+    go false false given e f = absurd (true≢false (sym f))
+
+pub made_free : (m : Machine) → IsShape m.shape → m.waits ≡ false → m.answered ≡ false → m.stage ≡ first_stage m.ask m.buffered →
+    (m.buffered ≡ true → length m.body ≡ m.ask.length) →
+    (m.buffered ≡ true → 0 < m.ask.length → m.pads.align ≡ m.shape.align) →
+    (m.buffered ≡ true → 0 < m.ask.length → length m.work ≡ m.shape.align) → IsFree m
+made_free m shape waits answered stage body pads work = record {
+  sound = record {
+    shape = shape;
+    buffers = record { body = body; pads = pads; work = λ buffered some _. work buffered some };
+    stands = subst (λ (s : At). Stands m s) (sym stage) (first_stands m);
+  };
+  waits = waits;
+  answered = answered;
+}

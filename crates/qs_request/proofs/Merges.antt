@@ -1,0 +1,113 @@
+-- What a block is stored with, and the pads that it takes it from.
+use Rattle.std.proofs.Common.{◌≡◌, ◌≢◌, ℕ, ◌+◌, ◌-◌, ◌*◌, ◌<◌, ◌≤◌, ◌⊎◌, inl, inr, Bool, true, false, ◌==◌, cond, List, [], ◌++◌, length, take, drop, get_or, refl, sym, ap, ◌∙◌, arith, true≢false, append-nil, length-take-le, eq-eqb, ne_eqb}
+use Rattle.std.proofs.lemmas.List.{take_at, drop_at, drop_all}
+use Rattle.qs_bytes.specs.Pieces.{overlay}
+use Rattle.qs_bytes.specs.Spans.{Places}
+use Rattle.qs_bytes.proofs.Overlays.{length-overlay}
+use Rattle.qs_bytes.specs.declared.ask.Kind.{Kind}
+use Rattle.qs_bytes.specs.declared.ask.Kind.TheVariants.{Write}
+use Rattle.qs_part.specs.declared.stripe.Side.{Side}
+use Rattle.qs_part.specs.declared.stripe.Side.TheVariants.{Head, Tail}
+use Rattle.qs_padding.specs.Padding.{merged_at as merged_place}
+use Rattle.qs_model.specs.Requests.{Client, Pads, edge, has, span_of, covers, body_at, merged_at, keep, pad}
+use Rattle.qs_model.proofs.Basics.{block_at}
+use Rattle.qs_model.proofs.Geometry.{outside}
+use Rattle.qs_request.specs.declared.machine.Machine.{Machine}
+use Rattle.qs_request.specs.Kept.{Kept}
+use Rattle.qs_request.specs.Shapes.{IsShape}
+use Rattle.qs_request.specs.Table.{IsMerged}
+use Rattle.qs_request.specs.Value.{bytes_of}
+use Rattle.qs_request.specs.Inside.{IsStoring, client_of}
+use Rattle.qs_request.proofs.Reached.{some_bytes, reaches}
+
+-- one half of two blocks is written, and the other stays
+pub front_half : (old block : List ℕ) (A : ℕ) → length block ≡ A → length old ≡ A + A →
+    (take A (overlay old 0 block) ≡ block) × (drop A (overlay old 0 block) ≡ drop A old)
+unfolding overlay
+front_half old block A long room = (
+  take_at block (drop (0 + length block) old) A long,
+  drop_at block (drop (0 + length block) old) A long ∙ ap (λ (n : ℕ). drop n old) (omega (arith, long)),
+)
+
+pub back_half : (old block : List ℕ) (A : ℕ) → length block ≡ A → length old ≡ A + A →
+    (take A (overlay old A block) ≡ take A old) × (drop A (overlay old A block) ≡ block)
+unfolding overlay
+back_half old block A long room =
+    let front : length (take A old) ≡ A = length-take-le A old (omega (arith, room)) in
+    let rest : List ℕ = drop (A + length block) old in
+    let none : rest ≡ [] = drop_all (A + length block) old (omega (arith, long, room)) in
+    let whole : take A old ++ block ++ rest ≡ take A old ++ block = ap (λ (xs : List ℕ). take A old ++ block ++ xs) none ∙ append-nil (take A old ++ block) in (
+      ap (λ (xs : List ℕ). take A xs) whole ∙ take_at (take A old) block A front,
+      ap (λ (xs : List ℕ). drop A xs) whole ∙ drop_at (take A old) block A front,
+    )
+
+abbrev as_kept : ℕ → List ℕ → List ℕ → Kept
+as_kept a head tail = record { align = a; pads = record { head = head; tail = tail } }
+
+-- the buffer with one more pad
+pub kept_head : (a : ℕ) (old new block : List ℕ) (head tail : Bool) (v : Kept) (end : Side) → length block ≡ v.align → length old ≡ a + a →
+    new ≡ overlay old 0 block →
+    ◌≡◌ {A = Kept} (record { align = a; pads = record { head = cond head (take a old) []; tail = cond tail (drop a old) [] } }) v → end ≡ Head →
+    ◌≡◌ {A = Kept} (record { align = a; pads = record { head = take a new; tail = cond tail (drop a new) [] } }) (record v { pads = keep v.pads end block })
+kept_head a old new block head tail v end long room is view side_is =
+    let size : a ≡ v.align = ap (λ (w : Kept). w.align) view in
+    let halves : (take a (overlay old 0 block) ≡ block) × (drop a (overlay old 0 block) ≡ drop a old) = front_half old block a (omega (arith, size, long)) room in
+    ap (λ (xs : List ℕ). as_kept a xs (cond tail (drop a new) [])) (ap (λ (xs : List ℕ). take a xs) is ∙ halves.0)
+    ∙ ap (λ (xs : List ℕ). as_kept a block (cond tail xs [])) (ap (λ (xs : List ℕ). drop a xs) is ∙ halves.1)
+    ∙ ap (λ (w : Kept). record w { pads = keep w.pads Head block }) view
+    ∙ ap (λ (s : Side). record v { pads = keep v.pads s block }) (sym side_is)
+
+pub kept_tail : (a : ℕ) (old new block : List ℕ) (head tail : Bool) (v : Kept) (end : Side) → length block ≡ v.align → length old ≡ a + a →
+    new ≡ overlay old a block →
+    ◌≡◌ {A = Kept} (record { align = a; pads = record { head = cond head (take a old) []; tail = cond tail (drop a old) [] } }) v → end ≡ Tail →
+    ◌≡◌ {A = Kept} (record { align = a; pads = record { head = cond head (take a new) []; tail = drop a new } }) (record v { pads = keep v.pads end block })
+kept_tail a old new block head tail v end long room is view side_is =
+    let size : a ≡ v.align = ap (λ (w : Kept). w.align) view in
+    let halves : (take a (overlay old a block) ≡ take a old) × (drop a (overlay old a block) ≡ block) = back_half old block a (omega (arith, size, long)) room in
+    ap (λ (xs : List ℕ). as_kept a (cond head (take a new) []) xs) (ap (λ (xs : List ℕ). drop a xs) is ∙ halves.1)
+    ∙ ap (λ (xs : List ℕ). as_kept a (cond head xs []) block) (ap (λ (xs : List ℕ). take a xs) is ∙ halves.0)
+    ∙ ap (λ (w : Kept). record w { pads = keep w.pads Tail block }) view
+    ∙ ap (λ (s : Side). record v { pads = keep v.pads s block }) (sym side_is)
+
+kept_pad : (pad_bytes : List ℕ) (A : ℕ) (work : List ℕ) → length pad_bytes ≡ A → cond (length pad_bytes == A) pad_bytes work ≡ pad_bytes
+kept_pad pad_bytes A work long = ap (λ (t : Bool). cond t pad_bytes work) (eq-eqb (length pad_bytes) A long)
+
+module _ (m : Machine) (b : ℕ) (is : IsShape m.shape) (s : IsStoring m b) where
+  -- a place of a stored block that isn't covered has the pad's byte
+  uncovered : (filled : List ℕ) (x : ℕ) → x < m.shape.align → covers (client_of m) (b * m.shape.align + x) ≡ false →
+      (length (pad m.pads.pads (cond (b == edge m.shape.align (client_of m) Head) Head Tail)) ≡ m.shape.align → filled ≡ pad m.pads.pads (cond (b == edge m.shape.align (client_of m) Head) Head Tail)) →
+      filled ≡ pad m.pads.pads (cond (b == edge m.shape.align (client_of m) Head) Head Tail)
+  uncovered filled x below out kept =
+      elim (outside m.shape.align (client_of m) b (b * m.shape.align + x) (some_bytes m.shape is) s.reached.going.some (reaches m b s.reached) (omega arith) (omega (arith, below)) out) [
+        | inl h ↦ at_head (b == edge m.shape.align (client_of m) Head) (eq-eqb b (edge m.shape.align (client_of m) Head) h.0) h.1 kept
+        | inr t ↦ at_tail (b == edge m.shape.align (client_of m) Head) (ne_eqb b (edge m.shape.align (client_of m) Head) t.0) t.2 kept
+      ]
+    where
+      at_head : (t : Bool) → t ≡ true → has m.shape.align (client_of m) Head ≡ true →
+          (length (pad m.pads.pads (cond t Head Tail)) ≡ m.shape.align → filled ≡ pad m.pads.pads (cond t Head Tail)) → filled ≡ pad m.pads.pads (cond t Head Tail)
+      at_head true e wanted kept = kept (s.kept Head wanted)
+      at_head false e wanted kept = absurd (true≢false (sym e))
+
+      at_tail : (t : Bool) → t ≡ false → has m.shape.align (client_of m) Tail ≡ true →
+          (length (pad m.pads.pads (cond t Head Tail)) ≡ m.shape.align → filled ≡ pad m.pads.pads (cond t Head Tail)) → filled ≡ pad m.pads.pads (cond t Head Tail)
+      at_tail true e wanted kept = absurd (true≢false e)
+      at_tail false e wanted kept = kept (s.kept Tail wanted)
+
+  -- the pad over the block to work in, and the covered bytes merged, is the block's content
+  pub is_merged : (places : Places) (bytes work made pad_bytes : List ℕ) (end : Side) → places ≡ span_of (client_of m) → bytes ≡ m.body → length work ≡ m.shape.align →
+      end ≡ cond (b == edge m.shape.align (client_of m) Head) Head Tail → pad_bytes ≡ pad m.pads.pads end →
+      ((i : ℕ) → i < length work → get_or made i 0 ≡ merged_place places bytes (b * length work + i) (get_or (cond (length pad_bytes == length work) pad_bytes work) i 0)) →
+      IsMerged m.shape.align (client_of m) m.pads.pads b made
+  is_merged places bytes work made pad_bytes end same bytes_is whole end_is pad_is merged x below =
+      (rw (same, bytes_is, whole, pad_is, end_is) at (merged x (omega (arith, whole, below)))) ∙ choice (covers (client_of m) (b * m.shape.align + x)) refl
+    where
+      written : m.body ≡ bytes_of m.ask.kind m.body
+      written = sym (ap (λ (k : Kind). bytes_of k m.body) s.writing)
+
+      choice : (t : Bool) → covers (client_of m) (b * m.shape.align + x) ≡ t →
+          cond t (get_or m.body (b * m.shape.align + x - (span_of (client_of m)).lo) 0)
+          (get_or (cond (length (pad m.pads.pads (cond (b == edge m.shape.align (client_of m) Head) Head Tail)) == m.shape.align)
+          (pad m.pads.pads (cond (b == edge m.shape.align (client_of m) Head) Head Tail)) work) x 0)
+          ≡ cond t (body_at (client_of m) (b * m.shape.align + x)) (get_or (pad m.pads.pads (cond (b == edge m.shape.align (client_of m) Head) Head Tail)) x 0)
+      choice true e = ap (λ (xs : List ℕ). get_or xs (b * m.shape.align + x - (span_of (client_of m)).lo) 0) written
+      choice false e = ap (λ (xs : List ℕ). get_or xs x 0) (uncovered _ x below e (λ long. kept_pad _ _ work long))
