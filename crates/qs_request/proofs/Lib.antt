@@ -4,3 +4,4 @@ pub mod Loads
 pub mod Merges
 pub mod Made
 pub mod Rows
+pub mod Wanted

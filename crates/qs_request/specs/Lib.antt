@@ -4,3 +4,4 @@ pub mod Rows
 pub mod Value
 pub mod Kept
 pub mod Inside
+pub mod Operations

@@ -2,6 +2,7 @@
 //! daemon, and what the part's answer makes of it.
 #![tactic(auto)]
 
+pub mod laws;
 mod machine;
 mod making;
 mod moves;
@@ -10,6 +11,8 @@ mod replies;
 pub mod req;
 pub mod shape;
 mod stage;
+#[cfg(test)]
+mod tests;
 pub mod todo;
 
 pub use req::Req;

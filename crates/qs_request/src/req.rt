@@ -85,6 +85,13 @@ impl Req {
         self.machine.ask
     }
 
+    /// The image that it goes to.
+    pub fn shape(&self) -> Shape
+        ensures { result ≡ self.now.shape }
+    {
+        self.machine.shape
+    }
+
     /// Whether the answer is next.
     pub fn is_ready(&self) -> bool
         ensures { IsTrue result ↔ IsReady self.now.request.stage }
