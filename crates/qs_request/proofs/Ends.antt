@@ -1,14 +1,12 @@
 -- The blocks that a span covers only in part are the head and the tail.
-use Rattle.std.proofs.Common.{◌≡◌, ◌≢◌, ℕ, ◌+◌, ◌*◌, ◌<◌, ◌≤◌, ◌⊎◌, inl, inr, Bool, true, false, not, ◌||◌, nat_lt, ◌==◌, Option, Some, None, is_some, refl, sym, ap, ◌∙◌, arith, true≢false}
+use Rattle.std.proofs.Common.{◌≡◌, ◌≢◌, ℕ, ◌+◌, ◌*◌, ◌<◌, ◌≤◌, Bool, true, false, Option, Some, None, is_some, refl, sym, ◌∙◌, arith, true≢false}
 use Rattle.std.specs.Option.{SomeIff}
-use Rattle.std.proofs.lemmas.Bool.Decides.{nat_tests}
 use Rattle.qs_bytes.specs.Spans.{Places}
 use Rattle.qs_padding.specs.Padding.{first_block, last_block, CoversBlock}
-use Rattle.qs_part.specs.declared.stripe.Side.{Side}
 use Rattle.qs_part.specs.declared.stripe.Side.TheVariants.{Head, Tail}
 use Rattle.qs_model.specs.Requests.{Client, edge, has, span_of}
 use Rattle.qs_model.proofs.Basics.{blocks_lt}
-use Rattle.qs_model.proofs.Geometry.{head_low, head_high, head_reached, has_head, has_tail, tail_other, head_test}
+use Rattle.qs_model.proofs.Geometry.{head_low, head_high, head_reached, has_tail, tail_other, head_test}
 use Rattle.qs_request.specs.declared.machine.Machine.{Machine}
 use Rattle.qs_request.specs.Inside.{IsKept, HasPads, client_of}
 

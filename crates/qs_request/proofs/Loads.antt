@@ -1,13 +1,13 @@
 -- A READ's bytes, block by block.
-use Rattle.std.proofs.Common.{◌≡◌, ◌≢◌, ℕ, ◌+◌, ◌-◌, ◌*◌, min, max, ◌<◌, ◌≤◌, Bool, true, false, ◌==◌, cond, List, [], ◌++◌, length, take, drop, refl, sym, ap, ◌∙◌, subst, arith, append_assoc, append-nil, length-append, length-take-le, true≢false}
+use Rattle.std.proofs.Common.{◌≡◌, ◌≢◌, ℕ, ◌+◌, ◌-◌, ◌*◌, min, max, ◌<◌, ◌≤◌, Bool, true, false, ◌==◌, cond, List, [], ◌++◌, length, take, drop, refl, sym, ap, ◌∙◌, subst, arith, append-nil, true≢false}
 use Rattle.std.proofs.lemmas.List.{take_at, drop_all}
-use Rattle.qs_bytes.specs.Pieces.{part, overlay}
+use Rattle.qs_bytes.specs.Pieces.{overlay}
 use Rattle.qs_bytes.proofs.Overlays.{front-overlay, length-overlay}
 use Rattle.qs_bytes.specs.declared.ask.Kind.{Kind}
-use Rattle.qs_bytes.specs.declared.ask.Kind.TheVariants.{Read, Write}
+use Rattle.qs_bytes.specs.declared.ask.Kind.TheVariants.{Read}
 use Rattle.qs_bytes.specs.declared.ask.Verdict.TheVariants.{Got, Fine}
 use Rattle.qs_part.specs.declared.stripe.Side.TheVariants.{Head, Tail}
-use Rattle.qs_model.specs.Requests.{Client, Step, In, ToLoad, ToEnd, edge, is_read, is_write, reads, span_of, piece, loaded, started, success}
+use Rattle.qs_model.specs.Requests.{Client, Step, In, ToLoad, ToEnd, edge, is_read, reads, span_of, piece, loaded, started, success}
 use Rattle.qs_model.proofs.Basics.{blocks_lt}
 use Rattle.qs_model.proofs.Machine.{length-piece, other_block}
 use Rattle.qs_model.proofs.Geometry.{head_low, tail_low, tail_high, same_eqb}
@@ -18,7 +18,7 @@ use Rattle.qs_request.specs.declared.stage.Step.{Step as Next}
 use Rattle.qs_request.specs.declared.stage.Step.TheVariants.{Load as LoadNext, End as EndNext}
 use Rattle.qs_request.specs.declared.machine.Machine.{Machine}
 use Rattle.qs_request.specs.Shapes.{IsShape}
-use Rattle.qs_request.specs.Inside.{IsLoading, IsReached, IsPlaced, HasBuffers, before, client_of, stage_of, step_of, way_of}
+use Rattle.qs_request.specs.Inside.{IsLoading, IsPlaced, HasBuffers, before, client_of, stage_of, step_of, way_of}
 use Rattle.qs_request.specs.Value.{bytes_of}
 use Rattle.qs_request.proofs.Reached.{some_bytes, reaches, placed, one_more}
 

@@ -14,7 +14,7 @@ use Rattle.qs_request.specs.declared.stage.Stage.TheVariants.{Ready as ReadyAt, 
 use Rattle.qs_request.specs.declared.machine.Machine.{Machine}
 use Rattle.qs_request.specs.Shapes.{IsShape}
 use Rattle.qs_request.specs.Value.{bytes_of, given_bytes, has_buffers, client_for}
-use Rattle.qs_request.specs.Inside.{HasBuffers, IsAsked, IsFree, IsSound, Stands, client_of, first_stage, request_of, stage_of}
+use Rattle.qs_request.specs.Inside.{IsFree, Stands, client_of, first_stage, request_of, stage_of}
 
 pub first_is : (m : Machine) (a : Ask) (buffered : Bool) →
     stage_of m (first_stage a buffered) ≡ cond (form_error a) (Ready (Refused Inval)) (cond buffered Entering (Ready (Refused NoMem)))

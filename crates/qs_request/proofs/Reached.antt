@@ -1,11 +1,10 @@
 -- The blocks that a request reaches lie inside the image.
-use Rattle.std.proofs.Common.{◌≡◌, ℕ, zero, suc, ◌+◌, ◌-◌, ◌*◌, ◌/◌, ◌%◌, ◌^◌, min, ◌<◌, ◌≤◌, ◌⊎◌, inl, inr, refl, sym, ap, ◌∙◌, subst, arith}
+use Rattle.std.proofs.Common.{◌≡◌, ℕ, zero, suc, ◌+◌, ◌*◌, ◌/◌, ◌%◌, min, ◌<◌, ◌≤◌, inl, inr, sym, subst, arith}
 use Rattle.qs_part.specs.declared.stripe.Side.{Side}
 use Rattle.qs_part.specs.declared.stripe.Side.TheVariants.{Head, Tail}
-use Rattle.qs_bytes.specs.Spans.{Places, aligned_out, rounded_up}
 use Rattle.qs_model.specs.Requests.{edge, span_of}
 use Rattle.qs_model.proofs.Basics.{blocks_le, blocks_lt, block_at}
-use Rattle.qs_model.proofs.Geometry.{Reaches, head_low, head_high, tail_low, tail_high, head_reached}
+use Rattle.qs_model.proofs.Geometry.{Reaches, head_high, tail_low, head_reached}
 use Rattle.qs_request.specs.declared.shape.Shape.{Shape}
 use Rattle.qs_request.specs.declared.machine.Machine.{Machine}
 use Rattle.qs_request.specs.Shapes.{IsShape}

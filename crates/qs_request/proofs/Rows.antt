@@ -1,13 +1,11 @@
 -- The machine of a request is the model's, row by row.
-use Rattle.std.proofs.Common.{◌≡◌, ℕ, Bool, List, Option, Some, None, refl, sym, ap, ◌∙◌}
-use Rattle.qs_bytes.specs.declared.ask.Verdict.{Verdict}
+use Rattle.std.proofs.Common.{◌≡◌, ℕ, Bool, List, refl, sym, ap}
 use Rattle.qs_part.specs.declared.graph.Route.{Route}
 use Rattle.qs_part.specs.declared.tracker.TrackerReply.TheVariants.{Entered, Quiesced, Full, Listed, Strange, Started, NotYet, Ended}
 use Rattle.qs_part.specs.declared.graph.GraphReply.TheVariants.{Shutting, Routed}
 use Rattle.qs_part.specs.declared.stripe.StripeReply.TheVariants.{Filled, Fault, HeldBy, Taken, Done, Freed, NotHeld}
-use Rattle.qs_part.specs.declared.stripe.Side.{Side}
-use Rattle.qs_model.specs.Requests.{Client, Pads, Req, Stage, In, ToRoute, ToLoad, ToHold, loaded, held, keep, routed}
-use Rattle.qs_model.specs.Acts.{Act, Answers, Waits, Enters, Routes, Shuts, Lists, Starts, Loads, LoadFails, Holds, HoldFails, Stores, StoreFails, Frees, Ends, Wait, Quiesced as WasQuiesced, Full as WasFull, NotYet as WasNotYet, HeldBy as WasHeldBy, Taken as WasTaken, Strange as WasStrange, NotHeld as WasNotHeld}
+use Rattle.qs_model.specs.Requests.{Client, Pads, Req, Stage, In, ToRoute, loaded, held, keep, routed}
+use Rattle.qs_model.specs.Acts.{Act, Waits, Enters, Routes, Shuts, Lists, Starts, Loads, LoadFails, Holds, HoldFails, Stores, StoreFails, Frees, Ends, Wait, Quiesced as WasQuiesced, Full as WasFull, NotYet as WasNotYet, HeldBy as WasHeldBy, Taken as WasTaken, Strange as WasStrange, NotHeld as WasNotHeld}
 use Rattle.qs_model.specs.Steps.{moved}
 use Rattle.qs_model.specs.Histories.{answer_of}
 use Rattle.qs_request.specs.declared.todo.PartReply.{PartReply}

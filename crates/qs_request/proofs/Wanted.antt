@@ -1,5 +1,5 @@
 -- What a part may answer to the operation of a stage is what may be told to a request at it.
-use Rattle.std.proofs.Common.{◌≡◌, ℕ, Bool, List, Option, Some, None, sym, subst}
+use Rattle.std.proofs.Common.{ℕ, Bool, List, Some, subst}
 use Rattle.qs_bytes.specs.Spans.{Places, aligned_out}
 use Rattle.qs_bytes.specs.declared.ask.Verdict.{Verdict}
 use Rattle.qs_part.specs.declared.stripe.Side.{Side}
@@ -12,7 +12,7 @@ use Rattle.qs_part.specs.declared.graph.GraphReply.TheVariants.{Shutting, Routed
 use Rattle.qs_part.specs.declared.stripe.StripeOp.TheVariants.{Load, Hold, Store, Free}
 use Rattle.qs_part.specs.declared.stripe.StripeReply.{StripeReply}
 use Rattle.qs_part.specs.declared.stripe.StripeReply.TheVariants.{Filled, Fault, HeldBy, Taken, Done, Freed, NotHeld}
-use Rattle.qs_model.specs.Requests.{Client, Pads, Req, Stage, Step, ToRoute, ToList, ToStart, ToLoad, ToHold, ToStore, ToFree, ToEnd, Ready, Entering, In, edge, span_of, serial}
+use Rattle.qs_model.specs.Requests.{Client, Pads, Req, Stage, ToRoute, ToList, ToStart, ToLoad, ToHold, ToStore, ToFree, ToEnd, Ready, Entering, In, edge, span_of, serial}
 use Rattle.qs_model.specs.Worlds.{stripe_of}
 use Rattle.qs_request.specs.declared.shape.Shape.{Shape}
 use Rattle.qs_request.specs.declared.todo.Todo.{Todo}
