@@ -1,0 +1,27 @@
+ghost use Rattle.std.specs.Prelude.{◌≡◌, ◌≢◌, ℕ, ◌+◌, ◌≤◌, Bool, List};
+ghost use Rattle.qs_part.specs.declared.graph.Route.{Route as Way};
+ghost use Rattle.qs_part.specs.declared.graph.GraphOp.TheVariants.{Route};
+ghost use Rattle.qs_part.specs.declared.graph.GraphReply.TheVariants.{Routed};
+ghost use Rattle.qs_graph.specs.declared.export.Export.{Export as Standing};
+ghost use Rattle.qs_graph.specs.Table.{GraphValue, fresh, May};
+ghost use Rattle.qs_graph.specs.History.{Entry, Runs, left_by, IsAllowed, SameExport, Stands};
+
+/// In every history of a new graph the graph is allowed.
+pub fn allowed()
+    ensures { (size : ℕ) (file : List ℕ) (read_only : Bool) (es : List Entry) → Runs (fresh size file read_only) es →
+        IsAllowed (left_by (fresh size file read_only) es) }
+{}
+
+/// In every history of a new graph every way lies inside the image.
+pub fn inside()
+    ensures { (size : ℕ) (file : List ℕ) (read_only : Bool) (es : List Entry) (e : ℕ) (way : Way) →
+        Runs (fresh size file read_only) es → May (left_by (fresh size file read_only) es) (Route e) (Routed way) →
+        way.offset + way.size ≤ size }
+{}
+
+/// In every history an export that stands keeps its place, with or without clients.
+pub fn stays()
+    ensures { (v : GraphValue) (es : List Entry) (e : ℕ) (x : Standing) → Runs v es → Stands v e x →
+        (y : Standing) × (Stands (left_by v es) e y × SameExport x y) }
+{}
+
