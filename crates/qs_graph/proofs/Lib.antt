@@ -1,0 +1,3 @@
+pub mod Standing
+pub mod Rights
+pub mod Sound
