@@ -1,3 +1,4 @@
 pub mod Standing
 pub mod Rights
 pub mod Sound
+pub mod Rows

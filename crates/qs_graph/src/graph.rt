@@ -59,7 +59,14 @@ impl Graph {
         self.places.fill(None);
     }
 
-    fn add(&mut self, id: Name, name: Name, node: Name, writable: bool, share_write: bool) -> GraphReply
+    fn add(
+        &mut self,
+        id: Name,
+        name: Name,
+        node: Name,
+        writable: bool,
+        share_write: bool,
+    ) -> GraphReply
         ensures { answers self.old (GraphOp.ExportAdd id name node writable share_write) result self.new }
     {
         if let Some(e) = places::first_alike(&self.places, &id, &name) {

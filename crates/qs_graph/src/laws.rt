@@ -24,4 +24,3 @@ pub fn stays()
     ensures { (v : GraphValue) (es : List Entry) (e : ℕ) (x : Standing) → Runs v es → Stands v e x →
         (y : Standing) × (Stands (left_by v es) e y × SameExport x y) }
 {}
-

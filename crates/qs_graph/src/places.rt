@@ -3,7 +3,7 @@ ghost use Rattle.std.specs.List.{slice_set};
 ghost use Rattle.qs_graph.specs.declared.export.Export.{Export as Standing};
 ghost use Rattle.qs_graph.specs.Exports.{clients_of, counted, export_at, first_against, found_at, has_alike, has_name, is_standing, is_vacant};
 
-use crate::export::{is_same, Export};
+use crate::export::{Export, is_same};
 use qs_bytes::Name;
 
 /// How many exports can stand.
@@ -82,10 +82,7 @@ fn with_clients(place: &Option<Export>, clients: u16) -> Option<Export>
     ensures { result ≡ counted place.now clients }
 {
     match place {
-        Some(export) => Some(Export {
-            clients,
-            ..*export
-        }),
+        Some(export) => Some(Export { clients, ..*export }),
         None => None,
     }
 }
