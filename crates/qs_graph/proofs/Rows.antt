@@ -1,7 +1,7 @@
 -- What the table's rows say of each place, for the crate above.
-use Rattle.std.proofs.Common.{◌≡◌, ◌≢◌, ℕ, ◌+◌, ◌-◌, ◌<◌, ◌≤◌, List, [], ◌∷◌, length, Bool, true, false, refl, sym, ◌∙◌, ap, subst, arith, inl, inr, ◌⊎◌}
+use Rattle.std.proofs.Common.{◌≡◌, ◌≢◌, ℕ, ◌<◌, ◌≤◌, List, [], ◌∷◌, length, Bool, true, false, refl, sym, ◌∙◌, ap, subst, arith, inl, inr, ◌⊎◌}
 use Rattle.std.specs.Prelude.{nat_lt, Option, Some, None, position, option_map, ◌||◌, cond}
-use Rattle.std.specs.List.{position_or_len, slice_set}
+use Rattle.std.specs.List.{position_or_len}
 use Rattle.std.specs.Str.{bytes_eq}
 use Rattle.std.proofs.lemmas.Bool.Decides.{nat_tests}
 use Rattle.std.proofs.lemmas.List.{get_or-set_same, get_or-set_other, get_or_past, length-set}
@@ -13,7 +13,7 @@ use Rattle.qs_part.specs.declared.graph.GraphOp.TheVariants.{ExportAdd, Attach, 
 use Rattle.qs_part.specs.declared.graph.GraphReply.{GraphReply}
 use Rattle.qs_part.specs.declared.graph.GraphReply.TheVariants.{Added, Attached, Detached}
 use Rattle.qs_graph.specs.declared.export.Export.{Export}
-use Rattle.qs_graph.specs.Exports.{clients_of, counted, export_at, found_at, has_alike, has_name, is_standing, is_vacant}
+use Rattle.qs_graph.specs.Exports.{counted, export_at, found_at, has_alike, has_name, is_standing, is_vacant}
 use Rattle.qs_graph.specs.Table.{GraphValue, IsShared, after, placed}
 use Rattle.qs_graph.proofs.Standing.{at_set, none_not, same_export}
 

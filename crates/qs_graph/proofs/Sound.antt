@@ -1,15 +1,14 @@
 -- What each answer keeps of a graph.
-use Rattle.std.proofs.Common.{◌≡◌, ◌≢◌, ℕ, ◌+◌, ◌-◌, ◌≤◌, List, [], ◌∷◌, Bool, true, false, refl, sym, ◌∙◌, ap, subst, arith, inl, inr, ◌⊎◌}
+use Rattle.std.proofs.Common.{◌≡◌, ◌≢◌, ℕ, ◌+◌, ◌-◌, List, [], ◌∷◌, Bool, true, false, refl, sym, ◌∙◌, ap, subst, inl, inr, ◌⊎◌}
 use Rattle.std.specs.Prelude.{Option, Some, None, IsTrue, position, ◌&&◌}
 use Rattle.std.proofs.lemmas.List.Quantifiers.{position-Some}
-use Rattle.qs_part.specs.declared.graph.Route.{Route as Way}
 use Rattle.qs_part.specs.declared.graph.GraphOp.{GraphOp}
-use Rattle.qs_part.specs.declared.graph.GraphOp.TheVariants.{ExportAdd, Find, Attach, Detach, Route}
+use Rattle.qs_part.specs.declared.graph.GraphOp.TheVariants.{ExportAdd, Attach, Detach}
 use Rattle.qs_part.specs.declared.graph.GraphReply.{GraphReply}
-use Rattle.qs_part.specs.declared.graph.GraphReply.TheVariants.{Added, Attached, Detached, Routed}
+use Rattle.qs_part.specs.declared.graph.GraphReply.TheVariants.{Added, Attached, Detached}
 use Rattle.qs_graph.specs.declared.export.Export.{Export}
 use Rattle.qs_graph.specs.declared.export.Right.{Right}
-use Rattle.qs_graph.specs.Exports.{clients_of, conflicts, counted, export_at, is_vacant, made, shares, takes}
+use Rattle.qs_graph.specs.Exports.{clients_of, counted, export_at, is_vacant, made, shares, takes}
 use Rattle.qs_graph.specs.Table.{GraphValue, IsShared, May, after, fresh, placed}
 use Rattle.qs_graph.specs.History.{Entry, IsAllowed, Runs, SameExport, Stands, left_by}
 use Rattle.qs_graph.proofs.Standing.{at_set, nobody, none_against, none_not, same_export}

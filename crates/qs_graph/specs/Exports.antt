@@ -1,5 +1,5 @@
 -- Exports of the file node, and the places where they stand.
-use Rattle.std.specs.Prelude.{ℕ, ◌+◌, ◌-◌, Bool, true, false, not, ◌&&◌, ◌||◌, List, [], ◌∷◌, Option, Some, None, position, find}
+use Rattle.std.specs.Prelude.{ℕ, Bool, true, false, not, ◌||◌, List, [], ◌∷◌, Option, Some, None, position, find}
 use Rattle.std.specs.List.{slice_index_or, list_all, filter_map}
 use Rattle.std.specs.Str.{bytes_eq}
 use Rattle.qs_graph.specs.declared.export.Export.{Export}

@@ -1,5 +1,5 @@
 -- Histories of a graph.
-use Rattle.std.specs.Prelude.{◌≡◌, ◌≢◌, ℕ, Bool, true, false, List, [], ◌∷◌, Some, IsTrue}
+use Rattle.std.specs.Prelude.{◌≡◌, ◌≢◌, ℕ, true, false, List, [], ◌∷◌, Some, IsTrue}
 use Rattle.qs_part.specs.declared.graph.GraphOp.{GraphOp}
 use Rattle.qs_part.specs.declared.graph.GraphReply.{GraphReply}
 use Rattle.qs_graph.specs.declared.export.Export.{Export}

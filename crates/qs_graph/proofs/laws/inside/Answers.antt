@@ -1,4 +1,4 @@
-use Rattle.std.proofs.Common.{◌≡◌, ◌≤◌, ◌+◌, ℕ, ap, arith}
+use Rattle.std.proofs.Common.{◌≡◌, ap, arith}
 use Rattle.qs_part.specs.declared.graph.Route.{Route as Way}
 use Rattle.qs_graph.specs.Table.{fresh}
 use Rattle.qs_graph.proofs.Sound.{left_size}

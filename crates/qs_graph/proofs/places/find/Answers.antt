@@ -1,4 +1,4 @@
-use Rattle.std.proofs.Common.{◌≡◌, ℕ, ◌≤◌, List, [], ◌∷◌, length, Option, position, ◌∙◌, sym, subst, arith}
+use Rattle.std.proofs.Common.{◌≡◌, ℕ, ◌≤◌, List, [], ◌∷◌, length, Option, position, subst, arith}
 use Rattle.qs_graph.specs.declared.export.Export.{Export}
 use Rattle.qs_graph.specs.Exports.{found_at, has_name}
 use Rattle.qs_graph.proofs.places.find.Goals as goal

@@ -1,6 +1,5 @@
 use Rattle.std.proofs.Common.{◌≡◌, ◌∙◌, ℕ, Bool, option_map, ap, refl, sym}
 use Rattle.std.specs.Prelude.{Option, Some, None}
-use Rattle.qs_part.specs.declared.graph.Route.{Route as Way}
 use Rattle.qs_graph.specs.declared.export.Export.{Export}
 use Rattle.qs_graph.specs.Exports.{export_at}
 use Rattle.qs_graph.specs.Table.{GraphValue, route_of}
