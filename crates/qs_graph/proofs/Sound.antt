@@ -2,14 +2,15 @@
 use Rattle.std.proofs.Common.{◌≡◌, ◌≢◌, ℕ, ◌+◌, ◌-◌, List, [], ◌∷◌, Bool, true, false, refl, sym, ◌∙◌, ap, subst, inl, inr, ◌⊎◌}
 use Rattle.std.specs.Prelude.{Option, Some, None, IsTrue, position, ◌&&◌}
 use Rattle.std.proofs.lemmas.List.Quantifiers.{position-Some}
+use Rattle.qs_part.specs.declared.graph.Route.{Route as Way}
 use Rattle.qs_part.specs.declared.graph.GraphOp.{GraphOp}
-use Rattle.qs_part.specs.declared.graph.GraphOp.TheVariants.{ExportAdd, Attach, Detach}
+use Rattle.qs_part.specs.declared.graph.GraphOp.TheVariants.{ExportAdd, Attach, Detach, Route}
 use Rattle.qs_part.specs.declared.graph.GraphReply.{GraphReply}
-use Rattle.qs_part.specs.declared.graph.GraphReply.TheVariants.{Added, Attached, Detached}
+use Rattle.qs_part.specs.declared.graph.GraphReply.TheVariants.{Added, Attached, Detached, Shutting, Routed}
 use Rattle.qs_graph.specs.declared.export.Export.{Export}
 use Rattle.qs_graph.specs.declared.export.Right.{Right}
 use Rattle.qs_graph.specs.Exports.{clients_of, counted, export_at, is_vacant, made, shares, takes}
-use Rattle.qs_graph.specs.Table.{GraphValue, IsShared, May, after, fresh, placed}
+use Rattle.qs_graph.specs.Table.{GraphValue, IsShared, May, after, fresh, placed, route_of}
 use Rattle.qs_graph.specs.History.{Entry, IsAllowed, Runs, SameExport, Stands, left_by}
 use Rattle.qs_graph.proofs.Standing.{at_set, nobody, none_against, none_not, same_export}
 use Rattle.qs_graph.proofs.Rights.{same-shares, same-takes, same-writable, together}
@@ -157,3 +158,18 @@ run_still v [] e x runs at = (x, (at, refl))
 run_still v (i ∷ is) e x runs at =
     still_more (after v i.op i.reply) (left_by (after v i.op i.reply) is) e x
     (λ y h. run_still (after v i.op i.reply) is e y runs.1 h) (after_still v i.op i.reply e x runs.0 at)
+
+-- a Route answers for the export that stands there
+pub route_for : (v : GraphValue) (e : ℕ) (x : Export) (reply : GraphReply) → Stands v e x → May v (Route e) reply →
+    reply ≡ Routed (route_of v.size x)
+route_for v e x Shutting at may = absurd (none_not x (sym may ∙ at))
+route_for v e x (Routed way) at may =
+    ap (λ (w : Way). Routed w) (may.1.1 ∙ ap (λ (y : Export). route_of v.size y) (same_export may.0 x (sym may.1.0 ∙ at)))
+route_for v e x _ at may = absurd may
+
+pub still_way : (v : GraphValue) (es : List Entry) (e : ℕ) (x : Export) (reply : GraphReply) → Still (left_by v es) e x →
+    May (left_by v es) (Route e) reply → reply ≡ Routed (route_of v.size x)
+still_way v es e x reply still may =
+    route_for (left_by v es) e still.0 reply still.1.0 may
+    ∙ ap (λ (size : ℕ). Routed (route_of size still.0)) (left_size v es)
+    ∙ ap (λ (writable : Bool). Routed (record (route_of v.size x) { writable = writable })) (same-writable x still.0 still.1.1)

@@ -1,9 +1,10 @@
 ghost use Rattle.std.specs.Prelude.{◌≡◌, ◌≢◌, ℕ, ◌+◌, ◌≤◌, Bool, List};
 ghost use Rattle.qs_part.specs.declared.graph.Route.{Route as Way};
 ghost use Rattle.qs_part.specs.declared.graph.GraphOp.TheVariants.{Route};
+ghost use Rattle.qs_part.specs.declared.graph.GraphReply.{GraphReply};
 ghost use Rattle.qs_part.specs.declared.graph.GraphReply.TheVariants.{Routed};
 ghost use Rattle.qs_graph.specs.declared.export.Export.{Export as Standing};
-ghost use Rattle.qs_graph.specs.Table.{GraphValue, fresh, May};
+ghost use Rattle.qs_graph.specs.Table.{GraphValue, fresh, route_of, May};
 ghost use Rattle.qs_graph.specs.History.{Entry, Runs, left_by, IsAllowed, SameExport, Stands};
 
 /// In every history of a new graph the graph is allowed.
@@ -19,8 +20,11 @@ pub fn inside()
         way.offset + way.size ≤ size }
 {}
 
-/// In every history an export that stands keeps its place, with or without clients.
+/// In every history an export that stands keeps its place, with or without clients, and each Route
+/// of that place answers for it.
 pub fn stays()
-    ensures { (v : GraphValue) (es : List Entry) (e : ℕ) (x : Standing) → Runs v es → Stands v e x →
+    ensures place { (v : GraphValue) (es : List Entry) (e : ℕ) (x : Standing) → Runs v es → Stands v e x →
         (y : Standing) × (Stands (left_by v es) e y × SameExport x y) }
+    ensures way { (v : GraphValue) (es : List Entry) (e : ℕ) (x : Standing) (reply : GraphReply) → Runs v es → Stands v e x →
+        May (left_by v es) (Route e) reply → reply ≡ Routed (route_of v.size x) }
 {}
