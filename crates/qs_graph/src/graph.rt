@@ -21,7 +21,7 @@ pub struct Graph {
     /// The bytes of the image.
     size: u64,
     /// The name of the file node.
-    file: Name,
+    file: Box<Name>,
     read_only: bool,
     /// The 64 places.
     places: Vec<Option<Export>>,
@@ -33,7 +33,7 @@ impl Model for Graph {
 
     ghost Value = { GraphValue };
 
-    ghost view = { λ g. record { size = g.size; file = g.file; read_only = g.read_only; places = g.places.items } };
+    ghost view = { λ g. record { size = g.size; file = g.file.value; read_only = g.read_only; places = g.places.items } };
 
     ghost invariant = { λ g. length g.places.items ≡ 64 };
 }
@@ -46,7 +46,7 @@ impl Graph {
     {
         Ok(Graph {
             size,
-            file,
+            file: Box::new(alloc, file)?,
             read_only,
             places: Vec::from_array(alloc, [None; PLACES])?,
         })
@@ -76,7 +76,7 @@ impl Graph {
             return GraphReply::NoNode(node);
         }
         if writable && self.read_only {
-            return GraphReply::ReadOnly(self.file);
+            return GraphReply::ReadOnly(*self.file);
         }
         let export = Export::new(id, name, writable, share_write);
         if let Some(other) = places::first_against(&self.places, &export) {
