@@ -13,7 +13,7 @@ use Rattle.qs_part.specs.declared.graph.GraphOp.TheVariants.{ExportAdd, Attach, 
 use Rattle.qs_part.specs.declared.graph.GraphReply.{GraphReply}
 use Rattle.qs_part.specs.declared.graph.GraphReply.TheVariants.{Added, Attached, Detached}
 use Rattle.qs_graph.specs.declared.export.Export.{Export}
-use Rattle.qs_graph.specs.Exports.{counted, export_at, found_at, has_alike, has_name, is_standing, is_vacant}
+use Rattle.qs_graph.specs.Exports.{clients_of, counted, export_at, found_at, has_alike, has_name, is_standing, is_vacant}
 use Rattle.qs_graph.specs.Table.{GraphValue, IsShared, after, placed}
 use Rattle.qs_graph.proofs.Standing.{at_set, none_not, same_export}
 
@@ -143,6 +143,35 @@ counted_same {B = B} f keeps v k n d =
     here : (p : Option Export) → option_map f (counted p n) ≡ option_map f p
     here None = refl
     here (Some x) = ap (λ (b : B). Some b) (keeps x n)
+
+-- a place where an export stands is one of the places
+pub stands_inside : (places : List (Option Export)) (e : ℕ) (x : Export) → export_at places e ≡ Some x → e < length places
+stands_inside places e x at = go (nat_lt e (length places)) refl
+  where
+    go : (b : Bool) → nat_lt e (length places) ≡ b → e < length places
+    go true h = grind (arith, nat_tests)
+    go false h =
+        let past : length places ≤ e = grind (arith, nat_tests) in
+        absurd (none_not x (sym (get_or_past places e None past) ∙ at))
+
+-- the export at this place has so many clients, and every other as many as before
+pub counted_clients : (v : GraphValue) (k n : ℕ) (x : Export) → export_at v.places k ≡ Some x →
+    clients_of (export_at (placed v k (counted (export_at v.places k) n)).places k) ≡ n
+counted_clients v k n x at =
+    ap clients_of (placed_here v k (counted (export_at v.places k) n) (stands_inside v.places k x at))
+    ∙ ap (λ (p : Option Export). clients_of (counted p n)) at
+
+pub counted_others : (v : GraphValue) (k n d : ℕ) → d ≢ k →
+    clients_of (export_at (placed v k (counted (export_at v.places k) n)).places d) ≡ clients_of (export_at v.places d)
+counted_others v k n d apart = ap clients_of (placed_other v k (counted (export_at v.places k) n) d apart)
+
+-- an export with a client stands
+pub counted_stands : (places : List (Option Export)) (e : ℕ) → 0 < clients_of (export_at places e) → (x : Export) × (export_at places e ≡ Some x)
+counted_stands places e some = go (export_at places e) refl some
+  where
+    go : (p : Option Export) → export_at places e ≡ p → 0 < clients_of p → (x : Export) × (export_at places e ≡ Some x)
+    go None at h = absurd (omega (arith, h))
+    go (Some x) at h = (x, at)
 
 -- the places stay as many as they are
 pub after_length : (v : GraphValue) (op : GraphOp) (reply : GraphReply) → length (after v op reply).places ≡ length v.places
