@@ -2,3 +2,4 @@ pub mod Standing
 pub mod Rights
 pub mod Sound
 pub mod Rows
+pub mod Pairs

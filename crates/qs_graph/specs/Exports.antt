@@ -1,5 +1,5 @@
 -- Exports of the file node, and the places where they stand.
-use Rattle.std.specs.Prelude.{ℕ, Bool, true, false, not, ◌||◌, List, [], ◌∷◌, Option, Some, None, position, find}
+use Rattle.std.specs.Prelude.{ℕ, Bool, true, false, not, ◌||◌, List, [], ◌∷◌, Option, Some, None, position, find, option_map}
 use Rattle.std.specs.List.{slice_index_or, list_all, filter_map}
 use Rattle.std.specs.Str.{bytes_eq}
 use Rattle.qs_graph.specs.declared.export.Export.{Export}
@@ -61,6 +61,15 @@ standing places = filter_map (λ place. place) places
 -- the first standing export that a new one conflicts with
 abbrev pub first_against : List (Option Export) → Export → Option Export
 first_against places x = find (conflicts x) (standing places)
+
+abbrev pub first_of_two : Option (Export × Export) → Option (Export × Export) → Option (Export × Export)
+first_of_two None other = other
+first_of_two (Some pair) other = Some pair
+
+-- of some users of a node, in their order, the first pair that conflicts
+abbrev pub conflicting_pair : List Export → Option (Export × Export)
+conflicting_pair [] = None
+conflicting_pair (x ∷ xs) = first_of_two (option_map (λ y. (x, y)) (find (conflicts x) xs)) (conflicting_pair xs)
 
 -- The place of the export that a name means: the one of that name. The empty name means the one
 -- that was made first.

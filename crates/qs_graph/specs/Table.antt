@@ -70,8 +70,8 @@ abbrev pub IsShared : GraphValue → Export → List ℕ → Type 0
 IsShared v x node = IsPermitted v x node × (first_against v.places x ≡ None)
 
 -- The answers to a new export over a node. Users of the file node are the standing exports, in the
--- order in which they were made, and the new one last. No two standing ones conflict, so of the first
--- pair of users that conflict the second is the new one. All memory is taken when the graph is made,
+-- order in which they were made, and the new one last. No two standing ones conflict, so the second of
+-- the first pair of users that conflicts is the new one (the law first_pair). All memory is taken when the graph is made,
 -- so that want of it is never answered.
 abbrev pub MayAdd : GraphValue → Export → List ℕ → GraphReply → Type 0
 MayAdd v x node (Duplicate e) = position (has_alike x.id x.name) v.places ≡ Some e

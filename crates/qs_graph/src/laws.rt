@@ -1,9 +1,10 @@
-ghost use Rattle.std.specs.Prelude.{◌≡◌, ◌≢◌, ℕ, ◌+◌, ◌≤◌, Bool, List};
+ghost use Rattle.std.specs.Prelude.{◌≡◌, ◌≢◌, ℕ, ◌+◌, ◌≤◌, Bool, List, [], ◌∷◌, ◌++◌, option_map};
 ghost use Rattle.qs_part.specs.declared.graph.Route.{Route as Way};
 ghost use Rattle.qs_part.specs.declared.graph.GraphOp.TheVariants.{Route};
 ghost use Rattle.qs_part.specs.declared.graph.GraphReply.{GraphReply};
 ghost use Rattle.qs_part.specs.declared.graph.GraphReply.TheVariants.{Routed};
 ghost use Rattle.qs_graph.specs.declared.export.Export.{Export as Standing};
+ghost use Rattle.qs_graph.specs.Exports.{conflicting_pair, first_against, standing};
 ghost use Rattle.qs_graph.specs.Table.{GraphValue, fresh, route_of, May};
 ghost use Rattle.qs_graph.specs.History.{Entry, Runs, left_by, IsAllowed, SameExport, Stands};
 
@@ -11,6 +12,16 @@ ghost use Rattle.qs_graph.specs.History.{Entry, Runs, left_by, IsAllowed, SameEx
 pub fn allowed()
     ensures { (size : ℕ) (file : List ℕ) (read_only : Bool) (es : List Entry) → Runs (fresh size file read_only) es →
         IsAllowed (left_by (fresh size file read_only) es) }
+{}
+
+/// In every history of a new graph: the users of the file node are the standing exports in the order
+/// in which they were made, and a new one last. The first pair of them that conflicts is the first
+/// standing one that the new one conflicts with, and the new one.
+pub fn first_pair()
+    ensures { (size : ℕ) (file : List ℕ) (read_only : Bool) (es : List Entry) (new : Standing) →
+        Runs (fresh size file read_only) es →
+        let places = (left_by (fresh size file read_only) es).places in
+        conflicting_pair (standing places ++ new ∷ []) ≡ option_map (λ (x : Standing). (x, new)) (first_against places new) }
 {}
 
 /// In every history of a new graph every way lies inside the image.
