@@ -1,4 +1,4 @@
-ghost use Rattle.std.specs.Prelude.{◌≡◌, ◌≢◌, ℕ, ◌+◌, ◌≤◌, Bool, List, [], ◌∷◌, ◌++◌, option_map};
+ghost use Rattle.std.specs.Prelude.{◌≡◌, ℕ, ◌+◌, ◌≤◌, Bool, List, [], ◌∷◌, ◌++◌, option_map};
 ghost use Rattle.qs_part.specs.declared.graph.Route.{Route as Way};
 ghost use Rattle.qs_part.specs.declared.graph.GraphOp.TheVariants.{Route};
 ghost use Rattle.qs_part.specs.declared.graph.GraphReply.{GraphReply};
