@@ -9,6 +9,7 @@ fn blocks_that_are_covered_in_part_are_planned(rt: HostRuntime) -> Result<(), Fa
         (100, 200, 512, (0, 512), Some(0), None),
         (100, 1000, 512, (0, 1536), Some(0), Some(2)),
         (512, 600, 512, (512, 1536), None, Some(2)),
+        (510, 4, 512, (0, 1024), Some(0), Some(1)),
         (600, 424, 512, (512, 1024), Some(1), None),
         (512, 4096, 4096, (0, 8192), Some(0), Some(1)),
         (
@@ -47,5 +48,17 @@ fn covered_bytes_are_merged(rt: HostRuntime) -> Result<(), Fail> {
         merge(&mut block, b, &span, &[1, 2, 3, 4, 5]);
         assert_eq!(rt; block, merged);
     }
+    Ok(())
+}
+
+#[test]
+fn four_bytes_over_two_blocks_are_merged(rt: HostRuntime) -> Result<(), Fail> {
+    let span = Span::of(510, 4).ok_or("no span")?;
+    let mut head = [9; 512];
+    merge(&mut head, 0, &span, &[1, 2, 3, 4]);
+    assert_eq!(rt; &head[508..], [9, 9, 1, 2].as_slice());
+    let mut tail = [9; 512];
+    merge(&mut tail, 1, &span, &[1, 2, 3, 4]);
+    assert_eq!(rt; &tail[..4], [3, 4, 9, 9].as_slice());
     Ok(())
 }
