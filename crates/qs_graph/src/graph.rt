@@ -59,6 +59,13 @@ impl Graph {
         self.places.fill(None);
     }
 
+    /// The name of the file node.
+    pub fn file(&self) -> Name
+        ensures { result ≡ self.now.file }
+    {
+        *self.file
+    }
+
     fn add(
         &mut self,
         id: Name,
