@@ -1,5 +1,5 @@
 -- Histories: fronts of one list, calls by the numbers that made them, runs of a part.
-use Rattle.std.proofs.Common.{◌≡◌, ℕ, ◌<◌, ◌≤◌, Bool, true, false, List, [], ◌∷◌, ◌++◌, length, refl, sym, ap, ◌∙◌, subst, inl, inr, ⊎_elim, append_assoc, append-nil, length-append, arith}
+use Rattle.std.proofs.Common.{◌≡◌, ℕ, ◌+◌, ◌<◌, ◌≤◌, Bool, true, false, List, [], ◌∷◌, ◌++◌, length, refl, sym, ap, ◌∙◌, subst, inl, inr, ⊎_elim, append_assoc, append-nil, length-append, arith}
 use Rattle.std.specs.Prelude.{◌==◌, nat_lt, ◌||◌, if◌then◌else◌}
 use Rattle.std.proofs.lemmas.List.{map-append}
 use Rattle.std.proofs.lemmas.Bool.Decides.{nat_tests}
@@ -40,6 +40,14 @@ module _ {A : Type 0} where
     where
       no : (rest : List A) → [] ≡ z ∷ rest → ⊥
       no rest e = cc
+
+  -- two lists put together are as long as both
+  pub merges_length : (xs ys zs : List A) → Merges xs ys zs → length zs ≡ length xs + length ys
+  merges_length xs ys [] m = let a = ap length m.0 in let b = ap length m.1 in omega arith
+  merges_length xs ys (z ∷ zs) m = ⊎_elim
+      (λ (t : (rest : List A) × (xs ≡ z ∷ rest) × Merges rest ys zs). let h = merges_length t.0 ys zs t.2 in let a = ap length t.1 in omega arith)
+      (λ (t : (rest : List A) × (ys ≡ z ∷ rest) × Merges xs rest zs). let h = merges_length xs t.0 zs t.2 in let a = ap length t.1 in omega arith)
+      m
 
 module _ {O R : Type 0} where
   pub calls_snoc : (log : List (Entry O R)) (e : Entry O R) → calls (log ++ e ∷ []) ≡ calls log ++ e.call ∷ []

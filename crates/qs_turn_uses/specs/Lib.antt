@@ -1,0 +1,3 @@
+pub mod Tallies
+pub mod Trackers
+pub mod Ticks
