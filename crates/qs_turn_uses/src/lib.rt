@@ -3,6 +3,7 @@
 #![tactic(auto)]
 
 pub mod calls;
+pub mod rows;
 pub mod tally;
 #[cfg(test)]
 mod tests;

@@ -2,7 +2,8 @@
 ghost use Rattle.std.specs.Prelude.{◌≡◌, ◌*◌, ◌^◌, ◌<◌, IfOk};
 ghost use Rattle.qs_turn_uses.specs.Tallies.{counts, tally_fixed, tally_fits};
 ghost use Rattle.qs_turn_uses.specs.Ticks.{Ticked};
-ghost use Rattle.qs_turn.specs.Words.{IsPassOf};
+ghost use Rattle.qs_turn.specs.Histories.{lawful};
+ghost use Rattle.qs_turn.specs.Words.{opening, IsPassOf, Calls};
 
 use qs_bytes::Memory;
 use qs_part::part::Part;
@@ -42,13 +43,22 @@ impl Part for Tally {
     }
 }
 
+/// Makes one call: the number that the tally answers.
+pub fn next<R: Wait>(rt: &R, turn: &Turn<Tally>, pass: &mut Pass<Tally>, request: u64) -> u64
+    requires { IsPassOf turn.now pass.old }
+    ensures turn { IsPassOf turn.now pass.new }
+    ensures call { Calls (lawful counts tally_fixed) (opening turn.now) pass.old request tt result pass.new }
+{
+    turn.call(rt, pass, request, ())
+}
+
 /// Makes `n` calls, and gives the pass back.
 pub fn tick<R: Wait>(rt: &R, turn: &Turn<Tally>, mut pass: Pass<Tally>, n: u64) -> Pass<Tally>
     requires { IsPassOf turn.now pass }
     ensures { Ticked turn.now n pass result }
 {
     for i in 0..n {
-        turn.call(rt, &mut pass, i, ());
+        next(rt, turn, &mut pass, i);
     }
     pass
 }

@@ -1,0 +1,68 @@
+//! Rows of turns of one kind, with a row of passes, one for each turn.
+ghost use Rattle.std.specs.Prelude.{◌≡◌, ◌≤◌, [], length, IfOk, IfErr, vec_capacity};
+ghost use Rattle.qs_turn.specs.Histories.{lawful};
+ghost use Rattle.qs_turn.specs.Words.{IsPassOf, Joined};
+ghost use Rattle.qs_turn_uses.specs.Rows.{Pairs, Triples, Each, IsFirst, IsOther, IsAlone, Forked, Closed};
+
+use qs_bytes::Memory;
+use qs_part::part::Part;
+use qs_turn::turn::{Pass, Turn};
+use std::alloc::Global;
+
+/// Splits a pass off the first pass of each turn.
+///
+/// The memory for the new row is taken first: where it is refused, nothing is split.
+pub fn split_all<P: Part>(
+    alloc: Global,
+    turns: &[Turn<P>],
+    passes: &mut Vec<Pass<P>>,
+) -> Result<Vec<Pass<P>>, Memory>
+    requires turns { Pairs IsPassOf turns.now passes.old.items }
+    requires first { Each IsFirst passes.old.items }
+    ensures err { IfErr result (λ _. passes.new ≡ passes.old) }
+    ensures turns { IfOk result (λ given. Pairs IsPassOf turns.now passes.new.items × Pairs IsPassOf turns.now given.items) }
+    ensures forked { IfOk result (λ given. Triples Forked passes.old.items passes.new.items given.items) }
+{
+    let mut given = Vec::with_capacity(alloc, turns.len())?;
+    for i in 0..turns.len() {
+        given.push_reserved(turns[i].split(&mut passes[i]));
+    }
+    Ok(given)
+}
+
+/// Joins each pass of a row into the first pass of its turn.
+pub fn join_all<P: Part>(
+    turns: &[Turn<P>],
+    passes: &mut Vec<Pass<P>>,
+    mut others: Vec<Pass<P>>,
+)
+    requires turns { Pairs IsPassOf turns.now passes.old.items × Pairs IsPassOf turns.now others.items }
+    requires first { Each IsFirst passes.old.items × Each IsOther others.items }
+    ensures turns { Pairs IsPassOf turns.now passes.new.items }
+    ensures joined { Triples Joined passes.old.items others.items passes.new.items }
+{
+    while let Some(other) = others.pop() {
+        let i = others.len();
+        turns[i].join(&mut passes[i], other);
+    }
+}
+
+/// Closes each turn, and gives the parts in the order of the turns, in the vector that was given
+/// for them.
+pub fn close_all<P: Part>(
+    mut turns: Vec<Turn<P>>,
+    mut passes: Vec<Pass<P>>,
+    mut parts: Vec<P>,
+) -> Vec<P>
+    requires turns { Pairs IsPassOf turns.items passes.items }
+    requires first { Each IsAlone passes.items }
+    requires room { (parts.items ≡ []) × (length turns.items ≤ vec_capacity parts) }
+    ensures { Triples (Closed (lawful P.legal P.fixed_of)) turns.items passes.items result.items }
+{
+    while let Some(turn) = turns.pop() {
+        let Some(pass) = passes.pop() else { unreachable!() };
+        parts.push_reserved(turn.close(pass));
+    }
+    parts.reverse();
+    parts
+}
