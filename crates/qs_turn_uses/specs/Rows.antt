@@ -1,10 +1,11 @@
 -- Rows: lists whose members at one place belong together.
 use Rattle.std.specs.Prelude.{◌≡◌, ℕ, ◌+◌, true, false, List, [], length, slice_get, Some}
+use Rattle.std.specs.List.{slice_set}
 use Rattle.qs_turn.specs.declared.view.View.{View}
 use Rattle.std.specs.declared.snapshot.Snapshot.{Snapshot}
 use Rattle.qs_turn.specs.Histories.{Runs}
 use Rattle.qs_turn.specs.Names.{Name, Known}
-use Rattle.qs_turn.specs.Words.{opening, is_first, seen, own, out}
+use Rattle.qs_turn.specs.Words.{opening, is_first, seen, own, out, IsPassOf, Joined}
 
 -- two rows are as long, and the members at each place belong together
 pub record Pairs {A B : Type 0} (Rel : A → B → Type 0) (xs : List A) (ys : List B) : Type 0 where
@@ -46,3 +47,15 @@ IsAlone k = (is_first k ≡ true) × (out k ≡ 0)
 pub record Closed {P O R : Type 0} (may : P → O → R → P → Type 0) (t : Name (Snapshot P)) (k : Known (View P O R)) (p : P) : Type 0 where
   pub stands : Runs may (opening t) (seen k) p
   pub whole : own k ≡ seen k
+
+-- a pass is of the turn at a place
+abbrev pub IsPassAt : {P O R : Type 0} → List (Name (Snapshot P)) → ℕ → Known (View P O R) → Type 0
+IsPassAt {P} ts i k = (t : Name (Snapshot P)) → slice_get ts i ≡ Some t → IsPassOf t k
+
+-- a pass was joined into the one at a place, and no other changed
+pub record JoinedAt {P O R : Type 0} (i : ℕ) (ks : List (Known (View P O R))) (other : Known (View P O R)) (ns : List (Known (View P O R))) : Type 0 where
+  pub old : Known (View P O R)
+  pub new : Known (View P O R)
+  pub was : slice_get ks i ≡ Some old
+  pub now : ns ≡ slice_set ks i new
+  pub joined : Joined old other new

@@ -1,8 +1,8 @@
 //! Rows of turns of one kind, with a row of passes, one for each turn.
-ghost use Rattle.std.specs.Prelude.{◌≡◌, ◌≤◌, [], length, IfOk, IfErr, vec_capacity};
+ghost use Rattle.std.specs.Prelude.{◌≡◌, ◌<◌, ◌≤◌, [], length, IfOk, IfErr, vec_capacity};
 ghost use Rattle.qs_turn.specs.Histories.{lawful};
 ghost use Rattle.qs_turn.specs.Words.{IsPassOf, Joined};
-ghost use Rattle.qs_turn_uses.specs.Rows.{Pairs, Triples, Each, IsFirst, IsOther, IsAlone, Forked, Closed};
+ghost use Rattle.qs_turn_uses.specs.Rows.{Pairs, Triples, Each, IsFirst, IsOther, IsAlone, Forked, Closed, IsPassAt, JoinedAt};
 
 use qs_bytes::Memory;
 use qs_part::part::Part;
@@ -30,20 +30,27 @@ pub fn split_all<P: Part>(
     Ok(given)
 }
 
+/// Joins a pass into the first pass of the turn at a place.
+pub fn join_at<P: Part>(turns: &[Turn<P>], passes: &mut Vec<Pass<P>>, place: usize, other: Pass<P>)
+    requires turns { Pairs IsPassOf turns.now passes.old.items }
+    requires first { Each IsFirst passes.old.items × IsOther other }
+    requires place { place < length turns.now }
+    requires other { IsPassAt turns.now place other }
+    ensures turns { Pairs IsPassOf turns.now passes.new.items }
+    ensures joined { JoinedAt place passes.old.items other passes.new.items }
+{
+    turns[place].join(&mut passes[place], other);
+}
+
 /// Joins each pass of a row into the first pass of its turn.
-pub fn join_all<P: Part>(
-    turns: &[Turn<P>],
-    passes: &mut Vec<Pass<P>>,
-    mut others: Vec<Pass<P>>,
-)
+pub fn join_all<P: Part>(turns: &[Turn<P>], passes: &mut Vec<Pass<P>>, mut others: Vec<Pass<P>>)
     requires turns { Pairs IsPassOf turns.now passes.old.items × Pairs IsPassOf turns.now others.items }
     requires first { Each IsFirst passes.old.items × Each IsOther others.items }
     ensures turns { Pairs IsPassOf turns.now passes.new.items }
     ensures joined { Triples Joined passes.old.items others.items passes.new.items }
 {
     while let Some(other) = others.pop() {
-        let i = others.len();
-        turns[i].join(&mut passes[i], other);
+        join_at(turns, passes, others.len(), other);
     }
 }
 
@@ -60,7 +67,9 @@ pub fn close_all<P: Part>(
     ensures { Triples (Closed (lawful P.legal P.fixed_of)) turns.items passes.items result.items }
 {
     while let Some(turn) = turns.pop() {
-        let Some(pass) = passes.pop() else { unreachable!() };
+        let Some(pass) = passes.pop() else {
+            unreachable!()
+        };
         parts.push_reserved(turn.close(pass));
     }
     parts.reverse();

@@ -1,37 +1,21 @@
-use Rattle.std.proofs.Common.{rules, ◌≡◌, ◌≤◌, [], length, IfOk, IfErr, vec_capacity, ℕ, ◌+◌, ◌-◌, ◌*◌, ◌<◌, ◌/◌, ◌%◌, Bool, true, false, nat_eq, nat_lt, List, ◌∷◌, ◌++◌, slice_index_or, slice_set, bit_and, bit_or, Fits, w8, w32, w64, Bor, MutBor}
+use Rattle.std.proofs.Common.{ℕ, sym, subst}
 use Rattle.qs_turn.specs.Histories.{lawful}
-use Rattle.qs_turn.specs.Words.{IsPassOf, Joined}
-use Rattle.qs_turn_uses.specs.Rows.{Pairs, Triples, Each, IsFirst, IsOther, IsAlone, Forked, Closed}
+use Rattle.qs_turn_uses.proofs.Closes.{Closing, closing_none, closing_pair, closing_more}
 use Rattle.qs_turn_uses.proofs.rows.close_all.Goals as goal
 
--- src/rows.rt:62:5
 pub loop-turn-init : goal.loop-turn-init
-loop-turn-init g c = ?
+loop-turn-init g c = closing_none _ _ _ _ _ c.requires.turns.long c.requires.room.0 c.requires.room.1
 
--- src/rows.rt:63:46
-pub unreachable-requires : goal.unreachable-requires
-unreachable-requires g c = ?
-
--- src/rows.rt:64:29
 pub close-requires-clause-turn : goal.close-requires-clause-turn
-close-requires-clause-turn g c = ?
+close-requires-clause-turn g c =
+    (closing_pair _ _ _ _ _ _ _ _ _ _ _ c.loop-turn.invariant c.in-Some.ensures.items c.in-Some-pop.ensures.items c.requires.turns c.requires.first).0
 
--- src/rows.rt:64:29
 pub close-requires-clause-first : goal.close-requires-clause-first
-close-requires-clause-first g c = ?
+close-requires-clause-first g c =
+    (closing_pair _ _ _ _ _ _ _ _ _ _ _ c.loop-turn.invariant c.in-Some.ensures.items c.in-Some-pop.ensures.items c.requires.turns c.requires.first).1
 
--- src/rows.rt:64:9
-pub push_reserved-requires : goal.push_reserved-requires
-push_reserved-requires g c = ?
-
--- src/rows.rt:62:5
-pub loop-turn-smaller : goal.loop-turn-smaller
-loop-turn-smaller g c = ?
-
--- src/rows.rt:62:5
 pub loop-turn-preserved : goal.loop-turn-preserved
-loop-turn-preserved g c = ?
-
--- src/rows.rt:52:1
-pub returns : goal.returns
-returns g c = ?
+loop-turn-preserved g c =
+    subst (λ (n : ℕ). Closing (lawful g.P.Part.legal g.P.Part.fixed_of) c.args.turns.items c.args.passes.items c.pop.new.self.items c.pop-in-Some.new.self.items c.push_reserved.new.self.items n) (sym c.push_reserved.ensures.capacity)
+    (closing_more _ _ _ _ _ _ _ _ _ _ c.in-Some.turn c.in-Some-pop.pass c.close.result c.loop-turn.invariant c.in-Some.ensures.items c.in-Some-pop.ensures.items c.push_reserved.ensures.items
+    (record { stands = c.close.ensures.part; whole = c.close.ensures.own }))

@@ -1,41 +1,32 @@
-use Rattle.std.proofs.Common.{rules, ◌≡◌, ◌≤◌, [], length, IfOk, IfErr, vec_capacity, ℕ, ◌+◌, ◌-◌, ◌*◌, ◌<◌, ◌/◌, ◌%◌, Bool, true, false, nat_eq, nat_lt, List, ◌∷◌, ◌++◌, slice_index_or, slice_set, bit_and, bit_or, Fits, w8, w32, w64, Bor, MutBor}
-use Rattle.qs_turn.specs.Histories.{lawful}
-use Rattle.qs_turn.specs.Words.{IsPassOf, Joined}
-use Rattle.qs_turn_uses.specs.Rows.{Pairs, Triples, Each, IsFirst, IsOther, IsAlone, Forked, Closed}
+use Rattle.std.proofs.Common.{◌≡◌, ℕ, length, slice_get, ap, sym, ◌∙◌, subst, [], arith}
+use Rattle.qs_turn_uses.specs.Rows.{JoinedAt}
+use Rattle.qs_turn_uses.proofs.Places.{get_mid, joining_none, joining_more, join_each}
 use Rattle.qs_turn_uses.proofs.rows.join_all.Goals as goal
 
--- src/rows.rt:44:5
 pub loop-other-init : goal.loop-other-init
-loop-other-init g c = ?
+loop-other-init g c = joining_none _ _ _ c.requires.turns.0 c.requires.first.0 (sym c.requires.turns.1.long)
 
--- src/rows.rt:46:9
-pub offset_bounds-turns-i : goal.offset_bounds-turns-i
-offset_bounds-turns-i g c = ?
+pub join_at-requires-clause-first : goal.join_at-requires-clause-first
+join_at-requires-clause-first g c =
+    let s = c.loop-other.invariant in
+    let left = c.pop.new.self.items in
+    (s.first, c.requires.first.1 (length left) c.in-Some.other (s.front (length left) c.in-Some.other (ap (λ l. slice_get l (length left)) c.in-Some.ensures.items ∙ get_mid left c.in-Some.other [])))
 
--- src/rows.rt:46:9
-pub bounds-turns-i : goal.bounds-turns-i
-bounds-turns-i g c = ?
+pub join_at-requires-clause-other : goal.join_at-requires-clause-other
+join_at-requires-clause-other g c t e =
+    let s = c.loop-other.invariant in
+    let left = c.pop.new.self.items in
+    let there = s.front (length left) c.in-Some.other (ap (λ l. slice_get l (length left)) c.in-Some.ensures.items ∙ get_mid left c.in-Some.other []) in
+    let place : c.len.result ≡ length left = omega arith in
+    c.requires.turns.1.each (length left) t c.in-Some.other (ap (slice_get c.args.turns.now) (sym place) ∙ e) there
 
--- src/rows.rt:46:28
-pub index_mut-requires : goal.index_mut-requires
-index_mut-requires g c = ?
-
--- src/rows.rt:46:9
-pub join-requires-clause-turn : goal.join-requires-clause-turn
-join-requires-clause-turn g c = ?
-
--- src/rows.rt:46:9
-pub join-requires-clause-first : goal.join-requires-clause-first
-join-requires-clause-first g c = ?
-
--- src/rows.rt:44:5
 pub loop-other-preserved : goal.loop-other-preserved
-loop-other-preserved g c = ?
+loop-other-preserved g c =
+    let place : c.len.result ≡ length c.pop.new.self.items = omega arith in
+    let at = subst (λ (n : ℕ). JoinedAt n c.loop-other.passes.items c.in-Some.other c.join_at.new.passes.items) place c.join_at.ensures.joined in
+    joining_more _ _ _ _ _ _ _ _ c.loop-other.invariant c.in-Some.ensures.items c.join_at.ensures.turns at
 
--- src/rows.rt:34:1
-pub returns-clause-turns : goal.returns-clause-turns
-returns-clause-turns g c = ?
-
--- src/rows.rt:34:1
 pub returns-clause-joined : goal.returns-clause-joined
-returns-clause-joined g c = ?
+returns-clause-joined g c =
+    let none : length c.loop-other.others.items ≡ 0 = (let z = c.in_default.ensures.cases.0 in omega arith) in
+    join_each _ _ _ _ _ c.loop-other.invariant none (sym c.requires.turns.1.long)

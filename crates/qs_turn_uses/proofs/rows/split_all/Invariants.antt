@@ -1,8 +1,6 @@
-use Rattle.std.proofs.Common.{◌≡◌, ◌≤◌, [], length, IfOk, IfErr, vec_capacity, ℕ, ◌+◌, ◌-◌, ◌*◌, ◌<◌}
-use Rattle.qs_turn.specs.Histories.{lawful}
-use Rattle.qs_turn.specs.Words.{IsPassOf, Joined}
-use Rattle.qs_turn_uses.specs.Rows.{Pairs, Triples, Each, IsFirst, IsOther, IsAlone, Forked, Closed}
+use Rattle.std.proofs.Common.{◌≤◌, length, vec_capacity}
+use Rattle.qs_turn_uses.proofs.Places.{Splitting}
 use Rattle.qs_turn_uses.proofs.rows.split_all.Given as goal
 
 abbrev pub invariant-loop-i : goal.invariant-loop-i
-invariant-loop-i g l = ?
+invariant-loop-i g l = Splitting l.turns l.initial.passes.items l.passes.items l.given.items l.i × (length l.turns ≤ vec_capacity l.given)

@@ -1,6 +1,6 @@
-use Rattle.std.proofs.Common.{◌≡◌, ℕ, ◌+◌, ◌*◌, ◌^◌, ◌<◌, length, ap, sym, ◌∙◌, subst, arith}
+use Rattle.std.proofs.Common.{◌≡◌, ℕ, ◌*◌, ◌^◌, ◌<◌, length, ap, ◌∙◌, subst, arith}
 use Rattle.qs_turn.specs.Histories.{lawful, Runs}
-use Rattle.qs_turn.specs.Words.{own, seen}
+use Rattle.qs_turn.specs.Words.{seen}
 use Rattle.qs_turn.proofs.Histories.{merges_length}
 use Rattle.qs_turn_uses.specs.declared.tally.Tally.{Tally}
 use Rattle.qs_turn_uses.specs.Tallies.{counts, tally_fixed}
