@@ -13,7 +13,7 @@ use Rattle.qs_turn.specs.Histories.{Runs}
 use Rattle.qs_turn.specs.Idle.{IsIdle}
 use Rattle.qs_turn.specs.Names.{Known}
 use Rattle.qs_turn.specs.Words.{seen}
-use Rattle.qs_turn.specs.Rule.{has, times, once_below, total, calls, NamesBelow, nothing, slot, times_of, numbers_of, Fits, IsFree, IsHeld, Kept}
+use Rattle.qs_turn.specs.Rule.{word_at, has, times, once_below, total, calls, NamesBelow, nothing, slot, times_of, numbers_of, Fits, IsFree, IsHeld, Kept}
 use Rattle.qs_turn.specs.Steps.{forked, newcomer, beside, spent, settled, looked}
 use Rattle.qs_turn.proofs.Sums.{total_set, total_snoc, total_one, total_two, total_only, times_short, times-append, has_times, times_has, has-append, once_yes, once_at_most, once_more, word_same}
 use Rattle.qs_turn.proofs.Histories.{calls_none, of_all, named_more, named_before, named_after, named_of, within_nothing, longer_front, within_both}
@@ -57,7 +57,7 @@ module _ {P O R : Type 0} (may : P → O → R → P → Type 0) (o : P) where
       let is : v.made ≡ kept.made = (f.head first).1 in
       let views = set s.views id (forked v) in
       let now : State (Slot P O R) (View P O R) = record { words = s.words; homes = s.homes; views = views ++ newcomer v ∷ [] } in
-      let word = slice_index s.words 0 in
+      let word = slice_index s.words word_at in
       let others : (j : ℕ) (u : View P O R) → j ≢ id → get_elem? s.views j ≡ some u → Fits o kept.log kept.state word kept.holder (kept.made + 1) j u =
       λ j u ne e. let g = kept.each j u e in record {
         mine = g.mine;
@@ -77,7 +77,7 @@ module _ {P O R : Type 0} (may : P → O → R → P → Type 0) (o : P) where
         state = kept.state;
         holder = kept.holder;
         made = kept.made + 1;
-        one = kept.one;
+        row = kept.row;
         runs = kept.runs;
         named = named_more (kept.made + 1) (kept.made + 1 + 1) kept.log (omega arith) kept.named;
         numbers = λ k. total_snoc (times_of k) views (newcomer v) ∙ ap (λ (n : ℕ). n + times_of k (newcomer v)) (total_same (times_of k) s.views id v (forked v) at refl ∙ kept.numbers k)
@@ -124,7 +124,7 @@ module _ {P O R : Type 0} (may : P → O → R → P → Type 0) (o : P) where
       let g = kept.each other w was in
       let views = set (set s.views id (beside v w)) other spent in
       let now : State (Slot P O R) (View P O R) = record { words = s.words; homes = s.homes; views = views } in
-      let word = slice_index s.words 0 in
+      let word = slice_index s.words word_at in
       let nv : (k : ℕ) → times k v.joining.owned ≡ 0 = λ k. ap (λ h. times k h.owned) bare in
       let nw : (k : ℕ) → times k w.joining.owned ≡ 0 = λ k. ap (λ h. times k h.owned) empty in
       let lv : length v.joining.owned ≡ 0 = ap (λ h. length h.owned) bare in
@@ -135,7 +135,7 @@ module _ {P O R : Type 0} (may : P → O → R → P → Type 0) (o : P) where
         state = kept.state;
         holder = kept.holder;
         made = kept.made;
-        one = kept.one;
+        row = kept.row;
         runs = kept.runs;
         named = kept.named;
         numbers = λ k. moved (times_of k) s.views id other v w (beside v w) spent at there (let a = nv k in let b = nw k in omega arith) refl ∙ kept.numbers k;
@@ -167,7 +167,7 @@ module _ {P O R : Type 0} (may : P → O → R → P → Type 0) (o : P) where
   settle_kept id v s kept at none =
       let f = kept.each id v at in
       let now : State (Slot P O R) (View P O R) = record { words = s.words; homes = s.homes; views = set s.views id (settled v) } in
-      let word = slice_index s.words 0 in
+      let word = slice_index s.words word_at in
       let both = within_both kept.log v.mine v.joining f.mine f.joining (halves_apart s.views (kept.made + 1) id v kept.numbers at) in
       let mine : Fits o kept.log kept.state word kept.holder kept.made id (settled v) = record {
         mine = both.0;
@@ -180,7 +180,7 @@ module _ {P O R : Type 0} (may : P → O → R → P → Type 0) (o : P) where
         state = kept.state;
         holder = kept.holder;
         made = kept.made;
-        one = kept.one;
+        row = kept.row;
         runs = kept.runs;
         named = kept.named;
         numbers = λ k. total_same (times_of k) s.views id v (settled v) at (omega (arith, times-append k v.mine.owned v.joining.owned)) ∙ kept.numbers k;
@@ -199,7 +199,7 @@ module _ {P O R : Type 0} (may : P → O → R → P → Type 0) (o : P) where
       }
 
   -- a load puts the two halves together
-  pub settles : (slots id : ℕ) (m : Me (Slot P O R) (View P O R)) → m.0.turn ≡ None → Allows (Kept may o) slots id m 0 (λ n. n) (looked (step slots 0 0 0 mathlib.Core.Option.none) m)
+  pub settles : (slots id : ℕ) (m : Me (Slot P O R) (View P O R)) → m.0.turn ≡ None → Allows (Kept may o) slots id m word_at (λ n. n) (looked (step slots word_at 0 0 mathlib.Core.Option.none) m)
   settles slots id m none s kept long at small =
       let v = m.0 in
       let f = kept.each id v at in

@@ -2,9 +2,10 @@
 use Rattle.std.proofs.Common.{◌≡◌, ◌≢◌, ℕ, zero, suc, ◌+◌, ◌<◌, ◌≤◌, Bool, true, false, true≢false, List, [], ◌∷◌, ◌++◌, length, set, refl, sym, ap, arith}
 use Rattle.std.specs.Prelude.{◌==◌, nat_lt, ◌||◌, if◌then◌else◌, slice_index, slice_set}
 use Rattle.std.proofs.lemmas.Bool.Decides.{nat_tests}
+use Rattle.std.proofs.lemmas.List.{get_or-set_same, set-get_or}
 use mathlib.Core.Option.{some, some-ne-none, some-injective}
 use lib.ListN.{get_elem?}
-use Rattle.qs_turn.specs.Rule.{has, times, once_below, total}
+use Rattle.qs_turn.specs.Rule.{word_at, has, times, once_below, total}
 
 off : false ≡ true → ⊥
 off e = true≢false (sym e)
@@ -138,11 +139,9 @@ once_more k n = go (nat_lt k (n + 1)) (nat_lt k n) (k == n) refl refl refl
     go false false true e f g = absurd (grind (arith, nat_tests))
     go false false false e f g = refl
 
--- the one word after a write
-pub word_set : (ws : List ℕ) (n : ℕ) → length ws ≡ 1 → slice_index (slice_set ws 0 n) 0 ≡ n
-word_set [] n h = absurd (omega arith)
-word_set (w ∷ ws) n h = refl
+-- the word after a write
+pub word_set : (ws : List ℕ) (n : ℕ) → length ws ≡ 16 → slice_index (slice_set ws word_at n) word_at ≡ n
+word_set ws n h = get_or-set_same ws 8 n 0 (omega arith)
 
-pub word_same : (ws : List ℕ) → slice_set ws 0 (slice_index ws 0) ≡ ws
-word_same [] = refl
-word_same (w ∷ ws) = refl
+pub word_same : (ws : List ℕ) → slice_set ws word_at (slice_index ws word_at) ≡ ws
+word_same ws = set-get_or ws 8 0

@@ -11,6 +11,10 @@ use Rattle.qs_turn.specs.declared.view.Half.{Half}
 use Rattle.qs_turn.specs.declared.view.View.{View}
 use Rattle.qs_turn.specs.Histories.{Runs}
 
+-- the place of the word, between others that are never used
+abbrev pub word_at : ℕ
+word_at = 8
+
 -- a number is among these
 abbrev pub has : List ℕ → ℕ → Bool
 has [] k = false
@@ -84,13 +88,13 @@ pub record Fits {P O R : Type 0} (o : P) (log : List (Entry O R)) (state : P) (w
 
 -- the turn is free after the calls of the history: the word is twice their number, and the part is in the slot
 pub record IsFree {P O R : Type 0} (log : List (Entry O R)) (state : P) (s : State (Slot P O R) (View P O R)) : Type 0 where
-  pub word : slice_index s.words 0 ≡ 2 * length log
+  pub word : slice_index s.words word_at ≡ 2 * length log
   pub said : Option (Said O R)
   pub home : s.homes ≡ some (slot (Some state) said) ∷ []
 
 -- the turn is held after the calls of the history: the word is one more, the slot is out, and the holder knows the part
 pub record IsHeld {P O R : Type 0} (log : List (Entry O R)) (state : P) (holder : ℕ) (s : State (Slot P O R) (View P O R)) : Type 0 where
-  pub word : slice_index s.words 0 ≡ 2 * length log + 1
+  pub word : slice_index s.words word_at ≡ 2 * length log + 1
   pub home : s.homes ≡ none ∷ []
   pub view : View P O R
   pub at : get_elem? s.views holder ≡ some view
@@ -110,11 +114,11 @@ pub record Kept {P O R : Type 0} (may : P → O → R → P → Type 0) (o : P) 
   pub state : P
   pub holder : ℕ
   pub made : ℕ
-  pub one : length s.words ≡ 1
+  pub row : length s.words ≡ 16
   pub runs : Runs may o (calls log) state
   pub named : NamesBelow (made + 1) log
   pub numbers : (k : ℕ) → total (times_of k) s.views ≡ once_below k (made + 1)
   pub counted : total numbers_of s.views ≡ made + 1
   pub each : (seat : ℕ) (v : View P O R) → get_elem? s.views seat ≡ some v
-      → Fits o log state (slice_index s.words 0) holder made seat v
+      → Fits o log state (slice_index s.words word_at) holder made seat v
   pub turn : IsFree log state s ⊎ IsHeld log state holder s

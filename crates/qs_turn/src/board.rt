@@ -36,7 +36,7 @@ impl<S: Drop, V, K, L: TableRule<S, V, K>> Model for Board<S, V, K, L> {
 
     ghost view = { λ t. record { table = t.table.shared.table_id; key = t.table.shared.key } };
 
-    ghost invariant = { λ t. (t.table.shared.table_id.words ≡ 1) × (t.table.shared.table_id.slots ≡ 1) };
+    ghost invariant = { λ t. (t.table.shared.table_id.words ≡ 16) × (t.table.shared.table_id.slots ≡ 1) };
 }
 
 /// What a thread calls with. It has no bytes.

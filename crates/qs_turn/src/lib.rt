@@ -7,7 +7,7 @@
 //!
 //! # Why it holds
 //!
-//! The lock has one word and one slot.
+//! The lock has one word and one slot. (Around the word lie others that are never used.)
 //!
 //! - The word is `2n` where the turn is free after `n` calls, and `2n + 1` while the next call is
 //!   made. To take the turn is to raise an even word by one with a single compare and exchange; to

@@ -40,6 +40,13 @@ type PassSeat<P> = Seat<
     View<P, <P as Part>::Op, <P as Part>::Reply>,
 >;
 
+/// How many words the table has. One is used; the others keep it apart from what lies around them in
+/// memory, so that threads which call different turns don't slow one another down.
+const WORDS: usize = 16;
+
+/// The place of the word that is used.
+const WORD: usize = 8;
+
 impl<P: Part> Turn<P> {
     /// A turn for the part, and its first pass, which has seen no call.
     ///
@@ -54,7 +61,7 @@ impl<P: Part> Turn<P> {
             part: Some(part),
             said: None,
         })?;
-        match Table::new(alloc, &[0], slots, &about) {
+        match Table::new(alloc, &[0; WORDS], slots, &about) {
             Ok((table, seat)) => Ok((
                 Board {
                     table,
@@ -97,12 +104,12 @@ impl<P: Part> Turn<P> {
         ensures room { result < 2 ^ 64 - 2 }
     {
         for _ in rt.forever() {
-            let word = self.table.shared.peek(0);
+            let word = self.table.shared.peek(WORD);
             if word % 2 == 0 && word < u64::MAX - 1 {
                 let found = self
                     .table
                     .shared
-                    .compare_exchange::<Take>(seat, 0, word, word + 1);
+                    .compare_exchange::<Take>(seat, WORD, word, word + 1);
                 if found == word {
                     return word;
                 }
@@ -118,7 +125,7 @@ impl<P: Part> Turn<P> {
     /// Whoever gives the turn back changes the word before it looks whether anyone waits.
     fn wait<R: Wait>(&self, rt: &R, word: u64) {
         self.waiters.fetch_add(1, Ordering::SeqCst);
-        self.table.shared.park(rt, 0, (word % (1 << 32)) as u32);
+        self.table.shared.park(rt, WORD, (word % (1 << 32)) as u32);
         self.waiters.fetch_sub(1, Ordering::SeqCst);
     }
 
@@ -155,9 +162,9 @@ impl<P: Part> Turn<P> {
             said: Some(said),
         };
         self.table.shared.exchange(seat, 0, home);
-        self.table.shared.store::<Give>(seat, 0, word + 2);
+        self.table.shared.store::<Give>(seat, WORD, word + 2);
         if self.waiters.load(Ordering::SeqCst) != 0 {
-            self.table.shared.wake_one(0);
+            self.table.shared.wake_one(WORD);
         }
     }
 
@@ -186,7 +193,7 @@ impl<P: Part> Turn<P> {
     {
         let Held { seat } = other;
         self.table.shared.join_seat::<Meet>(&mut pass.seat, seat);
-        self.table.shared.load::<Look>(&mut pass.seat, 0);
+        self.table.shared.load::<Look>(&mut pass.seat, WORD);
     }
 
     /// Gives the part back, once every other pass was joined into this one.
