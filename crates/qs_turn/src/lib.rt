@@ -27,6 +27,7 @@
 #![tactic(auto)]
 
 pub mod board;
+pub mod crossing;
 pub mod law;
 pub mod turn;
 pub mod view;
