@@ -1,5 +1,5 @@
 -- Rows: lists whose members at one place belong together.
-use Rattle.std.specs.Prelude.{◌≡◌, ℕ, ◌+◌, true, false, List, [], length, slice_get, Some}
+use Rattle.std.specs.Prelude.{◌≡◌, ℕ, ◌+◌, true, false, List, [], ◌∷◌, ◌++◌, length, slice_get, Some}
 use Rattle.std.specs.List.{slice_set}
 use Rattle.qs_turn.specs.declared.view.View.{View}
 use Rattle.std.specs.declared.snapshot.Snapshot.{Snapshot}
@@ -59,3 +59,13 @@ pub record JoinedAt {P O R : Type 0} (i : ℕ) (ks : List (Known (View P O R))) 
   pub was : slice_get ks i ≡ Some old
   pub now : ns ≡ slice_set ks i new
   pub joined : Joined old other new
+
+-- a turn was opened at the end of a row, with this part, and its first pass, which has seen nothing
+pub record Opened {P O R : Type 0} (ts : List (Name (Snapshot P))) (ks : List (Known (View P O R))) (part : P) (ts' : List (Name (Snapshot P))) (ks' : List (Known (View P O R))) : Type 0 where
+  pub turn : Name (Snapshot P)
+  pub pass : Known (View P O R)
+  pub turns : ts' ≡ ts ++ turn ∷ []
+  pub passes : ks' ≡ ks ++ pass ∷ []
+  pub opens : opening turn ≡ part
+  pub first : is_first pass ≡ true
+  pub nothing_seen : seen pass ≡ []

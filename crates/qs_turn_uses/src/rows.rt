@@ -2,12 +2,34 @@
 ghost use Rattle.std.specs.Prelude.{◌≡◌, ◌<◌, ◌≤◌, [], length, IfOk, IfErr, vec_capacity};
 ghost use Rattle.qs_turn.specs.Histories.{lawful};
 ghost use Rattle.qs_turn.specs.Words.{IsPassOf, Joined};
-ghost use Rattle.qs_turn_uses.specs.Rows.{Pairs, Triples, Each, IsFirst, IsOther, IsAlone, Forked, Closed, IsPassAt, JoinedAt};
+ghost use Rattle.qs_turn_uses.specs.Rows.{Pairs, Triples, Each, IsFirst, IsOther, IsAlone, Forked, Closed, IsPassAt, JoinedAt, Opened};
 
 use qs_bytes::Memory;
 use qs_part::part::Part;
 use qs_turn::turn::{Pass, Turn};
 use std::alloc::Global;
+
+/// Opens one more turn at the end of a row. For want of memory the rows stay as they were.
+pub fn open_next<P: Part>(
+    alloc: Global,
+    turns: &mut Vec<Turn<P>>,
+    passes: &mut Vec<Pass<P>>,
+    part: P,
+) -> Result<(), Memory>
+    requires turns { Pairs IsPassOf turns.old.items passes.old.items }
+    requires alone { Each IsAlone passes.old.items }
+    ensures err { IfErr result (λ _. (turns.new.items ≡ turns.old.items) × (passes.new.items ≡ passes.old.items)) }
+    ensures opened { IfOk result (λ _. Opened turns.old.items passes.old.items part turns.new.items passes.new.items) }
+    ensures turns { Pairs IsPassOf turns.new.items passes.new.items }
+    ensures alone { Each IsAlone passes.new.items }
+{
+    turns.reserve(1)?;
+    passes.reserve(1)?;
+    let (turn, pass) = Turn::new(alloc, part)?;
+    turns.push_reserved(turn);
+    passes.push_reserved(pass);
+    Ok(())
+}
 
 /// Splits a pass off the first pass of each turn.
 ///
@@ -74,4 +96,21 @@ pub fn close_all<P: Part>(
     }
     parts.reverse();
     parts
+}
+
+/// Splits a row of passes off and joins it back, and closes the turns: the parts stand for what the
+/// passes had seen.
+pub fn split_and_close<P: Part>(
+    alloc: Global,
+    turns: Vec<Turn<P>>,
+    mut passes: Vec<Pass<P>>,
+) -> Result<Vec<P>, Memory>
+    requires turns { Pairs IsPassOf turns.items passes.items }
+    requires alone { Each IsAlone passes.items }
+    ensures { IfOk result (λ parts. length parts.items ≡ length turns.items) }
+{
+    let parts = Vec::with_capacity(alloc, turns.len())?;
+    let others = split_all(alloc, &turns, &mut passes)?;
+    join_all(&turns, &mut passes, others);
+    Ok(close_all(turns, passes, parts))
 }

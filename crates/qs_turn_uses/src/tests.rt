@@ -1,4 +1,5 @@
 use crate::calls::{on_stripe, twice};
+use crate::rows::{open_next, split_and_close};
 use crate::tally::{Tally, count_by_four};
 use crate::threads::both;
 use qs_outside::MemDisk;
@@ -59,5 +60,21 @@ fn stripe_on_a_disk_in_memory_is_called(rt: HostRuntime) -> Result<(), Fail> {
     let (turn, mut pass) = Turn::new(rt.alloc(), stripe)?;
     let reply = on_stripe(&rt, &turn, &mut pass, 1, op);
     assert!(rt; matches!(reply, StripeReply::NotHeld), "{reply:?}");
+    Ok(())
+}
+
+#[test]
+fn row_of_turns_is_split_joined_and_closed(rt: HostRuntime) -> Result<(), Fail> {
+    let mut turns = Vec::new(rt.alloc());
+    let mut passes = Vec::new(rt.alloc());
+    open_next(rt.alloc(), &mut turns, &mut passes, Tally { count: 5 })?;
+    open_next(rt.alloc(), &mut turns, &mut passes, Tally { count: 7 })?;
+    let parts = split_and_close(rt.alloc(), turns, passes)?;
+    assert!(rt;
+        parts
+            .iter()
+            .map(|tally| tally.count)
+            .eq([5, 7].iter().copied())
+    );
     Ok(())
 }
