@@ -1,0 +1,4 @@
+pub mod Tallies
+pub mod Trackers
+pub mod Ticks
+pub mod Rows
