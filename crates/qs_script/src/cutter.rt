@@ -20,7 +20,7 @@ pub enum Cut {
 }
 
 /// Cuts lines out of the pieces of a source. It holds at most one, and is seen as the bytes of that line
-/// that were taken, without its LF.
+/// that were taken, without its LF. Where the source ends, what it holds is the last line, if it is any.
 #[derive(Debug, Drop)]
 pub struct LineCutter {
     held: Vec<u8>,

@@ -1,95 +1,124 @@
 use super::*;
-use qs_bytes::{Bytes, Errno, Verdict};
+use qs_bytes::{Bytes, Errno, Memory, Verdict};
 use qs_outside::Fail as Failing;
 use qs_part::event::{Note, NoteReply, OpKind, StripeNote};
 use qs_part::graph::{GraphReply, Route};
 use qs_part::tracker::TrackerReply;
+use std::alloc::Global;
 use std::test::Fail;
+
+/// Tells numbers behind a word, each behind a space.
+fn tell(alloc: Global, out: &mut Bytes, word: &[u8], numbers: &[u64]) -> Result<(), Memory> {
+    out.append(word)?;
+    for number in numbers {
+        out.append(b" ")?;
+        out.append(number.to_string(alloc)?.as_bytes())?;
+    }
+    Ok(())
+}
+
+fn tell_actor(alloc: Global, out: &mut Bytes, actor: &ScriptActor) -> Result<(), Memory> {
+    match actor {
+        ScriptActor::Session(session) => out.append(session.as_slice()),
+        ScriptActor::Request(session, cookie) => {
+            out.append(session.as_slice())?;
+            tell(alloc, out, b" request", &[*cookie])
+        }
+    }
+}
+
+fn tell_failure(out: &mut Bytes, kind: Failing) -> Result<(), Memory> {
+    match kind {
+        Failing::Load => out.append(b" Load"),
+        Failing::StoreOld => out.append(b" StoreOld"),
+        Failing::StoreNew => out.append(b" StoreNew"),
+        Failing::Sync => out.append(b" Sync"),
+    }
+}
+
+/// Tells a line in other words.
+fn tell_line(alloc: Global, out: &mut Bytes, line: &Line) -> Result<(), Memory> {
+    match line {
+        Line::Nothing => Ok(()),
+        Line::Session { session, export } => {
+            out.append(session.as_slice())?;
+            out.append(b" at ")?;
+            out.append(export.as_slice())
+        }
+        Line::End { session } => {
+            out.append(session.as_slice())?;
+            out.append(b" ends")
+        }
+        Line::Read {
+            session,
+            cookie,
+            offset,
+            length,
+        } => {
+            out.append(session.as_slice())?;
+            tell(alloc, out, b" reads", &[*cookie, *offset, *length])
+        }
+        Line::Write {
+            session,
+            cookie,
+            offset,
+            body,
+        } => {
+            out.append(session.as_slice())?;
+            tell(alloc, out, b" writes", &[*cookie, *offset])?;
+            out.append(b" ")?;
+            out.append(body.as_slice())
+        }
+        Line::Step { actor, now } => {
+            tell_actor(alloc, out, actor)?;
+            tell(alloc, out, b" steps", &[*now])
+        }
+        Line::Run { actor, now } => {
+            tell_actor(alloc, out, actor)?;
+            tell(alloc, out, b" runs", &[*now])
+        }
+        Line::Fail { stripe, kind } => {
+            tell(alloc, out, b"stripe", &[*stripe])?;
+            tell_failure(out, *kind)
+        }
+    }
+}
+
+/// The line that a text spells, in other words.
+fn told(alloc: Global, text: &[u8]) -> Result<Bytes, Memory> {
+    let mut out = Bytes::of(Vec::new(alloc));
+    match read_line(alloc, text) {
+        Ok(line) => tell_line(alloc, &mut out, &line)?,
+        Err(LineFault::OutOfForm) => out.append(b"out of form")?,
+        Err(LineFault::Memory) => return Err(Memory),
+    }
+    Ok(out)
+}
 
 #[test]
 fn lines_are_read(rt: HostRuntime) -> Result<(), Fail> {
-    let alloc = rt.alloc();
-    assert!(rt; matches!(read_line(alloc, b""), Ok(Line::Nothing)));
-    assert!(rt; matches!(read_line(alloc, b"# read A 1 0 512"), Ok(Line::Nothing)));
-    match read_line(alloc, b"session A disk") {
-        Ok(Line::Session { session, export }) => {
-            assert_eq!(rt; session.as_slice(), b"A".as_slice());
-            assert_eq!(rt; export.as_slice(), b"disk".as_slice());
-        }
-        _ => assert!(rt; false),
-    }
-    match read_line(alloc, b"end Ab3") {
-        Ok(Line::End { session }) => {
-            assert_eq!(rt; session.as_slice(), b"Ab3".as_slice());
-        }
-        _ => assert!(rt; false),
-    }
-    match read_line(alloc, b"read A 2 508 4294967295") {
-        Ok(
-            Line::Read {
-                cookie,
-                offset,
-                length,
-                ..
-            },
-        ) => {
-            assert_eq!(rt; (cookie, offset, length), (2, 508, 4294967295));
-        }
-        _ => assert!(rt; false),
-    }
-    match read_line(alloc, b"fail 7 store-new") {
-        Ok(Line::Fail { stripe, kind }) => {
-            assert_eq!(rt; (stripe, kind), (7, Failing::StoreNew));
-        }
-        _ => assert!(rt; false),
-    }
-    Ok(())
-}
-
-#[test]
-fn actors_are_read(rt: HostRuntime) -> Result<(), Fail> {
-    let alloc = rt.alloc();
-    let a = SessionName::of(b"A").ok_or("no name")?;
-    for (text, wanted, reading) in [
-        (b"step A.1".as_slice(), ScriptActor::Request(a, 1), 0),
-        (b"step A", ScriptActor::Session(a), 0),
+    let rows: [(&[u8], &[u8]); 15] = [
+        (b"", b""),
+        (b"# read A 1 0 512", b""),
+        (b"session A disk", b"A at disk"),
+        (b"end Abcdefg9", b"Abcdefg9 ends"),
+        (b"read A 2 508 4294967295", b"A reads 2 508 4294967295"),
+        (b"write A 1 510 6d6D4a", b"A writes 1 510 mmJ"),
+        (b"write A 1 7 -", b"A writes 1 7 "),
+        (b"write A 1 7 61*3", b"A writes 1 7 aaa"),
+        (b"write A 1 7 61*0", b"A writes 1 7 "),
+        (b"step A.1", b"A request 1 steps 0"),
+        (b"step A", b"A steps 0"),
         (
             b"step A.18446744073709551615 7",
-            ScriptActor::Request(a, u64::MAX),
-            7,
+            b"A request 18446744073709551615 steps 7",
         ),
-    ] {
-        match read_line(alloc, text) {
-            Ok(Line::Step { actor, now }) => {
-                assert_eq!(rt; actor, wanted);
-                assert_eq!(rt; now, reading);
-            }
-            _ => assert!(rt; false),
-        }
-    }
-    match read_line(alloc, b"run A.1 1000000") {
-        Ok(Line::Run { now, .. }) => assert_eq!(rt; now, 1000000),
-        _ => assert!(rt; false),
-    }
-    Ok(())
-}
-
-#[test]
-fn data_are_read(rt: HostRuntime) -> Result<(), Fail> {
-    let alloc = rt.alloc();
-    for (text, bytes) in [
-        (
-            b"write A 1 510 aaAA0f".as_slice(),
-            [0xaa, 0xaa, 0x0f].as_slice(),
-        ),
-        (b"write A 1 7 -", &[]),
-        (b"write A 1 7 22*3", &[0x22, 0x22, 0x22]),
-        (b"write A 1 7 22*0", &[]),
-    ] {
-        match read_line(alloc, text) {
-            Ok(Line::Write { body, .. }) => assert_eq!(rt; body.as_slice(), bytes),
-            _ => assert!(rt; false),
-        }
+        (b"run A.1 1000000", b"A request 1 runs 1000000"),
+        (b"fail 7 store-new", b"stripe 7 StoreNew"),
+        (b"fail 0 sync", b"stripe 0 Sync"),
+    ];
+    for (text, wanted) in rows {
+        assert_eq!(rt; told(rt.alloc(), text)?.as_slice(), wanted);
     }
     Ok(())
 }
