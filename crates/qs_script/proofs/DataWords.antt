@@ -1,5 +1,5 @@
 -- The words that spell the data of a WRITE.
-use Rattle.std.proofs.Common.{◌≡◌, ℕ, ◌<◌, ◌≤◌, List, [], ◌∷◌, ◌++◌, Ok, get_or, take, drop, length, refl, sym, ap, ◌∙◌, subst, arith, length-append}
+use Rattle.std.proofs.Common.{◌≡◌, ℕ, ◌<◌, List, [], ◌∷◌, ◌++◌, Ok, take, drop, length, sym, ap, ◌∙◌, subst, arith, length-append}
 use Rattle.std.specs.Prelude.{codes, slice_index, Result, Err, IfOk}
 use Rattle.qs_script.specs.declared.line.LineFault.{LineFault}
 use Rattle.hex.specs.Hex.{decode_of, decode_sized, is_hex_digit}

@@ -1,5 +1,5 @@
 -- What the words of a line tell of it.
-use Rattle.std.proofs.Common.{◌≡◌, ℕ, ◌<◌, ◌⊎◌, Bool, true, false, cond, arith, List, [], ◌∷◌, get_or, length, refl, sym, ap, ◌∙◌, subst, inl, inr}
+use Rattle.std.proofs.Common.{◌≡◌, ℕ, ◌<◌, ◌⊎◌, Bool, true, false, cond, arith, List, [], ◌∷◌, get_or, length, refl, sym, ap, subst, inl, inr}
 use Rattle.std.specs.Prelude.{◌==◌, Result, Ok, Err, IfOk}
 use Rattle.qs_script.specs.declared.line.LineFault.{LineFault}
 use Rattle.std.specs.List.{onto_first}

@@ -1,5 +1,5 @@
 -- What the words of a script's lines spell.
-use Rattle.std.specs.Prelude.{◌≡◌, ℕ, ◌<◌, ◌≤◌, ◌⊎◌, EachIndex, slice_index, List, [], ◌∷◌, ◌++◌, length, replicate, codes, Ok}
+use Rattle.std.specs.Prelude.{◌≡◌, ℕ, ◌<◌, ◌≤◌, EachIndex, slice_index, List, [], ◌∷◌, ◌++◌, length, replicate, codes, Ok}
 use Rattle.std.specs.Fmt.{decimal}
 use Rattle.std.specs.Int.{IsInRange}
 use Rattle.hex.specs.Hex.{decode_of}

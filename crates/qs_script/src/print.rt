@@ -1,4 +1,4 @@
-ghost use Rattle.std.specs.Prelude.{◌≡◌, ◌++◌, ◌∷◌, OnOk, OnErr, unwrap_or};
+ghost use Rattle.std.specs.Prelude.{◌≡◌, ◌++◌, ◌∷◌, OnOk, OnErr};
 ghost use Rattle.std.specs.Fmt.{decimal};
 ghost use Rattle.qs_script.specs.Prints.{actor_text, answer_line, counted, data_text, graph_words, news_words, note_words, session_line, step_line, stripe_words, tracker_words, verdict_words};
 

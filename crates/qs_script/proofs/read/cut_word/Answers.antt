@@ -1,5 +1,5 @@
 -- The words of a text, at its first space.
-use Rattle.std.proofs.Common.{◌+◌, drop, add-one}
+use Rattle.std.proofs.Common.{◌+◌, add-one}
 use Rattle.std.proofs.lemmas.List.{take_rest}
 use Rattle.qs_script.proofs.Splitting.{split_first, split_none}
 use Rattle.qs_script.proofs.read.cut_word.Goals as goal
