@@ -17,3 +17,6 @@ pub use name::{Name, NameList};
 pub use numbers::{be16, be32, be64, put16, put32, put64, u16_at, u32_at, u64_at};
 pub use span::Span;
 pub use status::{Fed, OpenBad, SessionEnd, Status};
+
+#[cfg(test)]
+mod tests;

@@ -6,3 +6,6 @@ mod opening;
 
 pub use access::{load_block, load_span, store_block, store_span};
 pub use opening::open_fault;
+
+#[cfg(test)]
+mod tests;

@@ -1,7 +1,7 @@
 ghost use Rattle.std.specs.Prelude.{◌≡◌, ◌+◌, ◌≤◌, true, false, [], ◌++◌, length, map, nat_le, OnOk, OnErr};
 ghost use Rattle.qs_bytes.specs.declared.ask.Verdict.TheVariants.{Refused};
 ghost use Rattle.qs_outside.specs.Faults.{HasCause};
-ghost use Rattle.qs_image.specs.Image.{align_of, size_of};
+ghost use Rattle.qs_image.specs.Image.{align_of, size_of, Stores};
 ghost use Rattle.qs_image.specs.Opening.{IsAlign, IsImage};
 ghost use Rattle.qs_nbd_transmission.specs.Replies.{CanReply, data_of, is_read, reply_of};
 ghost use Rattle.qs_nbd_transmission.specs.Heads.{has_data, is_write};
@@ -124,6 +124,17 @@ fn put_read<D: Disk>(outbox: &mut Window, disks: &mut [D], align: usize, ask: &A
     }
 }
 
+/// Stores a WRITE's data from its offset on.
+fn store_data<D: Disk>(disks: &mut [D], align: usize, ask: &Ask, bytes: &[u8]) -> Result<(), Failed>
+    requires image { IsImage (map D.seen disks.old) }
+    requires align { align ≡ align_of (map D.seen disks.old) }
+    requires valid { is_valid align (size_of (map D.seen disks.old)) ask.now ≡ true }
+    requires whole { length bytes.now ≡ ask.now.length }
+    ensures { Stores (map D.seen disks.old) ask.now.offset bytes.now result (map D.seen disks.new) }
+{
+    store_span(disks, align, ask.offset, bytes)
+}
+
 /// Answers a WRITE that is served, where there is room for its reply.
 fn put_write<D: Disk>(outbox: &mut Window, disks: &mut [D], align: usize, ask: &Ask, body: &[u8])
     requires image { IsImage (map D.seen disks.old) }
@@ -134,7 +145,7 @@ fn put_write<D: Disk>(outbox: &mut Window, disks: &mut [D], align: usize, ask: &
     requires room { 64 ≤ outbox.old.free }
     ensures { Puts align (size_of (map D.seen disks.old)) ask.now body.now (map D.seen disks.old) (map D.seen disks.new) outbox.old.held outbox.new.held }
 {
-    match store_span(disks, align, ask.offset, body) {
+    match store_data(disks, align, ask, body) {
         Ok(()) => put_reply(outbox, ask, &Verdict::Fine),
         Err(_) => put_reply(outbox, ask, &Verdict::Refused(Errno::Io)),
     }

@@ -15,4 +15,6 @@ pub use run::run_stdio;
 pub use words::{StdioWords, stdio_words};
 
 #[cfg(test)]
+mod plain;
+#[cfg(test)]
 mod tests;

@@ -151,7 +151,6 @@ impl Window {
     }
 }
 
-/// Writes the piece over the buffer, from `at` on.
 #[tactic(auto, unfolding(qs_bytes::specs::Pieces::overlay))]
 fn put_over(buffer: &mut [u8], at: usize, piece: &[u8])
     requires { at + length piece.now ≤ length buffer.old }
@@ -160,7 +159,8 @@ fn put_over(buffer: &mut [u8], at: usize, piece: &[u8])
     buffer[at..at + piece.len()].copy_from_slice(piece);
 }
 
-fn put(buffer: &mut Vec<u8>, at: usize, piece: &[u8])
+/// Writes the piece over the buffer, from `at` on.
+pub fn put(buffer: &mut Vec<u8>, at: usize, piece: &[u8])
     requires { at + length piece.now ≤ vec_len buffer.old }
     ensures items { buffer.new.items ≡ overlay buffer.old.items at piece.now }
     ensures len { vec_len buffer.new ≡ vec_len buffer.old }

@@ -1,3 +1,4 @@
+use crate::faults::Faults;
 use qs_outside::{Disk, Failed};
 use std::fs::File;
 use std::os::unix::fs::FileExt;
@@ -9,7 +10,7 @@ pub struct FileDisk {
     stripe: u8,
     align: u32,
     length: u64,
-    faults: u64,
+    faults: Faults,
 }
 
 impl FileDisk {
@@ -20,7 +21,7 @@ impl FileDisk {
             stripe,
             align,
             length,
-            faults: 0,
+            faults: Faults::NONE,
         }
     }
 }
@@ -28,7 +29,7 @@ impl FileDisk {
 impl Disk for FileDisk {
     ghost use Rattle.std.specs.Prelude.{false, [], None};
 
-    ghost seen = { λ d. record { stripe = d.stripe; align = d.align; size = d.length; faults = d.faults; tells = false; now = λ b. []; past = λ b. []; planned = None; full = None } };
+    ghost seen = { λ d. record { stripe = d.stripe; align = d.align; size = d.length; faults = d.faults.count; tells = false; now = λ b. []; past = λ b. []; planned = None; full = None } };
 
     fn stripe(&self) -> u8 {
         self.stripe
@@ -45,30 +46,21 @@ impl Disk for FileDisk {
     fn load(&mut self, b: u64, into: &mut [u8]) -> Result<(), Failed> {
         match self.file.read_exact_at(into, b * u64::from(self.align)) {
             Ok(()) => Ok(()),
-            Err(_) => {
-                self.faults = self.faults.saturating_add(1);
-                Err(Failed)
-            }
+            Err(_) => Err(self.faults.note()),
         }
     }
 
     fn store(&mut self, b: u64, bytes: &[u8]) -> Result<(), Failed> {
         match self.file.write_all_at(bytes, b * u64::from(self.align)) {
             Ok(()) => Ok(()),
-            Err(_) => {
-                self.faults = self.faults.saturating_add(1);
-                Err(Failed)
-            }
+            Err(_) => Err(self.faults.note()),
         }
     }
 
     fn sync(&mut self) -> Result<(), Failed> {
         match self.file.sync_data() {
             Ok(()) => Ok(()),
-            Err(_) => {
-                self.faults = self.faults.saturating_add(1);
-                Err(Failed)
-            }
+            Err(_) => Err(self.faults.note()),
         }
     }
 }

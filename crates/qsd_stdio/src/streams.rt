@@ -1,3 +1,4 @@
+use crate::faults::Faults;
 use qs_outside::{Failed, Sink, Source};
 use std::io::{Read, Write};
 
@@ -5,21 +6,18 @@ use std::io::{Read, Write};
 #[derive(Drop)]
 pub struct Reading<R> {
     pub inner: R,
-    pub faults: u64,
+    pub faults: Faults,
 }
 
 impl<R: Read> Source for Reading<R> {
     ghost left = { λ s. R.remaining s.inner };
 
-    ghost read_faults = { λ s. s.faults };
+    ghost read_faults = { λ s. s.faults.count };
 
     fn read(&mut self, into: &mut [u8]) -> Result<usize, Failed> {
         match self.inner.read(into) {
             Ok(count) => Ok(count),
-            Err(_) => {
-                self.faults = self.faults.saturating_add(1);
-                Err(Failed)
-            }
+            Err(_) => Err(self.faults.note()),
         }
     }
 }
@@ -28,21 +26,18 @@ impl<R: Read> Source for Reading<R> {
 #[derive(Drop)]
 pub struct Writing<W> {
     pub inner: W,
-    pub faults: u64,
+    pub faults: Faults,
 }
 
 impl<W: Write> Sink for Writing<W> {
     ghost sent = { λ s. W.contents s.inner };
 
-    ghost write_faults = { λ s. s.faults };
+    ghost write_faults = { λ s. s.faults.count };
 
     fn write(&mut self, piece: &[u8]) -> Result<usize, Failed> {
         match self.inner.write(piece) {
             Ok(count) if count > 0 || piece.is_empty() => Ok(count),
-            _ => {
-                self.faults = self.faults.saturating_add(1);
-                Err(Failed)
-            }
+            _ => Err(self.faults.note()),
         }
     }
 }

@@ -1,0 +1,65 @@
+#!/usr/bin/env bash
+# The exit statuses of the built program: each is brought about, and the number and the line on standard
+# error are compared with README.md's table.
+#
+#     bench/statuses.sh [PROGRAM]
+#
+# PROGRAM is crates/qsd_stdio/out/qsd_stdio where none is given; README.md of this folder says how it is
+# built. Exits with 1 where a status or a line differs. Status 8 would take 2^32 requests, and 9 wants
+# memory refused; neither is tried here.
+set -eu
+cd "$(dirname "$0")/.."
+program=$(realpath "${1:-crates/qsd_stdio/out/qsd_stdio}")
+mkdir -p bench/out
+folder=$(mktemp -d "$PWD/bench/out/statuses.XXXXXX")
+trap 'rm -rf "$folder"' EXIT
+cd "$folder"
+head -c 4096 /dev/zero >disk.img
+head -c 700 /dev/zero >odd.img
+truncate -s $(((1 << 40) + 512)) large.img
+wrong=0
+
+# Writes a request's head: flags and type, offset, length, in hexadecimal.
+head_of() {
+    printf '%b' "$(printf '25609513%s0000000000000001%s%s' "$1" "$2" "$3" | sed 's/../\\x&/g')"
+}
+
+# try STATUS WHAT INPUT OUTPUT WORD..: runs the program and compares.
+try() {
+    local wanted=$1 what=$2 input=$3 output=$4 status=0
+    shift 4
+    "$program" "$@" <"$input" >"$output" 2>told || status=$?
+    if [ "$wanted" -eq 0 ]; then : >line; else echo "qsd_stdio: status $wanted" >line; fi
+    if [ "$status" -eq "$wanted" ] && cmp -s told line; then
+        echo "status $wanted: $what"
+    else
+        echo "NOT status $wanted but $status: $what"
+        wrong=1
+    fi
+}
+
+# Requests: a READ of block 0, a DISC, a part of a READ, a wrong magic, a WRITE of 33,554,433 bytes.
+: >empty
+head_of 00000000 0000000000000000 00000200 >read
+head_of 00000002 0000000000000000 00000000 >disc
+head -c 27 read >cut
+printf '\x25\x60\x95\x14' >magic
+head_of 00000001 0000000000000000 02000001 >long
+words=(--transmission disk.img)
+
+try 0 "a DISC" disc output "${words[@]}"
+try 0 "the input's end between requests" read output "${words[@]}"
+try 2 "no word" empty output
+try 2 "no IMAGE" empty output --transmission
+try 2 "a word too many" empty output "${words[@]}" disk.img
+try 2 "a word that isn't UTF-8" empty output --transmission $'\xff'
+try 3 "an image of 700 bytes" empty output --transmission odd.img
+try 3 "an image of 2^40 + 512 bytes" empty output --transmission large.img
+try 4 "an input that can't be read" . output "${words[@]}"
+try 5 "an output that can't be written" read /dev/full "${words[@]}"
+try 10 "the input's end within a request" cut output "${words[@]}"
+try 11 "a wrong magic" magic output "${words[@]}"
+try 14 "a WRITE that is too long" long output "${words[@]}"
+try 18 "no such file" empty output --transmission missing.img
+try 18 "a folder for an image" empty output --transmission .
+exit "$wrong"

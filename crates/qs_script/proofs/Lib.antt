@@ -1,0 +1,5 @@
+pub mod Naming
+pub mod Digits
+pub mod Splitting
+pub mod Reading
+pub mod DataWords

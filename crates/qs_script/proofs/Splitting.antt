@@ -1,0 +1,86 @@
+-- Words, and the first place of a byte.
+use Rattle.std.proofs.Common.{◌≡◌, ℕ, ◌+◌, ◌<◌, ◌≤◌, zero, suc, List, [], ◌∷◌, ◌++◌, length, get_or, take, drop, length-take, refl, sym, ap, ◌∙◌, subst, arith, eq-eqb}
+use Rattle.std.proofs.lemmas.Bool.{ne_eqb}
+use Rattle.std.proofs.lemmas.List.{get_or-take, length-append, take_more}
+use Rattle.std.proofs.Math.ListN.{get_or-append}
+use Rattle.std.proofs.Math.Seq.{get_or-append_seam, take-append_seam}
+use Rattle.std.specs.List.{onto_first}
+use Rattle.qs_script.specs.Finds.{HasNo, IsFirst}
+use Rattle.qs_script.specs.Lines.{words_of}
+use Rattle.qs_script.specs.SessionNames.{IsSessionName}
+use Rattle.qs_script.specs.Spelled.{SpellsActor, SpellsNumber, greatest}
+use Rattle.qs_script.specs.declared.actor.ScriptActor.{ScriptActor}
+use Rattle.qs_script.specs.declared.actor.ScriptActor.TheVariants as actor
+
+-- a text without a space is one word
+pub split_none : (text : List ℕ) → HasNo 32 text → words_of text ≡ text ∷ []
+split_none [] absent = refl
+split_none (x ∷ xs) absent =
+    let e = ne_eqb x 32 (absent 0 (omega arith)) in
+    let rest : HasNo 32 xs = λ k inside. absent (suc k) (omega arith) in
+    rw e (ap (onto_first x) (split_none xs rest))
+
+-- the words of a text, at its first space
+pub split_first : (text : List ℕ) (at : ℕ) → IsFirst 32 text at → words_of text ≡ take at text ∷ words_of (drop (suc at) text)
+split_first [] at is = absurd (let inside = is.inside in omega arith)
+split_first (x ∷ xs) zero is = rw (eq-eqb x 32 is.here) refl
+split_first (x ∷ xs) (suc at) is =
+    let e = ne_eqb x 32 (is.before 0 (omega arith)) in
+    let inner : IsFirst 32 xs at = record {
+      inside = let inside = is.inside in omega arith;
+      here = is.here;
+      before = λ k h. is.before (suc k) (omega arith);
+    } in
+    rw e (ap (onto_first x) (split_first xs at inner))
+
+-- the front of a piece up to its first LF, and the LF
+pub line_end : (piece : List ℕ) (count at : ℕ) → IsFirst 10 (take count piece) at → at < count → at < length piece →
+    take (at + 1) piece ≡ take at piece ++ 10 ∷ []
+line_end piece count at is in_count in_piece =
+    let seen : List ℕ → List ℕ = λ last. take at piece ++ last in
+    take_more piece at 0 in_piece
+    ∙ ap (λ (x : ℕ). take at piece ++ x ∷ []) (sym (get_or-take count piece at 0 in_count) ∙ is.here)
+
+pub no_end : (piece : List ℕ) (count at : ℕ) → IsFirst 10 (take count piece) at → at < count → at ≤ length piece → HasNo 10 (take at piece)
+no_end piece count at is in_count in_piece = λ k inside ten.
+    let below : k < at = grind (arith, length-take, inside) in
+    is.before k below (get_or-take count piece k 0 (omega arith) ∙ sym (get_or-take at piece k 0 below) ∙ ten)
+
+-- a session's name has no dot
+pub name_no_dot : (s : List ℕ) → IsSessionName s → HasNo 46 s
+name_no_dot [] is = absurd is
+name_no_dot (x ∷ xs) is = λ k. elim k as (λ (k : ℕ). k < length (x ∷ xs) → get_or (x ∷ xs) k 0 ≡ 46 → ⊥) [
+  | zero ↦ λ inside dot. let upper = is.1 in omega arith
+  | suc j ↦ λ inside dot. let small = is.2 j 0 (omega arith) in omega arith
+]
+
+-- the first dot behind a session's name is right behind it
+pub dot_at : (word s digits : List ℕ) (at : ℕ) → IsFirst 46 word at → HasNo 46 s → word ≡ s ++ 46 ∷ digits → at ≡ length s
+dot_at word s digits at is absent whole =
+    let not_before : at < length s → ⊥ = λ h. absent at h (sym (get_or-append s (46 ∷ digits) 0 at h) ∙ ap (λ (w : List ℕ). get_or w at 0) (sym whole) ∙ is.here) in
+    let not_behind : length s < at → ⊥ = λ h. is.before (length s) h (ap (λ (w : List ℕ). get_or w (length s) 0) whole ∙ get_or-append_seam s 46 digits 0) in
+    omega arith
+
+drop_behind : (s : List ℕ) (byte : ℕ) (digits : List ℕ) → drop (suc (length s)) (s ++ byte ∷ digits) ≡ digits
+drop_behind [] byte digits = refl
+drop_behind (x ∷ xs) byte digits = drop_behind xs byte digits
+
+-- a word without a dot spells no actor but a session
+pub no_dot : (word : List ℕ) → HasNo 46 word → (IsSessionName word → ⊥) → (who : ScriptActor) → SpellsActor word who → ⊥
+no_dot word absent bad (actor.Session s) is = bad (subst IsSessionName (sym is.0) is.1)
+no_dot word absent bad (actor.Request s c) is =
+    let inside : length s < length word = omega (arith, ap length is.1.0, length-append s (46 ∷ is.0)) in
+    absent (length s) inside (ap (λ (w : List ℕ). get_or w (length s) 0) is.1.0 ∙ get_or-append_seam s 46 is.0 0)
+
+-- a word that spells an actor has the session before its first dot, and the cookie behind it
+pub dotted : (word : List ℕ) (at : ℕ) → IsFirst 46 word at → (who : ScriptActor) → SpellsActor word who →
+    IsSessionName (take at word) × ((n : ℕ) × SpellsNumber greatest (drop (suc at) word) n)
+dotted word at first (actor.Session s) is = absurd (name_no_dot word (subst IsSessionName (sym is.0) is.1) at first.inside first.here)
+dotted word at first (actor.Request s c) is =
+    let at_is : at ≡ length s = dot_at word s is.0 at first (name_no_dot s is.1.1) is.1.0 in
+    let front : take at word ≡ s =
+    ap (λ (n : ℕ). take n word) at_is ∙ ap (λ (w : List ℕ). take (length s) w) is.1.0 ∙ take-append_seam s (46 ∷ is.0) in
+    let back : drop (suc at) word ≡ is.0 =
+    ap (λ (n : ℕ). drop (suc n) word) at_is ∙ ap (λ (w : List ℕ). drop (suc (length s)) w) is.1.0 ∙ drop_behind s 46 is.0 in
+    let spells : List ℕ → Type 0 = λ digits. SpellsNumber greatest digits c in
+    (subst IsSessionName (sym front) is.1.1, (c, subst spells (sym back) is.1.2))

@@ -1,0 +1,6 @@
+-- The byte doesn't stand before the place that was reached.
+use Rattle.std.proofs.Common.{◌≡◌, ℕ, ◌<◌, get_or}
+use Rattle.qs_script.proofs.find.first_of.Given as goal
+
+abbrev pub invariant-loop-i : goal.invariant-loop-i
+invariant-loop-i l = (k : ℕ) → k < l.i → get_or l.bytes k 0 ≡ l.wanted → ⊥

@@ -1,0 +1,61 @@
+-- The grammar of a script's lines, on whole texts without their LF.
+use Rattle.std.specs.Prelude.{◌≡◌, ℕ, ◌≤◌, ◌⊎◌, ◌==◌, List, [], ◌∷◌, length, codes, Option, None, Some}
+use Rattle.std.specs.List.{slice_split}
+use Rattle.std.specs.Borrow.{Bor}
+use Rattle.qs_bytes.specs.Names.{IsName}
+use Rattle.qs_script.specs.SessionNames.{IsSessionName}
+use Rattle.qs_script.specs.Spelled.{SpellsNumber, SpellsActor, SpellsData, fail_word, greatest, greatest_length}
+use Rattle.qs_script.specs.declared.actor.ScriptActor.{ScriptActor}
+use Rattle.qs_script.specs.declared.line.Line.{Line}
+use Rattle.qs_script.specs.declared.line.Line.TheVariants as line
+
+-- the parts of a text between single spaces
+abbrev pub words_of : List ℕ → List (List ℕ)
+words_of text = slice_split (λ byte. byte == 32) text
+
+-- the words behind a space, if there is one
+abbrev pub words_left : Option (Bor (List ℕ)) → List (List ℕ)
+words_left None = []
+words_left (Some rest) = words_of rest.now
+
+-- an empty line, or a comment
+abbrev pub IsQuiet : List ℕ → Type 0
+IsQuiet [] = Unit {0}
+IsQuiet (first ∷ others) = first ≡ 35
+
+-- `VERB ACTOR`, at reading 0, or `VERB ACTOR READING`
+pub record Drives (verb : List ℕ) (words : List (List ℕ)) (actor : ScriptActor) (now : ℕ) : Type 0 where
+  pub who : List ℕ
+  pub actor_is : SpellsActor who actor
+  pub rest : ((words ≡ verb ∷ who ∷ []) × (now ≡ 0)) ⊎ ((digits : List ℕ) × ((words ≡ verb ∷ who ∷ digits ∷ []) × SpellsNumber greatest digits now))
+
+-- a request's session, cookie and offset
+abbrev pub Place : Type 0
+Place = List ℕ × ℕ × ℕ
+
+abbrev pub IsPlace : List ℕ → List ℕ → List ℕ → Place → Type 0
+IsPlace session cookie offset place =
+    (session ≡ place.0) × IsSessionName session × SpellsNumber greatest cookie place.1 × SpellsNumber greatest offset place.2
+
+-- `VERB S C OFFSET LAST`
+pub record Asks (verb : List ℕ) (words : List (List ℕ)) (s : List ℕ) (c offset : ℕ) (last : List ℕ) : Type 0 where
+  pub cookie_word : List ℕ
+  pub offset_word : List ℕ
+  pub whole : words ≡ verb ∷ s ∷ cookie_word ∷ offset_word ∷ last ∷ []
+  pub place : IsPlace s cookie_word offset_word (s, c, offset)
+
+-- the words spell the line
+abbrev pub WordsSpell : List (List ℕ) → Line → Type 0
+WordsSpell words line.Nothing = ⊥
+WordsSpell words (line.Session s e) = (words ≡ codes "session" ∷ s ∷ e ∷ []) × IsSessionName s × (1 ≤ length e) × IsName e
+WordsSpell words (line.End s) = (words ≡ codes "end" ∷ s ∷ []) × IsSessionName s
+WordsSpell words (line.Read s c offset length) = (last : List ℕ) × (Asks (codes "read") words s c offset last × SpellsNumber greatest_length last length)
+WordsSpell words (line.Write s c offset bytes) = (last : List ℕ) × (Asks (codes "write") words s c offset last × SpellsData last bytes)
+WordsSpell words (line.Step actor now) = Drives (codes "step") words actor now
+WordsSpell words (line.Run actor now) = Drives (codes "run") words actor now
+WordsSpell words (line.Fail stripe kind) = (digits : List ℕ) × ((words ≡ codes "fail" ∷ digits ∷ fail_word kind ∷ []) × SpellsNumber 7 digits stripe)
+
+-- the text spells the line
+abbrev pub Reads : List ℕ → Line → Type 0
+Reads text line.Nothing = IsQuiet text
+Reads text other = WordsSpell (words_of text) other

@@ -1,0 +1,57 @@
+-- What the words of a script's lines spell.
+use Rattle.std.specs.Prelude.{◌≡◌, ℕ, ◌<◌, ◌≤◌, EachIndex, slice_index, List, [], ◌∷◌, ◌++◌, length, replicate, codes, Ok}
+use Rattle.std.specs.Fmt.{decimal}
+use Rattle.std.specs.Int.{IsInRange}
+use Rattle.hex.specs.Hex.{decode_of}
+use Rattle.qs_outside.specs.declared.rigged_disk.Fail.{Fail}
+use Rattle.qs_outside.specs.declared.rigged_disk.Fail.TheVariants.{Load, StoreOld, StoreNew, Sync}
+use Rattle.qs_script.specs.SessionNames.{IsSessionName}
+use Rattle.qs_script.specs.declared.actor.ScriptActor.{ScriptActor}
+use Rattle.qs_script.specs.declared.actor.ScriptActor.TheVariants.{Session, Request}
+
+-- decimal digits, the first of which is `0` only where it is alone
+pub record IsPlain (word : List ℕ) : Type 0 where
+  pub digits : EachIndex word (λ k. IsInRange 48 57 (slice_index word k))
+  pub some : 0 < length word
+  pub first : slice_index word 0 ≡ 48 → length word ≡ 1
+
+-- decimal digits without leading zeros, of a number up to some greatest one
+pub record SpellsNumber (most : ℕ) (word : List ℕ) (n : ℕ) : Type 0 where
+  pub small : n ≤ most
+  pub digits : word ≡ decimal n
+
+-- the greatest cookie, offset or reading, the greatest length, and the most bytes of a WRITE
+abbrev pub greatest : ℕ
+greatest = 0xffff_ffff_ffff_ffff
+
+abbrev pub greatest_length : ℕ
+greatest_length = 0xffff_ffff
+
+abbrev pub most_data : ℕ
+most_data = 33554432
+
+-- a session, or a request of one by its cookie: `A` and `A.1`
+abbrev pub SpellsActor : List ℕ → ScriptActor → Type 0
+SpellsActor word (Session s) = (word ≡ s) × IsSessionName s
+SpellsActor word (Request s c) = (digits : List ℕ) × ((word ≡ s ++ 46 ∷ digits) × IsSessionName s × SpellsNumber greatest digits c)
+
+-- one byte, spelled by a pair of digits, over and over
+pub record Repeats (pair digits bytes : List ℕ) : Type 0 where
+  pub byte : ℕ
+  pub count : ℕ
+  pub one : decode_of pair ≡ Ok (byte ∷ [])
+  pub times : SpellsNumber most_data digits count
+  pub is : bytes ≡ replicate count byte
+
+-- the data of a WRITE: `-` for none, `11*512` for one byte over and over, or pairs of hexadecimal digits
+pub data SpellsData (word bytes : List ℕ) : Type 0 where
+  nothing : word ≡ codes "-" → bytes ≡ [] → SpellsData word bytes
+  repeated : (pair digits : List ℕ) → word ≡ pair ++ 42 ∷ digits → Repeats pair digits bytes → SpellsData word bytes
+  pairs : 1 ≤ length word → decode_of word ≡ Ok bytes → SpellsData word bytes
+
+-- the failures that can be planned
+abbrev pub fail_word : Fail → List ℕ
+fail_word Load = codes "load"
+fail_word StoreOld = codes "store-old"
+fail_word StoreNew = codes "store-new"
+fail_word Sync = codes "sync"

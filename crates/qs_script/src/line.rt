@@ -1,0 +1,58 @@
+use crate::actor::ScriptActor;
+use crate::session_name::SessionName;
+use qs_bytes::{Bytes, Name};
+use qs_outside::Fail;
+
+/// A line of a script. Offsets and lengths are bytes, readings are nanoseconds.
+#[derive(Debug, Drop)]
+pub enum Line {
+    /// An empty line or a comment.
+    Nothing,
+    /// `session S EXPORT`
+    Session {
+        session: SessionName,
+        export: Name,
+    },
+    /// `end S`
+    End {
+        session: SessionName,
+    },
+    /// `read S C OFFSET LENGTH`
+    Read {
+        session: SessionName,
+        cookie: u64,
+        offset: u64,
+        length: u64,
+    },
+    /// `write S C OFFSET BYTES`
+    Write {
+        session: SessionName,
+        cookie: u64,
+        offset: u64,
+        body: Bytes,
+    },
+    /// `step ACTOR [READING]`
+    Step {
+        actor: ScriptActor,
+        now: u64,
+    },
+    /// `run ACTOR [READING]`
+    Run {
+        actor: ScriptActor,
+        now: u64,
+    },
+    /// `fail STRIPE KIND`
+    Fail {
+        stripe: u64,
+        kind: Fail,
+    },
+}
+
+/// Why a text is no line.
+#[derive(Clone, Copy, Debug, PartialEq, Eq)]
+pub enum LineFault {
+    /// It spells none.
+    OutOfForm,
+    /// Memory was refused.
+    Memory,
+}

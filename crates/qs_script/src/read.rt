@@ -1,0 +1,229 @@
+ghost use Rattle.std.specs.Prelude.{◌≡◌, ◌↔◌, Err, IfOk, IsNone, IsTrue, IfSome, [], ◌∷◌};
+ghost use Rattle.qs_script.specs.Lines.{IsPlace, IsQuiet, Place, Reads, WordsSpell, words_left, words_of};
+ghost use Rattle.qs_outside.specs.declared.rigged_disk.Fail.{Fail as Failure};
+ghost use Rattle.qs_script.specs.Spelled.{fail_word};
+ghost use Rattle.qs_script.specs.Verbs.{verb_word};
+ghost use Rattle.qs_script.specs.declared.read.Verb.{Verb as AVerb};
+ghost use Rattle.qs_script.specs.declared.line.Line.{Line as ALine};
+ghost use Rattle.qs_script.specs.declared.line.LineFault.TheVariants.{OutOfForm};
+
+use crate::actor::actor_of;
+use crate::data::data_of;
+use crate::find::first_of;
+use crate::line::{Line, LineFault};
+use crate::number::number;
+use crate::session_name::SessionName;
+use qs_bytes::Name;
+use qs_outside::Fail;
+use std::alloc::Global;
+
+/// The greatest length of a request, in bytes.
+const GREATEST_LENGTH: u64 = 0xffff_ffff;
+
+/// The line that a text spells, which has no LF. OutOfForm exactly where it spells none.
+pub fn read_line(alloc: Global, text: &[u8]) -> Result<Line, LineFault>
+    ensures ok { IfOk result (Reads text.now) }
+    ensures out { result ≡ Err OutOfForm → (line : ALine) → ¬ Reads text.now line }
+{
+    if is_quiet(text) {
+        return Ok(Line::Nothing);
+    }
+    let (verb, rest) = cut_word(text);
+    let Some(rest) = rest else {
+        return Err(LineFault::OutOfForm);
+    };
+    let (first, rest) = cut_word(rest);
+    let Some(rest) = rest else {
+        return two_words(verb, first).ok_or(LineFault::OutOfForm);
+    };
+    let (second, rest) = cut_word(rest);
+    let Some(rest) = rest else {
+        return three_words(verb, first, second).ok_or(LineFault::OutOfForm);
+    };
+    let (third, rest) = cut_word(rest);
+    let Some(rest) = rest else {
+        return Err(LineFault::OutOfForm);
+    };
+    let (fourth, rest) = cut_word(rest);
+    match rest {
+        None => five_words(alloc, verb, first, second, third, fourth),
+        Some(_) => Err(LineFault::OutOfForm),
+    }
+}
+
+/// Whether the line is empty, or a comment.
+fn is_quiet(text: &[u8]) -> bool
+    ensures { IsTrue result ↔ IsQuiet text.now }
+{
+    match text {
+        [] => true,
+        [first, ..] => *first == b'#',
+    }
+}
+
+/// The first word of a text, and what follows the space behind it, if there is one.
+fn cut_word(text: &[u8]) -> (&[u8], Option<&[u8]>)
+    ensures { words_of text.now ≡ result.0.now ∷ words_left result.1 }
+{
+    match first_of(text, b' ') {
+        Some(at) => (&text[..at], Some(&text[at + 1..])),
+        None => (text, None),
+    }
+}
+
+/// The first word of a line.
+#[derive(Clone, Copy, Debug, PartialEq, Eq)]
+enum Verb {
+    Session,
+    End,
+    Read,
+    Write,
+    Step,
+    Run,
+    Fail,
+}
+
+/// The verb that a word names.
+fn verb_of(word: &[u8]) -> Option<Verb>
+    ensures some { IfSome result (λ verb. word.now ≡ verb_word verb) }
+    ensures none { IsNone result → (verb : AVerb) → ¬ (word.now ≡ verb_word verb) }
+{
+    match word {
+        b"session" => Some(Verb::Session),
+        b"end" => Some(Verb::End),
+        b"read" => Some(Verb::Read),
+        b"write" => Some(Verb::Write),
+        b"step" => Some(Verb::Step),
+        b"run" => Some(Verb::Run),
+        b"fail" => Some(Verb::Fail),
+        _ => None,
+    }
+}
+
+/// `end S`, or `step` or `run` of an actor at reading 0.
+fn two_words(verb: &[u8], word: &[u8]) -> Option<Line>
+    ensures some { IfSome result (WordsSpell (verb.now ∷ word.now ∷ [])) }
+    ensures none { IsNone result → (line : ALine) → ¬ WordsSpell (verb.now ∷ word.now ∷ []) line }
+{
+    match verb_of(verb)? {
+        Verb::End => Some(Line::End {
+            session: SessionName::of(word)?,
+        }),
+        Verb::Step => Some(Line::Step {
+            actor: actor_of(word)?,
+            now: 0,
+        }),
+        Verb::Run => Some(Line::Run {
+            actor: actor_of(word)?,
+            now: 0,
+        }),
+        Verb::Session | Verb::Read | Verb::Write | Verb::Fail => None,
+    }
+}
+
+/// `session S EXPORT`, `step` or `run` of an actor at a reading, or `fail STRIPE KIND`.
+fn three_words(verb: &[u8], first: &[u8], second: &[u8]) -> Option<Line>
+    ensures some { IfSome result (WordsSpell (verb.now ∷ first.now ∷ second.now ∷ [])) }
+    ensures none { IsNone result → (line : ALine) → ¬ WordsSpell (verb.now ∷ first.now ∷ second.now ∷ []) line }
+{
+    match verb_of(verb)? {
+        Verb::Session => session_line(first, second),
+        Verb::Step => Some(Line::Step {
+            actor: actor_of(first)?,
+            now: number(second, u64::MAX)?,
+        }),
+        Verb::Run => Some(Line::Run {
+            actor: actor_of(first)?,
+            now: number(second, u64::MAX)?,
+        }),
+        Verb::Fail => Some(Line::Fail {
+            stripe: number(first, 7)?,
+            kind: fail_of(second)?,
+        }),
+        Verb::End | Verb::Read | Verb::Write => None,
+    }
+}
+
+/// The line that begins a session at an export, whose name isn't empty.
+fn session_line(session: &[u8], export: &[u8]) -> Option<Line>
+    ensures some { IfSome result (WordsSpell (verb_word Verb.Session ∷ session.now ∷ export.now ∷ [])) }
+    ensures none { IsNone result → (line : ALine) → ¬ WordsSpell (verb_word Verb.Session ∷ session.now ∷ export.now ∷ []) line }
+{
+    if export.is_empty() {
+        return None;
+    }
+    Some(Line::Session {
+        session: SessionName::of(session)?,
+        export: Name::of(export)?,
+    })
+}
+
+/// The failure that a word names.
+fn fail_of(word: &[u8]) -> Option<Fail>
+    ensures some { IfSome result (λ kind. word.now ≡ fail_word kind) }
+    ensures none { IsNone result → (kind : Failure) → ¬ (word.now ≡ fail_word kind) }
+{
+    match word {
+        b"load" => Some(Fail::Load),
+        b"store-old" => Some(Fail::StoreOld),
+        b"store-new" => Some(Fail::StoreNew),
+        b"sync" => Some(Fail::Sync),
+        _ => None,
+    }
+}
+
+/// `read S C OFFSET LENGTH` or `write S C OFFSET BYTES`.
+fn five_words(
+    alloc: Global,
+    verb: &[u8],
+    session: &[u8],
+    cookie: &[u8],
+    offset: &[u8],
+    last: &[u8],
+) -> Result<Line, LineFault>
+    ensures ok { IfOk result (WordsSpell (verb.now ∷ session.now ∷ cookie.now ∷ offset.now ∷ last.now ∷ [])) }
+    ensures out { result ≡ Err OutOfForm → (line : ALine) →
+        ¬ WordsSpell (verb.now ∷ session.now ∷ cookie.now ∷ offset.now ∷ last.now ∷ []) line }
+{
+    let Some(verb) = verb_of(verb) else {
+        return Err(LineFault::OutOfForm);
+    };
+    let Some((session, cookie, offset)) = place_of(session, cookie, offset) else {
+        return Err(LineFault::OutOfForm);
+    };
+    match verb {
+        Verb::Read => match number(last, GREATEST_LENGTH) {
+            Some(length) => Ok(Line::Read {
+                session,
+                cookie,
+                offset,
+                length,
+            }),
+            None => Err(LineFault::OutOfForm),
+        },
+        Verb::Write => match data_of(alloc, last) {
+            Ok(body) => Ok(Line::Write {
+                session,
+                cookie,
+                offset,
+                body,
+            }),
+            Err(fault) => Err(fault),
+        },
+        Verb::Session | Verb::End | Verb::Step | Verb::Run | Verb::Fail => {
+            Err(LineFault::OutOfForm)
+        }
+    }
+}
+
+/// The session, the cookie and the offset of a request.
+fn place_of(session: &[u8], cookie: &[u8], offset: &[u8]) -> Option<(SessionName, u64, u64)>
+    ensures some { IfSome result (IsPlace session.now cookie.now offset.now) }
+    ensures none { IsNone result → (place : Place) → ¬ IsPlace session.now cookie.now offset.now place }
+{
+    Some((
+        SessionName::of(session)?,
+        number(cookie, u64::MAX)?,
+        number(offset, u64::MAX)?,
+    ))
+}

@@ -1,0 +1,247 @@
+use super::*;
+use qs_bytes::{Bytes, Errno, Memory, Verdict};
+use qs_outside::Fail as Failing;
+use qs_part::event::{Note, NoteReply, OpKind, StripeNote};
+use qs_part::graph::{GraphReply, Route};
+use qs_part::tracker::TrackerReply;
+use std::alloc::Global;
+use std::test::Fail;
+
+/// Tells numbers behind a word, each behind a space.
+fn tell(alloc: Global, out: &mut Bytes, word: &[u8], numbers: &[u64]) -> Result<(), Memory> {
+    out.append(word)?;
+    for number in numbers {
+        out.append(b" ")?;
+        out.append(number.to_string(alloc)?.as_bytes())?;
+    }
+    Ok(())
+}
+
+fn tell_actor(alloc: Global, out: &mut Bytes, actor: &ScriptActor) -> Result<(), Memory> {
+    match actor {
+        ScriptActor::Session(session) => out.append(session.as_slice()),
+        ScriptActor::Request(session, cookie) => {
+            out.append(session.as_slice())?;
+            tell(alloc, out, b" request", &[*cookie])
+        }
+    }
+}
+
+fn tell_failure(out: &mut Bytes, kind: Failing) -> Result<(), Memory> {
+    match kind {
+        Failing::Load => out.append(b" Load"),
+        Failing::StoreOld => out.append(b" StoreOld"),
+        Failing::StoreNew => out.append(b" StoreNew"),
+        Failing::Sync => out.append(b" Sync"),
+    }
+}
+
+/// Tells a line in other words.
+fn tell_line(alloc: Global, out: &mut Bytes, line: &Line) -> Result<(), Memory> {
+    match line {
+        Line::Nothing => Ok(()),
+        Line::Session { session, export } => {
+            out.append(session.as_slice())?;
+            out.append(b" at ")?;
+            out.append(export.as_slice())
+        }
+        Line::End { session } => {
+            out.append(session.as_slice())?;
+            out.append(b" ends")
+        }
+        Line::Read {
+            session,
+            cookie,
+            offset,
+            length,
+        } => {
+            out.append(session.as_slice())?;
+            tell(alloc, out, b" reads", &[*cookie, *offset, *length])
+        }
+        Line::Write {
+            session,
+            cookie,
+            offset,
+            body,
+        } => {
+            out.append(session.as_slice())?;
+            tell(alloc, out, b" writes", &[*cookie, *offset])?;
+            out.append(b" ")?;
+            out.append(body.as_slice())
+        }
+        Line::Step { actor, now } => {
+            tell_actor(alloc, out, actor)?;
+            tell(alloc, out, b" steps", &[*now])
+        }
+        Line::Run { actor, now } => {
+            tell_actor(alloc, out, actor)?;
+            tell(alloc, out, b" runs", &[*now])
+        }
+        Line::Fail { stripe, kind } => {
+            tell(alloc, out, b"stripe", &[*stripe])?;
+            tell_failure(out, *kind)
+        }
+    }
+}
+
+/// The line that a text spells, in other words.
+fn told(alloc: Global, text: &[u8]) -> Result<Bytes, Memory> {
+    let mut out = Bytes::of(Vec::new(alloc));
+    match read_line(alloc, text) {
+        Ok(line) => tell_line(alloc, &mut out, &line)?,
+        Err(LineFault::OutOfForm) => out.append(b"out of form")?,
+        Err(LineFault::Memory) => return Err(Memory),
+    }
+    Ok(out)
+}
+
+#[test]
+fn lines_are_read(rt: HostRuntime) -> Result<(), Fail> {
+    let rows: [(&[u8], &[u8]); 15] = [
+        (b"", b""),
+        (b"# read A 1 0 512", b""),
+        (b"session A disk", b"A at disk"),
+        (b"end Abcdefg9", b"Abcdefg9 ends"),
+        (b"read A 2 508 4294967295", b"A reads 2 508 4294967295"),
+        (b"write A 1 510 6d6D4a", b"A writes 1 510 mmJ"),
+        (b"write A 1 7 -", b"A writes 1 7 "),
+        (b"write A 1 7 61*3", b"A writes 1 7 aaa"),
+        (b"write A 1 7 61*0", b"A writes 1 7 "),
+        (b"step A.1", b"A request 1 steps 0"),
+        (b"step A", b"A steps 0"),
+        (
+            b"step A.18446744073709551615 7",
+            b"A request 18446744073709551615 steps 7",
+        ),
+        (b"run A.1 1000000", b"A request 1 runs 1000000"),
+        (b"fail 7 store-new", b"stripe 7 StoreNew"),
+        (b"fail 0 sync", b"stripe 0 Sync"),
+    ];
+    for (text, wanted) in rows {
+        assert_eq!(rt; told(rt.alloc(), text)?.as_slice(), wanted);
+    }
+    Ok(())
+}
+
+#[test]
+fn what_is_out_of_form_is_refused(rt: HostRuntime) {
+    for text in [
+        b"jump".as_slice(),
+        b" ",
+        b"end",
+        b"end A ",
+        b"end  A",
+        b"end a",
+        b"end Abcdefghi",
+        b"end A B",
+        b"session A ",
+        b"step A.01",
+        b"step A.",
+        b"step A.+1",
+        b"step A.1 18446744073709551616",
+        b"step cmd",
+        b"read A 1 0 4294967296",
+        b"read A 1 00 512",
+        b"write A 1 0 ",
+        b"write A 1 0 abc",
+        b"write A 1 0 2*2",
+        b"write A 1 0 22*33554433",
+        b"write A 1 0 22 fua",
+        b"fail 8 load",
+        b"fail 0 store",
+        b"crash 0",
+    ] {
+        assert!(rt; matches!(read_line(rt.alloc(), text), Err(LineFault::OutOfForm)));
+    }
+}
+
+#[test]
+fn lines_are_cut_from_pieces(rt: HostRuntime) -> Result<(), Fail> {
+    let mut cutter = LineCutter::new(rt.alloc())?;
+    for (piece, taken, event, line) in [
+        (b"ab".as_slice(), 2, None, b"ab".as_slice()),
+        (b"c\nd", 2, Some(Cut::Line), b"abc"),
+        (b"\n", 1, Some(Cut::Line), b""),
+        (b"d", 1, None, b"d"),
+    ] {
+        assert!(rt; cutter.line().len() < 65_536);
+        let fed = cutter.feed(piece);
+        assert_eq!(rt; (fed.taken, fed.event), (taken, event));
+        assert_eq!(rt; cutter.line(), line);
+        if event.is_some() {
+            cutter.clear();
+        }
+    }
+    cutter.clear();
+    let long = vec![in rt.alloc(); b'x'; 70_000]?;
+    assert!(rt; cutter.line().is_empty());
+    let fed = cutter.feed(long.as_slice());
+    assert_eq!(rt; (fed.taken, fed.event), (65_536, Some(Cut::TooLong)));
+    Ok(())
+}
+
+#[test]
+fn lines_are_printed(rt: HostRuntime) -> Result<(), Fail> {
+    let alloc = rt.alloc();
+    let a = SessionName::of(b"A").ok_or("no name")?;
+    let request = ScriptActor::Request(a, 1);
+    let route = Route {
+        offset: 512,
+        size: 1024,
+        writable: true,
+        groups: [(0, 0); 8],
+        count: 0,
+    };
+    let mut out = Bytes::of(Vec::new(alloc));
+    for (kind, at, reply) in [
+        (
+            OpKind::Enter,
+            None,
+            NoteReply::Tracker(TrackerReply::Entered(0)),
+        ),
+        (
+            OpKind::Route,
+            None,
+            NoteReply::Graph(GraphReply::Routed(route)),
+        ),
+        (
+            OpKind::Start,
+            None,
+            NoteReply::Tracker(TrackerReply::NotYet(3)),
+        ),
+        (OpKind::Hold, Some(1), NoteReply::Stripe(StripeNote::Filled)),
+        (OpKind::Load, Some(2), NoteReply::Stripe(StripeNote::Filled)),
+        (OpKind::Store, Some(1), NoteReply::Stripe(StripeNote::Done)),
+        (
+            OpKind::Store,
+            Some(1),
+            NoteReply::Stripe(StripeNote::HeldBy(9)),
+        ),
+    ] {
+        put_step(alloc, &mut out, &request, &Note { kind, at, reply })?;
+    }
+    for verdict in [
+        Verdict::Got(Bytes::of([0, 0xaa, 0x0f].to_vec(alloc)?)),
+        Verdict::Got(Bytes::of(Vec::new(alloc))),
+        Verdict::Fine,
+        Verdict::Refused(Errno::NoSpace),
+        Verdict::Dropped,
+    ] {
+        put_answer(alloc, &mut out, a, 1, &verdict)?;
+    }
+    for news in [
+        SessionNews::Attached(4096, true),
+        SessionNews::Attached(4096, false),
+        SessionNews::Refused,
+        SessionNews::Crowded,
+        SessionNews::Left,
+        SessionNews::Detached,
+    ] {
+        put_session(alloc, &mut out, a, news)?;
+    }
+    let printed = b"A.1 enter 0\nA.1 route 512 1024\nA.1 not-yet 3\nA.1 held 1\nA.1 loaded 2\n\
+A.1 stored 1\nA.1 busy 9\nA.1 = 0 00aa0f\nA.1 = 0 -\nA.1 = 0\nA.1 = 28\nA.1 dropped\n\
+A attached 4096 rw\nA attached 4096 ro\nA refused\nA crowded\nA left\nA detached\n";
+    assert_eq!(rt; out.as_slice(), printed.as_slice());
+    Ok(())
+}
