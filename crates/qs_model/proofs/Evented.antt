@@ -55,7 +55,7 @@ step_evented A w (Crowded s name) may = inr (Attach s name, _, ((refl, refl), re
 step_evented A w (Left s e) may = inr (Leave s, _, (refl, refl))
 step_evented A w (Detached s e) may = inr (StepEvent (ASession s) 0, _, (refl, refl))
 step_evented A w (NotAttached s e) may = inr (StepEvent (ASession s) 0, _, (refl, refl))
-step_evented A w (Asked r c) may = inr (AskEvent c.session c.ask (Some c.body), _, ((refl, refl, λ writing. refl), refl))
+step_evented A w (Asked r c) may = inr (AskEvent c.session c.ask (Some c.body), _, ((refl, refl, inl (λ writing. refl)), refl))
 step_evented A w (Did r q act) may =
     let (out, is) = act_outcome A w q.client q.dropped q.pads act may.1 in
     inr (StepEvent (ARequest r) 0, out, (refl, is))

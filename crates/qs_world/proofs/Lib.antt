@@ -1,0 +1,16 @@
+pub mod Keyed
+pub mod TrackerRows
+pub mod StripeRows
+pub mod GraphRows
+pub mod RequestRows
+pub mod Replies
+pub mod Doing
+pub mod Coming
+pub mod Answering
+pub mod PartSteps
+pub mod Indexing
+pub mod Handling
+pub mod Requests
+pub mod Opening
+pub mod Ready
+pub mod Plans

@@ -1,0 +1,276 @@
+-- One operation of a request on each part is a step of the core.
+use Rattle.std.proofs.Common.{◌≡◌, ℕ, zero, suc, ◌<◌, inl, inr, List, [], ◌∷◌, ◌++◌, length, map, Bool, true, false, ◌&&◌, refl, sym, ◌∙◌, ap, subst, arith}
+use Rattle.std.specs.Prelude.{Some, None, IsTrue}
+use Rattle.std.specs.List.{slice_set}
+use Rattle.std.proofs.lemmas.List.{get_or-set_same, get_or-set_other, length-set, length-map, map-set}
+use Rattle.qs_outside.specs.Blocks.{Seen}
+use Rattle.qs_outside.specs.Faults.{Rose}
+use Rattle.qs_part.specs.declared.event.Note.{Note}
+use Rattle.qs_part.specs.declared.event.NoteReply.TheVariants.{Stripe as OfStripe}
+use Rattle.qs_part.specs.declared.event.Outcome.{Outcome}
+use Rattle.qs_part.specs.declared.event.Outcome.TheVariants.{Moved}
+use Rattle.qs_part.specs.declared.event.StripeNote.{StripeNote}
+use Rattle.qs_part.specs.declared.event.StripeNote.TheVariants.{Fault as FaultNote}
+use Rattle.qs_part.specs.declared.graph.GraphOp.{GraphOp}
+use Rattle.qs_part.specs.declared.graph.GraphReply.{GraphReply}
+use Rattle.qs_part.specs.declared.stripe.StripeOp.{StripeOp}
+use Rattle.qs_part.specs.declared.stripe.StripeOp.TheVariants.{Load as LoadOp, Hold as HoldOp, Store as StoreOp, Free as FreeOp}
+use Rattle.qs_part.specs.declared.stripe.StripeReply.{StripeReply}
+use Rattle.qs_part.specs.declared.stripe.StripeReply.TheVariants.{Filled, Fault, HeldBy, Taken, Done, Freed, NotHeld}
+use Rattle.qs_part.specs.declared.tracker.TrackerOp.{TrackerOp}
+use Rattle.qs_part.specs.declared.tracker.TrackerReply.{TrackerReply}
+use Rattle.qs_model.specs.Requests.{Client, Pads, Stage, Ready}
+use Rattle.qs_model.specs.Worlds.{stripe_of}
+use Rattle.qs_model.proofs.Basics.{same_or}
+use Rattle.qs_graph.specs.Table.{answers as graph_answers}
+use Rattle.qs_request.specs.declared.shape.Shape.{Shape}
+use Rattle.qs_request.specs.declared.todo.PartReply.{PartReply}
+use Rattle.qs_request.specs.declared.todo.PartReply.TheVariants.{Tracker as ByTracker, Graph as ByGraph, Stripe as ByStripe}
+use Rattle.qs_request.specs.declared.todo.Todo.TheVariants.{Tracker as OnTracker, Graph as OnGraph, Stripe as OnStripe, Answer}
+use Rattle.qs_request.specs.Table.{WantsAt, FitsStripe}
+use Rattle.qs_request.specs.Value.{IsReady}
+use Rattle.qs_stripe.specs.Table.{StripeState, StripeValue, answers as stripe_answers, geometry, value_of as stripe_value}
+use Rattle.qs_tracker.specs.Table.{TrackerValue, Fits, May, answers, after, fresh}
+use Rattle.qs_tracker.specs.History.{Entry}
+use Rattle.qs_world.specs.declared.live.Live.{Live}
+use Rattle.qs_world.specs.Cores.{StepsRequest}
+use Rattle.qs_world.specs.Events.{HasCause}
+use Rattle.qs_world.specs.Follows.{Follows, IsElement}
+use Rattle.qs_world.specs.Images.{Changed, stripe_at, all_tell, no_stripe}
+use Rattle.qs_world.specs.Notes.{tracker_note, tracker_kind, route_note, stripe_note, stripe_kind, block_of, short}
+use Rattle.qs_world.specs.Sound.{IsSound, IsStripe}
+use Rattle.qs_world.specs.Trackers.{HasHistory}
+use Rattle.qs_world.specs.Values.{WorldValue, stripes_of}
+use Rattle.qs_world.proofs.Answering.{did_answers, req, waiting}
+use Rattle.qs_world.proofs.RequestRows.{Steps, tracker_row, graph_row, stripe_row}
+use Rattle.qs_world.proofs.TrackerRows.{history_sound, runs_more, left_more}
+
+-- a request that wants an operation isn't ready to answer
+tracker_going : (A : ℕ) (c : Client) (p : Pads) (stage : Stage) (op : TrackerOp) → WantsAt A c p stage (OnTracker op) → IsReady stage → ⊥
+tracker_going A c p (Ready v) op w h = let e : OnTracker op ≡ Answer v = w in absurd (cc)
+tracker_going A c p _ op w h = h
+
+graph_going : (A : ℕ) (c : Client) (p : Pads) (stage : Stage) (op : GraphOp) → WantsAt A c p stage (OnGraph op) → IsReady stage → ⊥
+graph_going A c p (Ready v) op w h = let e : OnGraph op ≡ Answer v = w in absurd (cc)
+graph_going A c p _ op w h = h
+
+stripe_going : (A : ℕ) (c : Client) (p : Pads) (stage : Stage) (z : ℕ) (op : StripeOp) → WantsAt A c p stage (OnStripe z op) → IsReady stage → ⊥
+stripe_going A c p (Ready v) z op w h = let e : OnStripe z op ≡ Answer v = w in absurd (cc)
+stripe_going A c p _ z op w h = h
+
+-- an answer of a part that has no disk
+no_cause : {D : Type 0} (seen : D → Seen) (old new : WorldValue D) (l : Live) (reply : PartReply) (note : Note) (at : ℕ) (requests : List Live) (outcome : Outcome) →
+    note.at ≡ None → Follows l reply note at requests outcome new.requests → HasCause seen old outcome new
+no_cause seen old new l reply note at requests (Moved n) none follows = λ b is fault. absurd (never b (sym (ap (λ (i : Note). i.at) follows.0 ∙ none) ∙ is))
+  where
+    never : (b : ℕ) → None ≡ Some b → ⊥
+    never b e = cc
+no_cause seen old new l reply note at requests _ none follows = tt
+
+-- one entry more of the tracker's history
+pub history_more : (v w : TrackerValue) (op : TrackerOp) (reply : TrackerReply) → HasHistory v → Fits op → answers v op reply w → HasHistory w
+history_more v w op reply h fits row =
+    let e : Entry = record { op = op; reply = reply } in (
+      h.0 ++ e ∷ [],
+      (
+        runs_more (fresh 0) h.0 e h.1.0 (subst (λ (x : TrackerValue). Fits op × May x op reply × Unit {0}) (sym h.1.1) (fits, row.0, tt)),
+        left_more (fresh 0) h.0 e ∙ ap (λ (x : TrackerValue). after x op reply) h.1.1 ∙ sym row.1,
+      ),
+    )
+
+-- the disks of a core whose stripes are as they were
+pub same_stripes : {D : Type 0} (seen : D → Seen) (old new : WorldValue D) → new.shape ≡ old.shape → new.stripes ≡ old.stripes → (j : ℕ) → IsStripe seen old j → IsStripe seen new j
+same_stripes seen old new shape same j is = rw (same, shape) is
+
+pub tracker_steps : {D : Type 0} (seen : D → Seen) (old new : WorldValue D) (at : ℕ) (l : Live) (op : TrackerOp) (reply : TrackerReply) (outcome : Outcome) →
+    IsSound seen old → IsElement old.requests at l → WantsAt old.shape.align (req l).client (req l).pads (req l).stage (OnTracker op) → Fits op →
+    answers old.tracker op reply new.tracker → new.shape ≡ old.shape → new.next ≡ old.next → new.sessions ≡ old.sessions → new.graph ≡ old.graph → new.stripes ≡ old.stripes →
+    Follows (waiting l) (ByTracker reply) (tracker_note (tracker_kind op) reply) at (slice_set old.requests at (waiting l)) outcome new.requests →
+    StepsRequest seen old l.number outcome new
+tracker_steps seen old new at l op reply outcome sound e wants fits row shape next sessions graph stripes follows =
+    let r = tracker_row old.shape.align (req l).client (req l).pads (req l).stage op reply old.tracker new.tracker wants (history_sound old.tracker sound.tracker) row in
+    did_answers seen old new at l r.act (ByTracker reply) (tracker_note (tracker_kind op) reply) outcome sound e
+    (tracker_going old.shape.align (req l).client (req l).pads (req l).stage op wants) r.is_row r.note
+    (record {
+      leaves = record { shape = shape; next = next; sessions = sessions; graph = graph; tells = ap (λ (s : List (StripeState _)). all_tell (map (stripe_value seen) s)) stripes };
+      count = rw stripes sound.count;
+      stripes = λ j h. same_stripes seen old new shape stripes j (sound.stripes j h);
+      history = history_more old.tracker new.tracker op reply sound.tracker fits row;
+    })
+    (λ m stands. r.guard m stands.tracker) r.tracks
+    (λ i stands. rw (r.images i, stripes) stands) follows
+    (no_cause seen old new (waiting l) (ByTracker reply) (tracker_note (tracker_kind op) reply) at (slice_set old.requests at (waiting l)) outcome refl follows)
+
+pub graph_steps : {D : Type 0} (seen : D → Seen) (old new : WorldValue D) (at : ℕ) (l : Live) (op : GraphOp) (reply : GraphReply) (outcome : Outcome) →
+    IsSound seen old → IsElement old.requests at l → WantsAt old.shape.align (req l).client (req l).pads (req l).stage (OnGraph op) →
+    graph_answers old.graph op reply new.graph → new.shape ≡ old.shape → new.next ≡ old.next → new.sessions ≡ old.sessions → new.tracker ≡ old.tracker → new.stripes ≡ old.stripes →
+    Follows (waiting l) (ByGraph reply) (route_note reply) at (slice_set old.requests at (waiting l)) outcome new.requests →
+    StepsRequest seen old l.number outcome new
+graph_steps seen old new at l op reply outcome sound e wants row shape next sessions tracker stripes follows =
+    let both = graph_row old.shape.align (req l).client (req l).pads (req l).stage op reply old.graph new.graph wants row in
+    let r = both.0 in
+    did_answers seen old new at l r.act (ByGraph reply) (route_note reply) outcome sound e
+    (graph_going old.shape.align (req l).client (req l).pads (req l).stage op wants) r.is_row r.note
+    (record {
+      leaves = record { shape = shape; next = next; sessions = sessions; graph = both.1; tells = ap (λ (s : List (StripeState _)). all_tell (map (stripe_value seen) s)) stripes };
+      count = rw stripes sound.count;
+      stripes = λ j h. same_stripes seen old new shape stripes j (sound.stripes j h);
+      history = rw tracker sound.tracker;
+    })
+    (λ m stands. r.guard m stands.graph)
+    (λ t stands. rw (r.tracks t, tracker) stands)
+    (λ i stands. rw (r.images i, stripes) stands) follows
+    (no_cause seen old new (waiting l) (ByGraph reply) (route_note reply) at (slice_set old.requests at (waiting l)) outcome refl follows)
+
+-- where all disks tell their content, each does
+pub all_tell_at : (vs : List StripeValue) (j : ℕ) → j < length vs → IsTrue (all_tell vs) → IsTrue (stripe_at vs j).disk.tells
+all_tell_at [] j inside all = absurd (omega arith)
+all_tell_at (v ∷ vs) zero inside all = first v.disk.tells all
+  where
+    first : (b : Bool) → IsTrue (b && all_tell vs) → IsTrue b
+    first true h = refl
+    first false h = h
+all_tell_at (v ∷ vs) (suc j) inside all = all_tell_at vs j (omega arith) (rest v.disk.tells all)
+  where
+    rest : (b : Bool) → IsTrue (b && all_tell vs) → IsTrue (all_tell vs)
+    rest true h = h
+    rest false h = absurd (never h)
+      where
+        never : IsTrue false → ⊥
+        never f = cc
+
+pub all_tell_set : (vs : List StripeValue) (j : ℕ) (v : StripeValue) → j < length vs → v.disk.tells ≡ (stripe_at vs j).disk.tells → all_tell (slice_set vs j v) ≡ all_tell vs
+all_tell_set [] j v inside same = refl
+all_tell_set (w ∷ vs) zero v inside same = ap (λ (b : Bool). b && all_tell vs) same
+all_tell_set (w ∷ vs) (suc j) v inside same = ap (λ (b : Bool). w.disk.tells && b) (all_tell_set vs j v (omega arith) same)
+
+-- no operation changes whether the disk tells its content
+tells_same : (old new : StripeValue) (op : StripeOp) (reply : StripeReply) → stripe_answers old op reply new → new.disk.tells ≡ old.disk.tells
+tells_same old new (LoadOp b k buf) (Filled got) row = row.0.fixed.tells
+tells_same old new (LoadOp b k buf) (Fault (Some back)) row = row.0.fixed.tells
+tells_same old new (HoldOp b k end buf) (HeldBy j back) row = ap (λ (v : StripeValue). v.disk.tells) row.2
+tells_same old new (HoldOp b k end buf) (Taken c back) row = ap (λ (v : StripeValue). v.disk.tells) row.3
+tells_same old new (HoldOp b k end buf) (Filled got) row = row.2.fixed.tells
+tells_same old new (HoldOp b k end buf) (Fault (Some back)) row = row.2.fixed.tells
+tells_same old new (StoreOp b k buf) (HeldBy j back) row = ap (λ (v : StripeValue). v.disk.tells) row.3
+tells_same old new (StoreOp b k buf) (Done back) row = row.1.fixed.tells
+tells_same old new (StoreOp b k buf) (Fault (Some back)) row = row.1.fixed.tells
+tells_same old new (FreeOp b k) Freed row = ap (λ (d : Seen). d.tells) row.1
+tells_same old new (FreeOp b k) NotHeld row = ap (λ (v : StripeValue). v.disk.tells) row.1
+tells_same old new _ _ row = absurd row
+
+-- a fault has a raised count
+rose_at : (old new : StripeValue) (op : StripeOp) (reply : StripeReply) → stripe_answers old op reply new → short reply ≡ FaultNote → Rose old.disk.faults new.disk.faults
+rose_at old new (LoadOp b k buf) (Fault (Some back)) row is = row.1.rose
+rose_at old new (HoldOp b k end buf) (Fault (Some back)) row is = row.3.rose
+rose_at old new (StoreOp b k buf) (Fault (Some back)) row is = row.2.rose
+rose_at old new (LoadOp b k buf) (Filled got) row is = cc
+rose_at old new (HoldOp b k end buf) (HeldBy j back) row is = cc
+rose_at old new (HoldOp b k end buf) (Taken c back) row is = cc
+rose_at old new (HoldOp b k end buf) (Filled got) row is = cc
+rose_at old new (StoreOp b k buf) (HeldBy j back) row is = cc
+rose_at old new (StoreOp b k buf) (Done back) row is = cc
+rose_at old new (FreeOp b k) Freed row is = cc
+rose_at old new (FreeOp b k) NotHeld row is = cc
+rose_at old new _ _ row is = absurd row
+
+-- an operation is on a block of its stripe
+pub stripe_is : (shape : Shape) (z : ℕ) (op : StripeOp) → FitsStripe shape z op → z ≡ stripe_of (block_of op)
+stripe_is shape z (LoadOp b k buf) fits = fits.0.stripe
+stripe_is shape z (HoldOp b k end buf) fits = fits.0.stripe
+stripe_is shape z (StoreOp b k buf) fits = fits.0.stripe
+stripe_is shape z (FreeOp b k) fits = fits.0.stripe
+
+-- the core's stripes behind an operation of one
+pub record StripeChanged {D : Type 0} (seen : D → Seen) (old new : WorldValue D) (z : ℕ) (s t : StripeState D) : Type 0 where
+  pub inside : z < length old.stripes
+  pub was : stripe_at (stripes_of seen old) z ≡ stripe_value seen s
+  pub is : new.stripes ≡ slice_set old.stripes z t
+
+pub changed_values : {D : Type 0} (seen : D → Seen) (old new : WorldValue D) (z : ℕ) (s t : StripeState D) → StripeChanged seen old new z s t →
+    stripes_of seen new ≡ slice_set (stripes_of seen old) z (stripe_value seen t)
+changed_values seen old new z s t c = ap (λ (xs : List (StripeState _)). map (stripe_value seen) xs) c.is ∙ map-set (stripe_value seen) old.stripes z t
+
+pub many_values : {D : Type 0} (seen : D → Seen) (old : WorldValue D) (z : ℕ) → z < length old.stripes → z < length (stripes_of seen old)
+many_values seen old z h = omega (arith, h, length-map old.stripes (stripe_value seen))
+
+pub changed_of : {D : Type 0} (seen : D → Seen) (old new : WorldValue D) (z : ℕ) (s t : StripeState D) → StripeChanged seen old new z s t →
+    Changed z (stripe_value seen t) (stripe_at (stripes_of seen old)) (stripe_at (stripes_of seen new))
+changed_of seen old new z s t c = record {
+  this = ap (λ (vs : List StripeValue). stripe_at vs z) (changed_values seen old new z s t c)
+      ∙ get_or-set_same (stripes_of seen old) z (stripe_value seen t) no_stripe (many_values seen old z c.inside);
+  others = λ i n. ap (λ (vs : List StripeValue). stripe_at vs i) (changed_values seen old new z s t c)
+      ∙ get_or-set_other (stripes_of seen old) z i (stripe_value seen t) no_stripe n;
+}
+
+-- each stripe is of its number and of the image's shape
+pub changed_stripes : {D : Type 0} (seen : D → Seen) (old new : WorldValue D) (z : ℕ) (s t : StripeState D) → StripeChanged seen old new z s t → new.shape ≡ old.shape →
+    geometry (stripe_value seen t) ≡ geometry (stripe_value seen s) → (j : ℕ) → IsStripe seen old j → IsStripe seen new j
+changed_stripes seen old new z s t c shape same j is =
+    rw shape (elim (same_or j z) [
+      | inl e ↦ ap (λ (i : ℕ). geometry (stripe_at (stripes_of seen new) i)) e ∙ ap geometry (changed_of seen old new z s t c).this ∙ same
+          ∙ sym (ap geometry c.was) ∙ ap (λ (i : ℕ). geometry (stripe_at (stripes_of seen old) i)) (sym e) ∙ is
+      | inr n ↦ ap geometry ((changed_of seen old new z s t c).others j n) ∙ is
+    ])
+
+-- a fault of a stripe comes only where its disk's count rose
+stripe_cause : {D : Type 0} (seen : D → Seen) (old new : WorldValue D) (l : Live) (reply : PartReply) (kind : _) (b : ℕ) (answer : StripeReply) (at : ℕ) (requests : List Live) (outcome : Outcome) →
+    (short answer ≡ FaultNote → Rose (stripe_at (stripes_of seen old) (stripe_of b)).disk.faults (stripe_at (stripes_of seen new) (stripe_of b)).disk.faults) →
+    Follows l reply (stripe_note kind b answer) at requests outcome new.requests → HasCause seen old outcome new
+stripe_cause seen old new l reply kind b answer at requests (Moved n) rose follows = λ d is fault.
+    subst (λ (x : ℕ). Rose (stripe_at (stripes_of seen old) (stripe_of x)).disk.faults (stripe_at (stripes_of seen new) (stripe_of x)).disk.faults)
+    (one_block b d (sym (ap (λ (i : Note). i.at) follows.0) ∙ is))
+    (rose (one_note (short answer) FaultNote (sym (ap (λ (i : Note). i.reply) follows.0) ∙ fault)))
+  where
+    one_block : (x y : ℕ) → Some x ≡ Some y → x ≡ y
+    one_block x y e = cc
+
+    one_note : (x y : StripeNote) → OfStripe x ≡ OfStripe y → x ≡ y
+    one_note x y e = cc
+stripe_cause seen old new l reply kind b answer at requests _ rose follows = tt
+
+pub stripe_steps : {D : Type 0} (seen : D → Seen) (old new : WorldValue D) (at : ℕ) (l : Live) (z : ℕ) (op : StripeOp) (reply : StripeReply) (s t : StripeState D) (outcome : Outcome) →
+    IsSound seen old → IsElement old.requests at l → WantsAt old.shape.align (req l).client (req l).pads (req l).stage (OnStripe z op) → FitsStripe old.shape z op → z < 8 →
+    stripe_at (stripes_of seen old) z ≡ stripe_value seen s → new.stripes ≡ slice_set old.stripes z t →
+    stripe_answers (stripe_value seen s) op reply (stripe_value seen t) → geometry (stripe_value seen t) ≡ geometry (stripe_value seen s) →
+    new.shape ≡ old.shape → new.next ≡ old.next → new.sessions ≡ old.sessions → new.graph ≡ old.graph → new.tracker ≡ old.tracker →
+    Follows (waiting l) (ByStripe reply) (stripe_note (stripe_kind op) (block_of op) reply) at (slice_set old.requests at (waiting l)) outcome new.requests →
+    StepsRequest seen old l.number outcome new
+stripe_steps seen old new at l z op reply s t outcome sound e wants fits below was is row same shape next sessions graph tracker follows =
+    let c : StripeChanged seen old new z s t = record { inside = omega (arith, below, sound.count); was = was; is = is } in
+    let change = changed_of seen old new z s t c in
+    let here : stripe_answers (stripe_at (stripes_of seen old) z) op reply (stripe_value seen t) =
+    subst (λ (v : StripeValue). stripe_answers v op reply (stripe_value seen t)) (sym was) row in
+    let step : Steps old.shape.align z op reply (all_tell (stripes_of seen old)) (stripe_at (stripes_of seen old)) (stripe_at (stripes_of seen new)) = record {
+      new = stripe_value seen t;
+      change = change;
+      told = all_tell_at (stripes_of seen old) z (many_values seen old z c.inside);
+      align = ap (λ (g : _). g.align) (sound.stripes z below);
+      row = here;
+    } in
+    let r = stripe_row old.shape.align (req l).client (req l).pads (req l).stage z op reply (all_tell (stripes_of seen old))
+    (stripe_at (stripes_of seen old)) (stripe_at (stripes_of seen new)) wants step in
+    did_answers seen old new at l r.act (ByStripe reply) (stripe_note (stripe_kind op) (block_of op) reply) outcome sound e
+    (stripe_going old.shape.align (req l).client (req l).pads (req l).stage z op wants) r.is_row r.note
+    (record {
+      leaves = record {
+        shape = shape;
+        next = next;
+        sessions = sessions;
+        graph = graph;
+        tells = ap all_tell (changed_values seen old new z s t c)
+            ∙ all_tell_set (stripes_of seen old) z (stripe_value seen t) (many_values seen old z c.inside)
+            (tells_same (stripe_at (stripes_of seen old) z) (stripe_value seen t) op reply here);
+      };
+      count = ap length is ∙ length-set old.stripes z t ∙ sound.count;
+      stripes = λ j h. changed_stripes seen old new z s t c shape same j (sound.stripes j h);
+      history = rw tracker sound.tracker;
+    })
+    (λ m stands. r.guard m stands.tells stands.image)
+    (λ k stands. rw (r.tracks k, tracker) stands)
+    r.images follows
+    (stripe_cause seen old new (waiting l) (ByStripe reply) (stripe_kind op) (block_of op) reply at (slice_set old.requests at (waiting l)) outcome
+    (λ fault. subst (λ (j : ℕ). Rose (stripe_at (stripes_of seen old) j).disk.faults (stripe_at (stripes_of seen new) j).disk.faults)
+    (stripe_is old.shape z op fits)
+    (subst (λ (v : StripeValue). Rose (stripe_at (stripes_of seen old) z).disk.faults v.disk.faults) (sym change.this)
+    (rose_at (stripe_at (stripes_of seen old) z) (stripe_value seen t) op reply here fault))) follows)

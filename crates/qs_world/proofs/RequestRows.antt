@@ -1,0 +1,425 @@
+-- An answer of a part to a request's operation is a row of the model.
+use Rattle.std.proofs.Common.{◌≡◌, ℕ, List, length, Bool, cond, refl, sym, ◌∙◌, ap, subst}
+use Rattle.std.specs.Prelude.{Some, None, IsTrue}
+use Rattle.qs_part.specs.declared.graph.GraphOp.TheVariants.{Route as RouteOp}
+use Rattle.qs_part.specs.declared.graph.GraphReply.{GraphReply}
+use Rattle.qs_part.specs.declared.graph.GraphReply.TheVariants.{Shutting, Routed}
+use Rattle.qs_part.specs.declared.stripe.Side.{Side}
+use Rattle.qs_part.specs.declared.stripe.StripeOp.{StripeOp}
+use Rattle.qs_part.specs.declared.stripe.StripeOp.TheVariants.{Load as LoadOp, Hold as HoldOp, Store as StoreOp, Free as FreeOp}
+use Rattle.qs_part.specs.declared.stripe.StripeReply.{StripeReply}
+use Rattle.qs_part.specs.declared.stripe.StripeReply.TheVariants.{Filled, Fault, HeldBy as HeldByReply, Taken as TakenReply, Done, Freed, NotHeld as NotHeldReply}
+use Rattle.qs_part.specs.declared.tracker.TrackerOp.{TrackerOp}
+use Rattle.qs_part.specs.declared.tracker.TrackerOp.TheVariants.{Enter as EnterOp, List as ListOp, Start as StartOp, End as EndOp}
+use Rattle.qs_part.specs.declared.tracker.TrackerReply.{TrackerReply}
+use Rattle.qs_part.specs.declared.tracker.TrackerReply.TheVariants.{Entered, Quiesced as QuiescedReply, Full as FullReply, Listed, Strange as StrangeReply, Started, NotYet as NotYetReply, Ended}
+use Rattle.qs_model.specs.Requests.{Client, Pads, Stage, ToRoute, ToList, ToStart, ToLoad, ToHold, ToStore, ToFree, ToEnd, Ready, Entering, In, edge, span_of, serial}
+use Rattle.qs_model.specs.Worlds.{Tracker, Image, World, stripe_of}
+use Rattle.qs_model.specs.Acts.{Act, Waits, Enters, Routes, Shuts, Lists, Starts, Loads, LoadFails, Holds, HoldFails, Stores, StoreFails, Frees, Ends, Quiesced, Full, NotYet, HeldBy, Taken, Strange, NotHeld}
+use Rattle.qs_model.specs.Guards.{MayDo}
+use Rattle.qs_model.specs.Steps.{tracked, imaged}
+use Rattle.qs_model.specs.Events.{note_of}
+use Rattle.qs_bytes.specs.Spans.{aligned_out}
+use Rattle.qs_part.specs.declared.graph.GraphOp.{GraphOp}
+use Rattle.qs_graph.specs.Table.{GraphValue, May as MayGraph, after as after_graph, answers as graph_answers}
+use Rattle.qs_request.specs.declared.todo.PartReply.TheVariants.{Tracker as ByTracker, Graph as ByGraph, Stripe as ByStripe}
+use Rattle.qs_request.specs.Rows.{IsRow}
+use Rattle.qs_request.specs.Table.{IsMerged}
+use Rattle.qs_stripe.specs.Table.{StripeValue, answers as stripe_answers}
+use Rattle.qs_bytes.specs.declared.ask.Verdict.{Verdict}
+use Rattle.qs_tracker.specs.Seats.{seat_at}
+use Rattle.qs_tracker.specs.Table.{TrackerValue, numbered, May, MayStart, after, answers}
+use Rattle.qs_request.specs.declared.todo.Todo.TheVariants.{Tracker as OnTracker, Graph as OnGraph, Stripe as OnStripe, Answer}
+use Rattle.qs_request.specs.Table.{WantsAt}
+use Rattle.qs_tracker.proofs.Sound.{Sound}
+use Rattle.qs_world.specs.Graphs.{StandsGraph}
+use Rattle.qs_world.specs.Images.{StandsImage, Changed}
+use Rattle.qs_part.specs.declared.event.OpKind.TheVariants.{List as ListKind}
+use Rattle.qs_world.specs.Notes.{tracker_note, tracker_kind, route_note, stripe_note, stripe_kind, block_of}
+use Rattle.qs_world.specs.Trackers.{StandsTracker, tracker_of, listing_of}
+use Rattle.qs_world.proofs.TrackerRows.{entered, full, listed_row, list_strange, started_row, wait_row, start_strange, ended_row, end_strange, started_listing, can_start, nowhere}
+use Rattle.qs_world.proofs.GraphRows.{routed_row, shut_row}
+use Rattle.qs_world.proofs.StripeRows.{reads_stands, takes_stands, frees_stands, written_stands, told_past, can_read, can_hold, can_free, held_at, same_stands, holder_is, alone, not_held, can_store, may_keep, took, took_now}
+
+-- an answer of the tracker, as a row: what the tracker was and is
+pub record TrackerRow (A : ℕ) (c : Client) (p : Pads) (stage : Stage) (op : TrackerOp) (reply : TrackerReply) (old new : TrackerValue) : Type 0 where
+  pub act : Act stage
+  pub is_row : IsRow (ByTracker reply) act
+  pub note : note_of A c act ≡ Some (tracker_note (tracker_kind op) reply)
+  pub guard : (w : World) → StandsTracker old w.tracker → MayDo A w c p act
+  pub tracks : (t : Tracker) → StandsTracker old t → StandsTracker new (tracked A t c act)
+  pub images : (i : Image) → imaged A i c act ≡ i
+
+enter_row : (A : ℕ) (c : Client) (p : Pads) (reply : TrackerReply) (v : TrackerValue) → Sound v → May v EnterOp reply →
+    TrackerRow A c p Entering EnterOp reply v (after v EnterOp reply)
+enter_row A c p (Entered k) v sound may = record {
+  act = Enters k;
+  is_row = refl;
+  note = refl;
+  guard = λ w stands. (entered v w.tracker k sound stands may).0;
+  tracks = λ t stands. (entered v t k sound stands may).1;
+  images = λ i. refl;
+}
+enter_row A c p QuiescedReply v sound may = record {
+  act = Waits Quiesced;
+  is_row = tt;
+  note = refl;
+  guard = λ w stands. stands.quiesced ∙ may;
+  tracks = λ t stands. stands;
+  images = λ i. refl;
+}
+enter_row A c p FullReply v sound may = record {
+  act = Waits Full;
+  is_row = tt;
+  note = refl;
+  guard = λ w stands. full v w.tracker sound stands may;
+  tracks = λ t stands. stands;
+  images = λ i. refl;
+}
+enter_row A c p _ v sound may = absurd may
+
+list_row : (A : ℕ) (c : Client) (p : Pads) (k : ℕ) (reply : TrackerReply) (v : TrackerValue) → Sound v →
+    May v (ListOp k (aligned_out (span_of c) A) (serial A c)) reply →
+    TrackerRow A c p (In k ToList) (ListOp k (aligned_out (span_of c) A) (serial A c)) reply v (after v (ListOp k (aligned_out (span_of c) A) (serial A c)) reply)
+list_row A c p k (Listed n) v sound may = record {
+  act = Lists (tracker_of (numbered v));
+  is_row = sym may.1;
+  note = ap (λ (i : ℕ). Some (tracker_note ListKind (Listed i))) (sym may.1);
+  guard = λ w stands. let r = listed_row v w.tracker k n (aligned_out (span_of c) A) (serial A c) sound stands may in (r.0, r.1);
+  tracks = λ t stands. (listed_row v t k n (aligned_out (span_of c) A) (serial A c) sound stands may).3;
+  images = λ i. refl;
+}
+list_row A c p k StrangeReply v sound may = record {
+  act = Waits Strange;
+  is_row = tt;
+  note = refl;
+  guard = λ w stands. list_strange v w.tracker k (aligned_out (span_of c) A) (serial A c) stands may;
+  tracks = λ t stands. stands;
+  images = λ i. refl;
+}
+list_row A c p k _ v sound may = absurd may
+
+start_row : (A : ℕ) (c : Client) (p : Pads) (k : ℕ) (reply : TrackerReply) (v : TrackerValue) → Sound v → May v (StartOp k) reply →
+    TrackerRow A c p (In k ToStart) (StartOp k) reply v (after v (StartOp k) reply)
+start_row A c p k Started v sound may =
+    let l = started_listing v k may in
+    record {
+      act = Starts (listing_of l.0);
+      is_row = tt;
+      note = refl;
+      guard = λ w stands. can_start v w.tracker k l.0 stands l.1.0 l.1.1;
+      tracks = λ t stands. started_row v t k l.0 stands l.1.0;
+      images = λ i. refl;
+    }
+start_row A c p k (NotYetReply n) v sound may = record {
+  act = Waits (NotYet n);
+  is_row = refl;
+  note = refl;
+  guard = λ w stands. wait_row v w.tracker k n stands may;
+  tracks = λ t stands. stands;
+  images = λ i. refl;
+}
+start_row A c p k StrangeReply v sound may = record {
+  act = Waits Strange;
+  is_row = tt;
+  note = refl;
+  guard = λ w stands. start_strange v w.tracker k stands may;
+  tracks = λ t stands. stands;
+  images = λ i. refl;
+}
+start_row A c p k reply v sound may =
+    absurd (nowhere (λ s. MayStart v.seats s reply) (λ h. h) (λ h. h) (λ l h. h) (seat_at v.seats k) may)
+
+end_row : (A : ℕ) (c : Client) (p : Pads) (k : ℕ) (answer : Verdict) (reply : TrackerReply) (v : TrackerValue) → Sound v → May v (EndOp k) reply →
+    TrackerRow A c p (In k (ToEnd answer)) (EndOp k) reply v (after v (EndOp k) reply)
+end_row A c p k answer Ended v sound may = record {
+  act = Ends;
+  is_row = tt;
+  note = refl;
+  guard = λ w stands. (ended_row v w.tracker k stands may).0;
+  tracks = λ t stands. (ended_row v t k stands may).1;
+  images = λ i. refl;
+}
+end_row A c p k answer StrangeReply v sound may = record {
+  act = Waits Strange;
+  is_row = tt;
+  note = refl;
+  guard = λ w stands. end_strange v w.tracker k stands may;
+  tracks = λ t stands. stands;
+  images = λ i. refl;
+}
+end_row A c p k answer _ v sound may = absurd may
+
+pub tracker_todo : (op other : TrackerOp) → OnTracker op ≡ OnTracker other → op ≡ other
+tracker_todo op other e = cc
+
+-- the tracker answered the operation that a request wanted
+pub tracker_row : (A : ℕ) (c : Client) (p : Pads) (stage : Stage) (op : TrackerOp) (reply : TrackerReply) (old new : TrackerValue) →
+    WantsAt A c p stage (OnTracker op) → Sound old → answers old op reply new → TrackerRow A c p stage op reply old new
+tracker_row A c p stage op reply old new wants sound row =
+    subst (λ (v : TrackerValue). TrackerRow A c p stage op reply old v) (sym row.1) (go stage wants)
+  where
+    by : (stage : Stage) (wanted : TrackerOp) → op ≡ wanted → (May old wanted reply → TrackerRow A c p stage wanted reply old (after old wanted reply)) →
+        TrackerRow A c p stage op reply old (after old op reply)
+    by stage wanted is row_of =
+        subst (λ (o : TrackerOp). TrackerRow A c p stage o reply old (after old o reply)) (sym is) (row_of (subst (λ (o : TrackerOp). May old o reply) is row.0))
+
+    go : (stage : Stage) → WantsAt A c p stage (OnTracker op) → TrackerRow A c p stage op reply old (after old op reply)
+    go (Ready v) w = let e : OnTracker op ≡ Answer v = w in absurd (cc)
+    go Entering w = by Entering EnterOp (tracker_todo op _ w) (λ may. enter_row A c p reply old sound may)
+    go (In k ToRoute) w = let e : OnTracker op ≡ OnGraph (RouteOp c.export) = w in absurd (cc)
+    go (In k ToList) w = by (In k ToList) (ListOp k (aligned_out (span_of c) A) (serial A c)) (tracker_todo op _ w) (λ may. list_row A c p k reply old sound may)
+    go (In k ToStart) w = by (In k ToStart) (StartOp k) (tracker_todo op _ w) (λ may. start_row A c p k reply old sound may)
+    go (In k (ToLoad b got)) w = let e : OnTracker op ≡ OnStripe (stripe_of b) (LoadOp b k w.0) = w.1.1 in absurd (cc)
+    go (In k (ToHold side)) w = let e : OnTracker op ≡ OnStripe (stripe_of (edge A c side)) (HoldOp (edge A c side) k side w.0) = w.1.1 in absurd (cc)
+    go (In k (ToStore b)) w = let e : OnTracker op ≡ OnStripe (stripe_of b) (StoreOp b k w.0) = w.1.1.0 in absurd (cc)
+    go (In k (ToFree side)) w = let e : OnTracker op ≡ OnStripe (stripe_of (edge A c side)) (FreeOp (edge A c side) k) = w in absurd (cc)
+    go (In k (ToEnd v)) w = by (In k (ToEnd v)) (EndOp k) (tracker_todo op _ w) (λ may. end_row A c p k v reply old sound may)
+
+-- an answer of the graph, as a row
+pub record GraphRow (A : ℕ) (c : Client) (p : Pads) (stage : Stage) (reply : GraphReply) (v : GraphValue) : Type 0 where
+  pub act : Act stage
+  pub is_row : IsRow (ByGraph reply) act
+  pub note : note_of A c act ≡ Some (route_note reply)
+  pub guard : (w : World) → StandsGraph v w.graph → MayDo A w c p act
+  pub tracks : (t : Tracker) → tracked A t c act ≡ t
+  pub images : (i : Image) → imaged A i c act ≡ i
+
+route_row : (A : ℕ) (c : Client) (p : Pads) (k : ℕ) (reply : GraphReply) (v : GraphValue) → MayGraph v (RouteOp c.export) reply →
+    GraphRow A c p (In k ToRoute) reply v
+route_row A c p k (Routed way) v may = record {
+  act = Routes way;
+  is_row = refl;
+  note = refl;
+  guard = λ w stands. routed_row v w.graph c.export way stands may;
+  tracks = λ t. refl;
+  images = λ i. refl;
+}
+route_row A c p k Shutting v may = record {
+  act = Shuts;
+  is_row = tt;
+  note = refl;
+  guard = λ w stands. shut_row v w.graph c.export stands may;
+  tracks = λ t. refl;
+  images = λ i. refl;
+}
+route_row A c p k _ v may = absurd may
+
+pub graph_todo : (op other : GraphOp) → OnGraph op ≡ OnGraph other → op ≡ other
+graph_todo op other e = cc
+
+-- the graph answered the operation that a request wanted, and is as it was
+pub graph_row : (A : ℕ) (c : Client) (p : Pads) (stage : Stage) (op : GraphOp) (reply : GraphReply) (old new : GraphValue) →
+    WantsAt A c p stage (OnGraph op) → graph_answers old op reply new → GraphRow A c p stage reply old × (new ≡ old)
+graph_row A c p stage op reply old new wants row = go stage wants
+  where
+    go : (stage : Stage) → WantsAt A c p stage (OnGraph op) → GraphRow A c p stage reply old × (new ≡ old)
+    go (Ready v) w = let e : OnGraph op ≡ Answer v = w in absurd (cc)
+    go Entering w = let e : OnGraph op ≡ OnTracker EnterOp = w in absurd (cc)
+    go (In k ToRoute) w =
+        let is : op ≡ RouteOp c.export = graph_todo op (RouteOp c.export) w in (
+          route_row A c p k reply old (subst (λ (o : GraphOp). MayGraph old o reply) is row.0),
+          row.1 ∙ ap (λ (o : GraphOp). after_graph old o reply) is,
+        )
+    go (In k ToList) w = let e : OnGraph op ≡ OnTracker (ListOp k (aligned_out (span_of c) A) (serial A c)) = w in absurd (cc)
+    go (In k ToStart) w = let e : OnGraph op ≡ OnTracker (StartOp k) = w in absurd (cc)
+    go (In k (ToLoad b got)) w = let e : OnGraph op ≡ OnStripe (stripe_of b) (LoadOp b k w.0) = w.1.1 in absurd (cc)
+    go (In k (ToHold side)) w = let e : OnGraph op ≡ OnStripe (stripe_of (edge A c side)) (HoldOp (edge A c side) k side w.0) = w.1.1 in absurd (cc)
+    go (In k (ToStore b)) w = let e : OnGraph op ≡ OnStripe (stripe_of b) (StoreOp b k w.0) = w.1.1.0 in absurd (cc)
+    go (In k (ToFree side)) w = let e : OnGraph op ≡ OnStripe (stripe_of (edge A c side)) (FreeOp (edge A c side) k) = w in absurd (cc)
+    go (In k (ToEnd v)) w = let e : OnGraph op ≡ OnTracker (EndOp k) = w in absurd (cc)
+
+-- an answer of a stripe, as a row: what the stripes were and are
+pub record StripeRow (A : ℕ) (c : Client) (p : Pads) (stage : Stage) (op : StripeOp) (reply : StripeReply) (tells : Bool) (s t : ℕ → StripeValue) : Type 0 where
+  pub act : Act stage
+  pub is_row : IsRow (ByStripe reply) act
+  pub note : note_of A c act ≡ Some (stripe_note (stripe_kind op) (block_of op) reply)
+  pub guard : (w : World) → w.tells ≡ tells → StandsImage s w.tells w.image → MayDo A w c p act
+  pub images : (i : Image) → StandsImage s tells i → StandsImage t tells (imaged A i c act)
+  pub tracks : (r : Tracker) → tracked A r c act ≡ r
+
+-- a stripe of the right shape did an operation on one of its blocks, and the others did nothing
+pub record Steps (A z : ℕ) (op : StripeOp) (reply : StripeReply) (tells : Bool) (s t : ℕ → StripeValue) : Type 0 where
+  pub new : StripeValue
+  pub change : Changed z new s t
+  pub told : IsTrue tells → IsTrue (s z).disk.tells
+  pub align : (s z).disk.align ≡ A
+  pub row : stripe_answers (s z) op reply new
+
+told_for : (tells : Bool) (w : World) (d : Bool) → w.tells ≡ tells → (IsTrue tells → IsTrue d) → IsTrue w.tells → IsTrue d
+told_for tells w d same told is = told (subst (λ (b : Bool). IsTrue b) same is)
+
+load_row : (A : ℕ) (c : Client) (p : Pads) (k b : ℕ) (got buf : List ℕ) (reply : StripeReply) (tells : Bool) (s t : ℕ → StripeValue) →
+    Steps A (stripe_of b) (LoadOp b k buf) reply tells s t → StripeRow A c p (In k (ToLoad b got)) (LoadOp b k buf) reply tells s t
+load_row A c p k b got buf (Filled bytes) tells s t step = record {
+  act = Loads bytes;
+  is_row = refl;
+  note = refl;
+  guard = λ w same stands. can_read A b bytes s w stands (told_for tells w (s (stripe_of b)).disk.tells same step.told) step.align step.row.1;
+  images = λ i stands. reads_stands (stripe_of b) step.new s t tells i step.change stands step.told step.row.0 step.row.2;
+  tracks = λ r. refl;
+}
+load_row A c p k b got buf (Fault (Some back)) tells s t step = record {
+  act = LoadFails;
+  is_row = tt;
+  note = refl;
+  guard = λ w same stands. tt;
+  images = λ i stands. reads_stands (stripe_of b) step.new s t tells i step.change stands step.told step.row.0 step.row.2;
+  tracks = λ r. refl;
+}
+load_row A c p k b got buf (Fault None) tells s t step = absurd step.row
+load_row A c p k b got buf _ tells s t step = absurd step.row
+
+-- nothing changed
+still : (z : ℕ) (v : StripeValue) (s t : ℕ → StripeValue) (tells : Bool) (i : Image) → Changed z v s t → v ≡ s z → StandsImage s tells i → StandsImage t tells i
+still z v s t tells i change same stands = same_stands z v s t tells i change same stands
+
+hold_row : (A : ℕ) (c : Client) (p : Pads) (k : ℕ) (side : Side) (buf : List ℕ) (reply : StripeReply) (tells : Bool) (s t : ℕ → StripeValue) →
+    Steps A (stripe_of (edge A c side)) (HoldOp (edge A c side) k side buf) reply tells s t →
+    StripeRow A c p (In k (ToHold side)) (HoldOp (edge A c side) k side buf) reply tells s t
+hold_row A c p k side buf (HeldByReply j back) tells s t step = record {
+  act = Waits (HeldBy j);
+  is_row = refl;
+  note = refl;
+  guard = λ w same stands. holder_is j (edge A c side) s w.tells w.image stands step.row.0;
+  images = λ i stands. still (stripe_of (edge A c side)) step.new s t tells i step.change step.row.2 stands;
+  tracks = λ r. refl;
+}
+hold_row A c p k side buf (TakenReply b back) tells s t step = record {
+  act = Waits (Taken b);
+  is_row = refl;
+  note = refl;
+  guard = λ w same stands. (
+    (can_free (edge A c side) s w.tells w.image stands step.row.0),
+    stands.here (stripe_of (edge A c side)) k side b step.row.1,
+    held_at k b side s w.tells w.image stands (stands.here (stripe_of (edge A c side)) k side b step.row.1) step.row.1,
+  );
+  images = λ i stands. still (stripe_of (edge A c side)) step.new s t tells i step.change step.row.3 stands;
+  tracks = λ r. refl;
+}
+hold_row A c p k side buf (Filled bytes) tells s t step = record {
+  act = Holds bytes;
+  is_row = refl;
+  note = refl;
+  guard = λ w same stands. (
+    can_hold k (edge A c side) side s w.tells w.image stands step.row.0 step.row.1,
+    can_read A (edge A c side) bytes s w stands (told_for tells w (s (stripe_of (edge A c side))).disk.tells same step.told) step.align step.row.3,
+  );
+  images = λ i stands. takes_stands (stripe_of (edge A c side)) k (edge A c side) side step.new s t tells i refl step.change stands step.told
+      step.row.2 step.row.4 step.row.0 step.row.1;
+  tracks = λ r. refl;
+}
+hold_row A c p k side buf (Fault (Some back)) tells s t step = record {
+  act = HoldFails;
+  is_row = tt;
+  note = refl;
+  guard = λ w same stands. can_hold k (edge A c side) side s w.tells w.image stands step.row.0 step.row.1;
+  images = λ i stands. reads_stands (stripe_of (edge A c side)) step.new s t tells i step.change stands step.told step.row.2 step.row.4;
+  tracks = λ r. refl;
+}
+hold_row A c p k side buf (Fault None) tells s t step = absurd step.row
+hold_row A c p k side buf _ tells s t step = absurd step.row
+
+store_row : (A : ℕ) (c : Client) (p : Pads) (k b : ℕ) (buf : List ℕ) (reply : StripeReply) (tells : Bool) (s t : ℕ → StripeValue) →
+    length buf ≡ A → IsMerged A c p b buf → Steps A (stripe_of b) (StoreOp b k buf) reply tells s t →
+    StripeRow A c p (In k (ToStore b)) (StoreOp b k buf) reply tells s t
+store_row A c p k b buf (HeldByReply j back) tells s t whole merged step = record {
+  act = Waits (HeldBy j);
+  is_row = refl;
+  note = refl;
+  guard = λ w same stands. let h = holder_is j b s w.tells w.image stands step.row.0 in (h.0, (h.1.0, h.1.1, step.row.1));
+  images = λ i stands. still (stripe_of b) step.new s t tells i step.change step.row.3 stands;
+  tracks = λ r. refl;
+}
+store_row A c p k b buf (Done back) tells s t whole merged step = record {
+  act = Stores buf (told_past tells step.new b);
+  is_row = step.row.3;
+  note = refl;
+  guard = λ w same stands. guarded w same stands;
+  images = λ i stands. written_stands (stripe_of b) k b buf buf step.new s t tells i refl step.change stands step.told step.row.1
+      (λ tell. let is = step.row.2 (step.told tell) in (is.here, is.others)) step.row.4 step.row.0;
+  tracks = λ r. refl;
+}
+  where
+    guarded : (w : World) → w.tells ≡ tells → StandsImage s w.tells w.image → MayDo A w c p (Stores {k = k} {b = b} buf (told_past tells step.new b))
+    guarded w same stands =
+        let told = told_for tells w (s (stripe_of b)).disk.tells same step.told in
+        subst (λ (d : Bool). MayDo A w c p (Stores {k = k} {b = b} buf (told_past d step.new b))) same (
+          can_store A k b c p buf step.new s w.tells w.image stands told step.row.0 whole merged step.row.1,
+          may_keep b buf buf step.new s w stands told step.row.1 (λ tell. (step.row.2 (told tell)).here),
+        )
+store_row A c p k b buf (Fault (Some back)) tells s t whole merged step = record {
+  act = StoreFails buf (took tells b buf (s (stripe_of b)).disk step.new.disk step.told step.row.2) (told_past tells step.new b);
+  is_row = ap Some step.row.3;
+  note = refl;
+  guard = λ w same stands. guarded w same stands;
+  images = λ i stands. written_stands (stripe_of b) k b buf (cond (took tells b buf (s (stripe_of b)).disk step.new.disk step.told step.row.2) buf (i.now b))
+      step.new s t tells i refl step.change stands step.told step.row.1
+      (took_now tells b buf (i.now b) (s (stripe_of b)).disk step.new.disk step.told step.row.2 (λ tell. stands.now tell b)) step.row.4 step.row.0;
+  tracks = λ r. refl;
+}
+  where
+    guarded : (w : World) → w.tells ≡ tells → StandsImage s w.tells w.image →
+        MayDo A w c p (StoreFails {k = k} {b = b} buf (took tells b buf (s (stripe_of b)).disk step.new.disk step.told step.row.2) (told_past tells step.new b))
+    guarded w same stands =
+        let told = told_for tells w (s (stripe_of b)).disk.tells same step.told in
+        subst (λ (d : Bool). MayDo A w c p (StoreFails {k = k} {b = b} buf (took tells b buf (s (stripe_of b)).disk step.new.disk step.told step.row.2) (told_past d step.new b))) same (
+          can_store A k b c p buf step.new s w.tells w.image stands told step.row.0 whole merged step.row.1,
+          may_keep b buf (cond (took tells b buf (s (stripe_of b)).disk step.new.disk step.told step.row.2) buf (w.image.now b)) step.new s w stands told step.row.1
+              (λ tell. (took_now tells b buf (w.image.now b) (s (stripe_of b)).disk step.new.disk step.told step.row.2
+              (λ tell2. stands.now tell b) (subst (λ (d : Bool). IsTrue d) same tell)).0),
+        )
+store_row A c p k b buf (Fault None) tells s t whole merged step = absurd step.row
+store_row A c p k b buf _ tells s t whole merged step = absurd step.row
+
+free_row : (A : ℕ) (c : Client) (p : Pads) (k : ℕ) (side : Side) (reply : StripeReply) (tells : Bool) (s t : ℕ → StripeValue) →
+    Steps A (stripe_of (edge A c side)) (FreeOp (edge A c side) k) reply tells s t →
+    StripeRow A c p (In k (ToFree side)) (FreeOp (edge A c side) k) reply tells s t
+free_row A c p k side Freed tells s t step = record {
+  act = Frees;
+  is_row = tt;
+  note = refl;
+  guard = λ w same stands. holder_is k (edge A c side) s w.tells w.image stands step.row.0;
+  images = λ i stands. frees_stands (stripe_of (edge A c side)) k (edge A c side) step.new s t tells i refl step.change stands step.row.1 step.row.2
+      (alone k (edge A c side) s tells i stands step.row.0);
+  tracks = λ r. refl;
+}
+free_row A c p k side NotHeldReply tells s t step = record {
+  act = Waits NotHeld;
+  is_row = tt;
+  note = refl;
+  guard = λ w same stands. not_held k (edge A c side) s w.tells w.image stands step.row.0;
+  images = λ i stands. still (stripe_of (edge A c side)) step.new s t tells i step.change step.row.1 stands;
+  tracks = λ r. refl;
+}
+free_row A c p k side _ tells s t step = absurd step.row
+
+pub stripe_todo : (y z : ℕ) (op other : StripeOp) → OnStripe y op ≡ OnStripe z other → (y ≡ z) × (op ≡ other)
+stripe_todo y z op other e = (cc, cc)
+
+-- a stripe answered the operation that a request wanted
+pub stripe_row : (A : ℕ) (c : Client) (p : Pads) (stage : Stage) (z : ℕ) (op : StripeOp) (reply : StripeReply) (tells : Bool) (s t : ℕ → StripeValue) →
+    WantsAt A c p stage (OnStripe z op) → Steps A z op reply tells s t → StripeRow A c p stage op reply tells s t
+stripe_row A c p stage z op reply tells s t wants step = go stage wants
+  where
+    by : (stage : Stage) (y : ℕ) (wanted : StripeOp) → OnStripe z op ≡ OnStripe y wanted →
+        (Steps A y wanted reply tells s t → StripeRow A c p stage wanted reply tells s t) → StripeRow A c p stage op reply tells s t
+    by stage y wanted e row =
+        let is = stripe_todo z y op wanted e in
+        subst (λ (o : StripeOp). StripeRow A c p stage o reply tells s t) (sym is.1)
+        (row (subst (λ (o : StripeOp). Steps A y o reply tells s t) is.1 (subst (λ (x : ℕ). Steps A x op reply tells s t) is.0 step)))
+
+    go : (stage : Stage) → WantsAt A c p stage (OnStripe z op) → StripeRow A c p stage op reply tells s t
+    go (Ready v) w = let e : OnStripe z op ≡ Answer v = w in absurd (cc)
+    go Entering w = let e : OnStripe z op ≡ OnTracker EnterOp = w in absurd (cc)
+    go (In k ToRoute) w = let e : OnStripe z op ≡ OnGraph (RouteOp c.export) = w in absurd (cc)
+    go (In k ToList) w = let e : OnStripe z op ≡ OnTracker (ListOp k (aligned_out (span_of c) A) (serial A c)) = w in absurd (cc)
+    go (In k ToStart) w = let e : OnStripe z op ≡ OnTracker (StartOp k) = w in absurd (cc)
+    go (In k (ToLoad b got)) w = by (In k (ToLoad b got)) (stripe_of b) (LoadOp b k w.0) w.1.1 (λ steps. load_row A c p k b got w.0 reply tells s t steps)
+    go (In k (ToHold side)) w =
+        by (In k (ToHold side)) (stripe_of (edge A c side)) (HoldOp (edge A c side) k side w.0) w.1.1 (λ steps. hold_row A c p k side w.0 reply tells s t steps)
+    go (In k (ToStore b)) w =
+        by (In k (ToStore b)) (stripe_of b) (StoreOp b k w.0) w.1.1.0 (λ steps. store_row A c p k b w.0 reply tells s t w.1.0 w.1.1.1 steps)
+    go (In k (ToFree side)) w =
+        by (In k (ToFree side)) (stripe_of (edge A c side)) (FreeOp (edge A c side) k) w (λ steps. free_row A c p k side reply tells s t steps)
+    go (In k (ToEnd v)) w = let e : OnStripe z op ≡ OnTracker (EndOp k) = w in absurd (cc)

@@ -1,0 +1,132 @@
+-- A request is made.
+use Rattle.std.proofs.Common.{◌≡◌, ℕ, ◌+◌, ◌-◌, ◌^◌, ◌<◌, ◌⊎◌, inl, inr, List, [], ◌∷◌, ◌++◌, length, Bool, true, false, ◌||◌, ◌&&◌, ◌==◌, cond, refl, sym, ◌∙◌, ap, arith, eq-eqb}
+use Rattle.std.specs.Prelude.{Option, Some, None, is_some}
+use Rattle.std.specs.List.{AllByRecursion}
+use Rattle.qs_bytes.specs.declared.ask.Ask.{Ask}
+use Rattle.qs_bytes.specs.declared.ask.Kind.{Kind}
+use Rattle.qs_bytes.specs.declared.ask.Kind.TheVariants.{Read, Write, Zero, Trim, Flush, Unknown}
+use Rattle.qs_outside.specs.Blocks.{Seen}
+use Rattle.qs_part.specs.declared.event.Event.TheVariants.{Ask as AskEvent}
+use Rattle.qs_part.specs.declared.event.Outcome.TheVariants.{Made}
+use Rattle.qs_model.specs.Requests.{Client, asked, is_write}
+use Rattle.qs_model.specs.Worlds.{Live as LiveAt}
+use Rattle.qs_model.specs.Acts.{Asked}
+use Rattle.qs_model.specs.Events.{Brings, HasNone}
+use Rattle.qs_request.specs.declared.shape.Blocks.{Blocks}
+use Rattle.qs_request.specs.Value.{RequestValue, client_for, given_bytes, bytes_of, has_buffers}
+use Rattle.qs_world.specs.declared.live.Live.{Live}
+use Rattle.qs_world.specs.declared.live.Member.{Member}
+use Rattle.qs_world.specs.Bodies.{fitted}
+use Rattle.qs_world.specs.Cores.{Handles}
+use Rattle.qs_world.specs.Events.{Does, IsNotNext}
+use Rattle.qs_world.specs.Follows.{IsElement}
+use Rattle.qs_world.specs.Keyed.{HasKey}
+use Rattle.qs_world.specs.Sound.{IsSound, IsIdle}
+use Rattle.qs_world.specs.Values.{WorldValue, request_at, session_at}
+use Rattle.qs_world.proofs.Coming.{Keeps, asked_does}
+use Rattle.qs_world.proofs.Handling.{handled, renewed, session_stands, live_is}
+use Rattle.qs_world.proofs.Keyed.{find_more, distinct_more, all_more, all_weaker}
+
+-- the next number is nobody's
+pub never_next : {D : Type 0} (w : WorldValue D) (ls : List Live) → AllByRecursion (IsIdle w.shape w.next) ls → HasKey (λ l. l.number) ls w.next → ⊥
+never_next w [] all h = h
+never_next w (l ∷ ls) all (inl e) = omega (arith, all.0.below, e)
+never_next w (l ∷ ls) all (inr h) = never_next w ls all.1 h
+
+-- a request that has no body of its own wants none, or memory was refused
+lacks : (ask : Ask) (session e : ℕ) (blocks : Option Blocks) → HasNone (client_for session ask e None blocks)
+lacks ask session e blocks = go (ask.length == 0) refl
+  where
+    go : (b : Bool) → (ask.length == 0) ≡ b → (ask.length ≡ 0) ⊎ ((b || (is_some {T = List ℕ} None && is_some blocks)) ≡ false)
+    go true is = inl (grind (arith, is))
+    go false is = inr refl
+
+-- a WRITE writes its body
+write_bytes : (kind : Kind) (body : List ℕ) → is_write kind ≡ true → body ≡ bytes_of kind body
+write_bytes Write body is = refl
+write_bytes Read body is = cc
+write_bytes Zero body is = cc
+write_bytes Trim body is = cc
+write_bytes Flush body is = cc
+write_bytes (Unknown n) body is = cc
+
+brings : (session e : ℕ) (ask : Ask) (body : Option (List ℕ)) (blocks : Option Blocks) → Brings body (client_for session ask e (fitted body ask.length) blocks)
+brings session e ask None blocks = lacks ask session e blocks
+brings session e ask (Some body) blocks = go (length body == ask.length) refl
+  where
+    go : (b : Bool) → (length body == ask.length) ≡ b → Brings (Some body) (client_for session ask e (cond b (Some body) None) blocks)
+    go true is = inl (λ writing. write_bytes ask.kind body writing)
+    go false is = inr (λ same. no (sym (eq-eqb (length body) ask.length same) ∙ is), lacks ask session e blocks)
+      where
+        no : true ≡ false → ⊥
+        no f = cc
+
+-- a request of no length has all that it wants
+buffered : (ask : Ask) (body : Option (List ℕ)) (blocks : Option Blocks) → ask.length ≡ 0 → has_buffers ask body blocks ≡ true
+buffered ask body blocks none = ap (λ (b : Bool). b || (is_some body && is_some blocks)) (eq-eqb ask.length 0 none)
+
+-- a WRITE that has its buffers has its bytes
+whole_body : (ask : Ask) (body : Option (List ℕ)) (blocks : Option Blocks) → is_write ask.kind ≡ true → has_buffers ask (fitted body ask.length) blocks ≡ true →
+    length (bytes_of ask.kind (given_bytes (fitted body ask.length))) ≡ ask.length
+whole_body ask None blocks writing has = empty (write_bytes ask.kind [] writing) (go (ask.length == 0) refl has)
+  where
+    go : (b : Bool) → (ask.length == 0) ≡ b → (b || (is_some {T = List ℕ} None && is_some blocks)) ≡ true → ask.length ≡ 0
+    go true is f = grind (arith, is)
+    go false is f = cc
+
+    empty : [] ≡ bytes_of ask.kind [] → ask.length ≡ 0 → length (bytes_of ask.kind []) ≡ ask.length
+    empty is none = sym (ap length is) ∙ sym none
+whole_body ask (Some body) blocks writing has = go (length body == ask.length) refl has
+  where
+    some : (b : Bool) → (ask.length == 0) ≡ b → (b || (is_some {T = List ℕ} None && is_some blocks)) ≡ true → ask.length ≡ 0
+    some true is f = grind (arith, is)
+    some false is f = cc
+
+    go : (b : Bool) → (length body == ask.length) ≡ b → has_buffers ask (cond b (Some body) None) blocks ≡ true →
+        length (bytes_of ask.kind (given_bytes (cond b (Some body) None))) ≡ ask.length
+    go true is f = sym (ap length (write_bytes ask.kind body writing)) ∙ grind (arith, is)
+    go false is f = sym (ap length (write_bytes ask.kind [] writing)) ∙ sym (some (ask.length == 0) refl f)
+
+-- the request as it is made
+abbrev pub made_request : {D : Type 0} → WorldValue D → Client → RequestValue
+made_request w c = record { request = asked c; shape = w.shape; waits = false; answered = false }
+
+abbrev pub made_live : {D : Type 0} → WorldValue D → Client → Live
+made_live w c = record { number = w.next; request = made_request w c }
+
+pub asked_handled : {D : Type 0} (seen : D → Seen) (old new : WorldValue D) (at : ℕ) (m : Member) (ask : Ask) (body : Option (List ℕ)) (blocks : Option Blocks) →
+    IsSound seen old → IsElement old.sessions at m → m.left ≡ false → old.next < 2 ^ 64 - 1 →
+    new ≡ record old { next = old.next + 1; requests = old.requests ++ made_live old (client_for m.session ask m.e (fitted body ask.length) blocks) ∷ [] } →
+    Handles seen old (AskEvent m.session ask body) (Made old.next) new
+asked_handled {D = D} seen old new at m ask body blocks sound el here room is =
+    let c : Client = client_for m.session ask m.e (fitted body ask.length) blocks in
+    let live : session_at old.sessions m.session ≡ LiveAt m.e = session_stands old.sessions at m sound.sessions el ∙ live_is m here in
+    let keeps : Keeps old new = record { shape = ap (λ (w : WorldValue D). w.shape) is; tracker = ap (λ (w : WorldValue D). w.tracker) is; stripes = ap (λ (w : WorldValue D). w.stripes) is } in
+    let next : new.next ≡ old.next + 1 = ap (λ (w : WorldValue D). w.next) is in
+    let graph : new.graph ≡ old.graph = ap (λ (w : WorldValue D). w.graph) is in
+    let requests : new.requests ≡ old.requests ++ made_live old c ∷ [] = ap (λ (w : WorldValue D). w.requests) is in
+    let sessions : new.sessions ≡ old.sessions = ap (λ (w : WorldValue D). w.sessions) is in
+    let never : HasKey (λ l. l.number) old.requests old.next → ⊥ = never_next old old.requests sound.requests in
+    let does : Does seen old (Asked old.next c) new =
+    asked_does seen old new c keeps next graph sessions room live refl (λ none. buffered ask (fitted body ask.length) blocks none)
+    (λ writing has. whole_body ask body blocks writing has)
+    (λ r. ap (λ (ls : List Live). request_at ls r) requests ∙ find_more (λ l. l.number) (λ l. l.request.request) old.requests (made_live old c) never r) in
+    handled seen old new (AskEvent m.session ask body) (Made old.next) (Asked old.next c) (refl, refl, brings m.session m.e ask body blocks) refl
+    (λ h. not_now h live) does keeps.shape tt
+    (renewed seen old new (Asked old.next c) sound (record {
+      shape = keeps.shape;
+      tracker = keeps.tracker;
+      stripes = keeps.stripes;
+      size = ap (λ (v : _). v.size) graph;
+      places = ap (λ (v : _). length v.places) graph;
+      requests = rw (next, requests) (all_more (IsIdle old.shape (old.next + 1)) old.requests (made_live old c)
+          (all_weaker (IsIdle old.shape old.next) (IsIdle old.shape (old.next + 1)) old.requests
+          (λ l idle. record { below = omega (arith, idle.below); shape_is = idle.shape_is; waits = idle.waits; answered = idle.answered }) sound.requests)
+          (record { below = omega arith; shape_is = refl; waits = refl; answered = refl }));
+      numbers = rw requests (distinct_more (λ l. l.number) old.requests (made_live old c) sound.numbers never);
+      sessions = rw sessions sound.sessions;
+    }) does)
+  where
+    not_now : IsNotNext old (AskEvent m.session ask body) → session_at old.sessions m.session ≡ LiveAt m.e → ⊥
+    not_now (inl h) live = h m.e live
+    not_now (inr h) live = omega (arith, h, room)

@@ -1,0 +1,6 @@
+use Rattle.qs_world.proofs.Opening.{opened_without}
+use Rattle.qs_world.proofs.tests.world.Goals as goal
+
+-- src/tests.rt:185:32
+pub export_disk-requires-clause-none : goal.export_disk-requires-clause-none
+export_disk-requires-clause-none c = opened_without _ _ _ _ _ c.in-Ok.ensures

@@ -1,0 +1,65 @@
+-- What an event does to the core, and when it can't come.
+use Rattle.std.specs.Prelude.{◌≡◌, ◌≢◌, ℕ, ◌-◌, ◌^◌, ◌≤◌, ◌⊎◌, Some, None}
+use Rattle.qs_outside.specs.Blocks.{Seen}
+use Rattle.qs_outside.specs.Faults.{Rose}
+use Rattle.qs_part.specs.declared.event.Actor.TheVariants.{Session as ASession, Request as ARequest}
+use Rattle.qs_part.specs.declared.event.Event.{Event}
+use Rattle.qs_part.specs.declared.event.Event.TheVariants.{Attach, Leave, Ask, Step}
+use Rattle.qs_part.specs.declared.event.Outcome.{Outcome}
+use Rattle.qs_part.specs.declared.event.Outcome.TheVariants.{NotNext, Memory, Moved}
+use Rattle.qs_part.specs.declared.event.NoteReply.TheVariants.{Stripe}
+use Rattle.qs_part.specs.declared.event.StripeNote.TheVariants.{Fault}
+use Rattle.qs_model.specs.Requests.{Req}
+use Rattle.qs_model.specs.Worlds.{World, Away, Live, Leaving, stripe_of}
+use Rattle.qs_model.specs.Acts.{Element}
+use Rattle.qs_model.specs.Guards.{May}
+use Rattle.qs_model.specs.Steps.{happens}
+use Rattle.qs_model.specs.Events.{IsEvent, outcome_of}
+use Rattle.qs_world.specs.Images.{stripe_at}
+use Rattle.qs_world.specs.Values.{WorldValue, request_at, session_at, stripes_of}
+use Rattle.qs_world.specs.Stands.{Stands}
+
+-- From each state of the model that the core stood for, the element may come, and the core stands for
+-- where it leads.
+abbrev pub Does : {D : Type 0} → (D → Seen) → WorldValue D → Element → WorldValue D → Type 0
+Does seen old e new = (m : World) → Stands seen old m → May old.shape.align m e × Stands seen new (happens old.shape.align m e)
+
+-- a step of the model that answers the event by this outcome
+pub record Steps {D : Type 0} (seen : D → Seen) (old : WorldValue D) (event : Event) (outcome : Outcome) (new : WorldValue D) : Type 0 where
+  pub element : Element
+  pub answers_event : IsEvent event element
+  pub outcome_is : outcome_of old.shape.align element ≡ Some outcome
+  pub does : Does seen old element new
+  pub shape_kept : new.shape ≡ old.shape
+
+-- memory is wanted by an Attach and an Ask alone
+abbrev pub TakesMemory : Event → Type 0
+TakesMemory (Attach session name) = Unit {0}
+TakesMemory (Ask session ask body) = Unit {0}
+TakesMemory _ = ⊥
+
+-- an event is a step of the model, or it can't come now, or memory was refused, and all is as before
+abbrev pub StepsTo : {D : Type 0} → (D → Seen) → WorldValue D → Event → Outcome → WorldValue D → Type 0
+StepsTo seen old event NotNext new = new ≡ old
+StepsTo seen old event Memory new = TakesMemory event × (new ≡ old)
+StepsTo seen old event outcome new = Steps seen old event outcome new
+
+-- a request of this session hasn't been answered
+abbrev pub HasRequest : {D : Type 0} → WorldValue D → ℕ → Type 0
+HasRequest w s = (r : ℕ) × (q : Req) × ((request_at w.requests r ≡ Some q) × (q.client.session ≡ s))
+
+-- An event that can't come: an Attach of a session that is there; a Leave or an Ask of one that isn't
+-- live, and an Ask after 2^64 - 1 requests; a step of a request that isn't there, and of a session that
+-- hasn't left, or that has a request.
+abbrev pub IsNotNext : {D : Type 0} → WorldValue D → Event → Type 0
+IsNotNext w (Attach session name) = session_at w.sessions session ≢ Away
+IsNotNext w (Leave session) = (e : ℕ) → session_at w.sessions session ≢ Live e
+IsNotNext w (Ask session ask body) = ((e : ℕ) → session_at w.sessions session ≢ Live e) ⊎ (2 ^ 64 - 1 ≤ w.next)
+IsNotNext w (Step (ARequest r) now) = request_at w.requests r ≡ None
+IsNotNext w (Step (ASession s) now) = ((e : ℕ) → session_at w.sessions s ≢ Leaving e) ⊎ HasRequest w s
+
+-- a fault of a disk comes only where its count rose
+abbrev pub HasCause : {D : Type 0} → (D → Seen) → WorldValue D → Outcome → WorldValue D → Type 0
+HasCause seen old (Moved note) new = (b : ℕ) → note.at ≡ Some b → note.reply ≡ Stripe Fault →
+    Rose (stripe_at (stripes_of seen old) (stripe_of b)).disk.faults (stripe_at (stripes_of seen new) (stripe_of b)).disk.faults
+HasCause seen old _ new = Unit {0}

@@ -1,0 +1,13 @@
+pub mod Keyed
+pub mod Trackers
+pub mod Images
+pub mod Graphs
+pub mod Values
+pub mod Stands
+pub mod Sound
+pub mod Events
+pub mod Notes
+pub mod Follows
+pub mod Cores
+pub mod Bodies
+pub mod Openings

@@ -1,0 +1,90 @@
+ghost use Rattle.std.specs.Prelude.{◌≡◌, ◌-◌, ◌^◌, ◌+◌, ◌<◌, ◌++◌, ◌∷◌, ◌⊎◌, [], length};
+ghost use Rattle.std.specs.Option.{ForSome};
+ghost use Rattle.std.specs.Vec.{vec_len, vec_capacity};
+ghost use Rattle.qs_part.specs.declared.event.Event.TheVariants.{Ask as AskEvent};
+ghost use Rattle.qs_part.specs.declared.event.Outcome.TheVariants.{Made};
+ghost use Rattle.qs_request.specs.Shapes.{IsRoom};
+ghost use Rattle.qs_world.specs.Bodies.{fitted};
+ghost use Rattle.qs_world.specs.Cores.{Handles, value_of};
+ghost use Rattle.qs_world.specs.Sound.{IsSound};
+
+use crate::inner::Core;
+use crate::live::{Live, find_member};
+use qs_bytes::{Ask, Bytes};
+use qs_outside::Disk;
+use qs_part::event::Outcome;
+use qs_request::{Blocks, Req};
+use std::alloc::Global;
+
+/// The body, if it is of the length that is asked for.
+fn fitting(body: Option<Bytes>, length: u64) -> Option<Bytes>
+    ensures { result ≡ fitted body length }
+{
+    match body {
+        Some(bytes) => {
+            if bytes.as_slice().len() as u64 == length {
+                Some(bytes)
+            } else {
+                None
+            }
+        }
+        None => None,
+    }
+}
+
+/// The blocks that a request works in; none where it has no length, or memory is refused.
+fn blocks_for(alloc: Global, ask: &Ask, align: u32) -> Option<Blocks>
+    requires { (align ≡ 512) ⊎ (align ≡ 4096) }
+    ensures { ForSome result (IsRoom align) }
+{
+    if ask.length == 0 {
+        return None;
+    }
+    match Blocks::new(alloc, align) {
+        Ok(blocks) => Some(blocks),
+        Err(_) => None,
+    }
+}
+
+impl<D: Disk + Drop> Core<D> {
+    /// Notes a request that was made, by the next number. There is room for it.
+    fn make(&mut self, request: Req) -> Outcome
+        requires room { vec_len self.old.requests < vec_capacity self.old.requests }
+        requires number { self.old.next < 2 ^ 64 - 1 }
+        ensures made { result ≡ Made self.old.next }
+        ensures requests { self.new.requests.items ≡ self.old.requests.items ++ record { number = self.old.next; request = request } ∷ [] }
+        ensures same { value_of self.new ≡ record (value_of self.old) { next = self.old.next + 1; requests = self.new.requests.items } }
+    {
+        let number = self.next;
+        self.next = number + 1;
+        match self.requests.push(Live { number, request }) {
+            Ok(()) => Outcome::Made(number),
+            Err(_) => unreachable!(),
+        }
+    }
+
+    /// A session asks for something.
+    pub fn ask(&mut self, session: u32, ask: Ask, body: Option<Bytes>) -> Outcome
+        requires sound { IsSound D.seen (value_of self.old) }
+        ensures { Handles D.seen (value_of self.old) (AskEvent session ask body) result (value_of self.new) }
+    {
+        let Some(at) = find_member(&self.sessions, session) else {
+            return Outcome::NotNext;
+        };
+        let member = self.sessions[at];
+        if member.left {
+            return Outcome::NotNext;
+        }
+        if self.next == u64::MAX {
+            return Outcome::NotNext;
+        }
+        match self.requests.reserve(1) {
+            Ok(()) => {}
+            Err(_) => return Outcome::Memory,
+        }
+        let blocks = blocks_for(self.alloc, &ask, self.shape.align);
+        let body = fitting(body, ask.length);
+        let request = Req::new(self.alloc, session, ask, member.e, body, blocks, self.shape);
+        self.make(request)
+    }
+}

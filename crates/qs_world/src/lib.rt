@@ -1,0 +1,12 @@
+//! The core over many sessions: sessions that come and go, their requests, and the parts that these do
+//! their operations on, one operation of one actor at a time.
+#![tactic(auto)]
+
+mod asking;
+mod disks;
+mod inner;
+pub mod live;
+mod notes;
+#[cfg(test)]
+mod tests;
+pub mod world;

@@ -1,0 +1,91 @@
+ghost use Rattle.std.specs.Prelude.{◌≡◌};
+ghost use Rattle.qs_world.specs.Notes.{block_of, detach_note, route_note, short, stripe_kind, stripe_note, tracker_kind, tracker_note};
+
+use qs_part::event::{Note, NoteReply, OpKind, StripeNote};
+use qs_part::graph::GraphReply;
+use qs_part::stripe::{StripeOp, StripeReply};
+use qs_part::tracker::{TrackerOp, TrackerReply};
+
+/// The kind of an operation that a request does on the tracker.
+pub fn tracker_kind(op: &TrackerOp) -> OpKind
+    ensures { result ≡ tracker_kind op.now }
+{
+    match op {
+        TrackerOp::Enter => OpKind::Enter,
+        TrackerOp::List { .. } => OpKind::List,
+        TrackerOp::Start { .. } => OpKind::Start,
+        _ => OpKind::End,
+    }
+}
+
+/// The note of an operation of this kind on the tracker.
+pub fn tracker_note(kind: OpKind, reply: TrackerReply) -> Note
+    ensures { result ≡ tracker_note kind reply }
+{
+    Note {
+        kind,
+        at: None,
+        reply: NoteReply::Tracker(reply),
+    }
+}
+
+/// The note of a Route.
+pub fn route_note(reply: &GraphReply) -> Note
+    ensures { result ≡ route_note reply.now }
+{
+    Note {
+        kind: OpKind::Route,
+        at: None,
+        reply: NoteReply::Graph(*reply),
+    }
+}
+
+/// The kind of an operation on a stripe, and its block.
+pub fn stripe_kind(op: &StripeOp) -> (OpKind, u64)
+    ensures kind { result.0 ≡ stripe_kind op.now }
+    ensures block { result.1 ≡ block_of op.now }
+{
+    match op {
+        StripeOp::Load { b, .. } => (OpKind::Load, *b),
+        StripeOp::Hold { b, .. } => (OpKind::Hold, *b),
+        StripeOp::Store { b, .. } => (OpKind::Store, *b),
+        StripeOp::Free { b, .. } => (OpKind::Free, *b),
+    }
+}
+
+/// A stripe's answer without its buffer.
+fn short(reply: &StripeReply) -> StripeNote
+    ensures { result ≡ short reply.now }
+{
+    match reply {
+        StripeReply::Filled(_) => StripeNote::Filled,
+        StripeReply::Fault(_) => StripeNote::Fault,
+        StripeReply::HeldBy(j, _) => StripeNote::HeldBy(*j),
+        StripeReply::Taken(b, _) => StripeNote::Taken(*b),
+        StripeReply::Done(_) => StripeNote::Done,
+        StripeReply::Freed => StripeNote::Freed,
+        StripeReply::NotHeld => StripeNote::NotHeld,
+    }
+}
+
+/// The note of an operation of this kind on block `b`.
+pub fn stripe_note(kind: OpKind, b: u64, reply: &StripeReply) -> Note
+    ensures { result ≡ stripe_note kind b reply.now }
+{
+    Note {
+        kind,
+        at: Some(b),
+        reply: NoteReply::Stripe(short(reply)),
+    }
+}
+
+/// The note of a Detach.
+pub fn detach_note(reply: &GraphReply) -> Note
+    ensures { result ≡ detach_note reply.now }
+{
+    Note {
+        kind: OpKind::Detach,
+        at: None,
+        reply: NoteReply::Graph(*reply),
+    }
+}
