@@ -31,11 +31,11 @@ starred word (a ∷ b ∷ []) digits e two = record {
 }
 starred word (a ∷ b ∷ c ∷ rest) digits e two = absurd (omega arith)
 
-pair_is_two : (pair : List ℕ) (byte : ℕ) → decode_of pair ≡ Ok (byte ∷ []) → length pair ≡ 2
+pub pair_is_two : (pair : List ℕ) (byte : ℕ) → decode_of pair ≡ Ok (byte ∷ []) → length pair ≡ 2
 pair_is_two pair byte e = let twice = (decode_of-ok pair (byte ∷ []) e).2 in omega arith
 
 -- a star is no digit
-no_star : (word bytes : List ℕ) → decode_of word ≡ Ok bytes → 2 < length word → slice_index word 2 ≡ 42 → ⊥
+pub no_star : (word bytes : List ℕ) → decode_of word ≡ Ok bytes → 2 < length word → slice_index word 2 ≡ 42 → ⊥
 no_star word bytes e long star =
     let digit = (decode_of-ok word bytes e).1 2 0 long in
     let none = ap (λ (x : ℕ). is_hex_digit x) (sym star) ∙ digit in

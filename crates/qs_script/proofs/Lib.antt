@@ -3,3 +3,4 @@ pub mod Digits
 pub mod Splitting
 pub mod Reading
 pub mod DataWords
+pub mod OneLine

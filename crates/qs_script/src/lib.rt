@@ -5,6 +5,7 @@ mod actor;
 mod cutter;
 mod data;
 mod find;
+pub mod laws;
 mod line;
 mod number;
 mod print;
