@@ -7,7 +7,7 @@ mod data;
 mod find;
 pub mod laws;
 mod line;
-mod number;
+pub mod number;
 mod print;
 mod read;
 mod session_name;
