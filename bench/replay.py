@@ -1,7 +1,8 @@
 #!/usr/bin/env python3
 """Steps per second and peak memory of `qsd_replay`, beside reading and printing lines alone.
 
-A script of padded writes, each done step by step, is replayed; then as many comments of the same length
+A script of READs of 4 bytes over two blocks, with a padded WRITE in place of every fiftieth, each done
+step by step, is replayed; then as many comments of the same length
 are, which are read and do nothing; and a few lines of C (lines.c) copy the same lines. Run at the top of
 the repository, once the program stands (see bench/README.md).
 """
@@ -11,20 +12,26 @@ import subprocess
 import sys
 import time
 
-STEPS = 9  # enter, route, listed, started, held, held, stored, stored, ended
+WRITE_STEPS = 9  # enter, route, listed, started, held, held, stored, stored, ended
+READ_STEPS = 7  # enter, route, listed, started, loaded, loaded, ended
 
 
 def script(path, requests, comments):
-    """Writes the script, or comments of the same lengths; how many lines it has."""
-    mark = "#" if comments else ""
-    cut = 1 if comments else 0
+    """Writes the script, or comments of the same lengths; how many steps it has."""
+    steps = 0
     with open(path, "w") as out:
         out.write("session A disk\n")
         for i in range(requests):
             offset = 510 + 512 * (i % 60)
-            out.write(f"{mark}{f'write A {i} {offset} aa*4'[cut:]}\n")
-            out.write(f"{mark}{f'step A.{i}'[cut:]}\n" * STEPS)
-    return 1 + requests * (1 + STEPS)
+            if i % 50 == 0:
+                ask, count = f"write A {i} {offset} aa*4", WRITE_STEPS
+            else:
+                ask, count = f"read A {i} {offset} 4", READ_STEPS
+            lines = [ask] + [f"step A.{i}"] * count
+            for line in lines:
+                out.write(f"#{line[1:]}\n" if comments else f"{line}\n")
+            steps += count
+    return steps
 
 
 def measured(command, source):
@@ -40,7 +47,7 @@ def measured(command, source):
 def main():
     parser = argparse.ArgumentParser(description=__doc__)
     parser.add_argument("program", nargs="?", default="crates/qsd_replay/out/qsd_replay")
-    parser.add_argument("--requests", type=int, default=111_112)
+    parser.add_argument("--requests", type=int, default=142_000)
     parser.add_argument("--rounds", type=int, default=3)
     options = parser.parse_args()
     here = os.path.dirname(os.path.abspath(__file__))
@@ -56,13 +63,12 @@ def main():
             ("copied by lines.c", options.requests, False, floor)]
     for name, requests, comments, command in runs:
         source = os.path.join(out, "replay.txt")
-        script(source, requests, comments)
+        steps = script(source, requests, comments)
         command = [command] if command else [options.program]
         found = [measured(command, source) for _ in range(options.rounds)]
         if any(status for _, _, status in found):
             sys.exit(f"{name}: exit status {found[0][2]}")
         seconds = sorted(s for s, _, _ in found)[len(found) // 2]
-        steps = requests * STEPS
         print(f"| {name} | {steps:,} | {seconds:.2f} | {steps / seconds:,.0f} | {found[0][1]:.1f} |")
     os.remove(os.path.join(out, "replay.txt"))
 

@@ -1,0 +1,10 @@
+pub mod Maps
+pub mod Plays
+pub mod Playing
+pub mod Flows
+pub mod Coming
+pub mod Spelling
+pub mod Replaying
+pub mod Turning
+pub mod Laws
+pub mod Running

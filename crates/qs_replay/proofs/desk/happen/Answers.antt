@@ -1,0 +1,11 @@
+-- What isn't refused is a step of the model.
+use Rattle.qs_replay.proofs.Plays.{plays_of}
+use Rattle.qs_replay.proofs.desk.happen.Goals as goal
+
+pub returns-in_default : goal.returns-in_default
+returns-in_default g c = record {
+  ok = plays_of g.D.Disk.seen c.args.world.now c.args.event c.step.result c.step.new.self c.in_default.not-NotNext c.in_default.not-Memory c.step.ensures.step;
+  err = tt;
+  next = λ e. absurd (cc);
+  form = λ e. absurd (cc);
+}

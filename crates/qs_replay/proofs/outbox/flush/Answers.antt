@@ -1,0 +1,17 @@
+-- A longer front was written.
+use Rattle.std.proofs.Common.{arith, length-drop}
+use Rattle.qs_replay.proofs.Coming.{gives_write, take_rest}
+use Rattle.qs_replay.proofs.Flows.{gives_none}
+use Rattle.qs_replay.proofs.outbox.flush.Goals as goal
+
+pub loop-done-init : goal.loop-done-init
+loop-done-init g c = record { gives = gives_none _ c.args.out.now; inside = omega arith; later = omega arith }
+
+pub loop-done-preserved : goal.loop-done-preserved
+loop-done-preserved g c =
+    let few = rw (take_rest c.args.out.now c.loop-done.done) at (rw c.as_slice.ensures at c.in-Ok.ensures.bound) in
+    record {
+      gives = gives_write _ _ _ c.args.out.now c.loop-done.done c.in-Ok.count c.loop-done.invariant.gives (rw c.as_slice.ensures at c.in-Ok.ensures.bytes);
+      inside = omega (arith, few, length-drop c.loop-done.done c.args.out.now, c.loop-done.invariant.inside);
+      later = omega (arith, c.in-Ok.ensures.cause.later, c.loop-done.invariant.later);
+    }

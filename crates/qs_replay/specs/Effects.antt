@@ -1,0 +1,240 @@
+-- What a line of a script does: the events that it makes, what it prints, and the names after it.
+use Rattle.std.specs.Prelude.{◌≡◌, ℕ, ◌<◌, ◌⊎◌, Bool, true, false, List, [], ◌∷◌, ◌++◌, length, All, Option, Some, None, Result, Ok, Err}
+use Rattle.qs_bytes.specs.declared.ask.Ask.{Ask}
+use Rattle.qs_bytes.specs.declared.ask.Kind.TheVariants as kind
+use Rattle.qs_bytes.specs.declared.ask.Verdict.{Verdict}
+use Rattle.qs_outside.specs.Blocks.{Seen}
+use Rattle.qs_part.specs.declared.event.Actor.{Actor}
+use Rattle.qs_part.specs.declared.event.Actor.TheVariants.{Session as ASession, Request as ARequest}
+use Rattle.qs_part.specs.declared.event.Event.{Event}
+use Rattle.qs_part.specs.declared.event.Event.TheVariants as event
+use Rattle.qs_part.specs.declared.event.Note.{Note}
+use Rattle.qs_part.specs.declared.event.NoteReply.{NoteReply}
+use Rattle.qs_part.specs.declared.event.NoteReply.TheVariants as reply
+use Rattle.qs_part.specs.declared.event.Outcome.{Outcome}
+use Rattle.qs_part.specs.declared.event.Outcome.TheVariants as outcome
+use Rattle.qs_part.specs.declared.event.StripeNote.TheVariants as stripe
+use Rattle.qs_part.specs.declared.tracker.TrackerReply.TheVariants as tracker
+use Rattle.qs_part.specs.declared.graph.GraphReply.{GraphReply}
+use Rattle.qs_part.specs.declared.graph.GraphReply.TheVariants as graph
+use Rattle.qs_script.specs.declared.actor.ScriptActor.{ScriptActor}
+use Rattle.qs_script.specs.declared.actor.ScriptActor.TheVariants as who
+use Rattle.qs_script.specs.declared.line.Line.{Line}
+use Rattle.qs_script.specs.declared.line.Line.TheVariants as line
+use Rattle.qs_script.specs.declared.print.SessionNews.{SessionNews}
+use Rattle.qs_script.specs.declared.print.SessionNews.TheVariants as news
+use Rattle.qs_script.specs.Prints.{answer_line, session_line, step_line}
+use Rattle.qs_world.specs.Events.{IsNotNext}
+use Rattle.qs_world.specs.Openings.{Planned}
+use Rattle.qs_world.specs.Values.{WorldValue}
+use Rattle.qs_replay.specs.declared.stop.Stop.{Stop}
+use Rattle.qs_replay.specs.declared.stop.Stop.TheVariants as stop
+use Rattle.qs_replay.specs.declared.table.Made.{Made}
+use Rattle.qs_replay.specs.declared.desk.Desk.{Desk}
+use Rattle.qs_replay.specs.Calls.{Call, Plays}
+use Rattle.qs_replay.specs.Tables.{Gives, IsUsed, Names, request_of}
+
+abbrev pub read_ask : ℕ → ℕ → ℕ → Ask
+read_ask cookie offset length = record { kind = kind.Read; fua = false; flags_fit = true; cookie = cookie; offset = offset; length = length }
+
+abbrev pub write_ask : ℕ → ℕ → List ℕ → Ask
+write_ask cookie offset bytes = record { kind = kind.Write; fua = false; flags_fit = true; cookie = cookie; offset = offset; length = length bytes }
+
+-- the actor that a script names; a request is one that was made
+abbrev pub IsActor : Names → ScriptActor → Actor → Names → Type 0
+IsActor t (who.Session s) actor t' = (n : ℕ) × (Gives t s n t' × (actor ≡ ASession n))
+IsActor t (who.Request s c) actor t' =
+    (n : ℕ) × (m : Made) × (Gives t s n t' × (request_of t'.requests n c ≡ Some m) × (actor ≡ ARequest m.number))
+
+-- The event that a line makes. The buffer of a READ is free: it may be refused.
+abbrev pub IsEventOf : Names → Line → Event → Names → Type 0
+IsEventOf t (line.Session s e) made t' = (n : ℕ) × (Gives t s n t' × (made ≡ event.Attach n e))
+IsEventOf t (line.End s) made t' = (n : ℕ) × (Gives t s n t' × (made ≡ event.Leave n))
+IsEventOf t (line.Read s c offset long) made t' =
+    (n : ℕ) × (body : Option (List ℕ)) × (Gives t s n t' × (made ≡ event.Ask n (read_ask c offset long) body))
+IsEventOf t (line.Write s c offset bytes) made t' =
+    (n : ℕ) × (Gives t s n t' × (made ≡ event.Ask n (write_ask c offset bytes) (Some bytes)))
+IsEventOf t (line.Step actor now) made t' = (a : Actor) × (IsActor t actor a t' × (made ≡ event.Step a now))
+IsEventOf t (line.Run actor now) made t' = (a : Actor) × (IsActor t actor a t' × (made ≡ event.Step a now))
+IsEventOf t line.Nothing made t' = ⊥
+IsEventOf t (line.Fail j fail) made t' = ⊥
+
+-- what became of a session
+abbrev pub news_of : Outcome → SessionNews
+news_of (outcome.Attached info) = news.Attached info.size info.writable
+news_of outcome.NoExport = news.Refused
+news_of outcome.Crowded = news.Crowded
+news_of other = news.Left
+
+abbrev pub answer_text : ScriptActor → Verdict → List ℕ
+answer_text (who.Session s) verdict = []
+answer_text (who.Request s c) verdict = answer_line s c verdict
+
+-- the line of the operation that answered, if there was one
+abbrev pub note_text : ScriptActor → Option Note → List ℕ
+note_text actor None = []
+note_text actor (Some note) = step_line actor note
+
+-- a step prints its line, and the answer's if it answers
+abbrev pub step_text : ScriptActor → Outcome → List ℕ
+step_text actor (outcome.Moved note) = step_line actor note
+step_text actor (outcome.Answered verdict note) = note_text actor note ++ answer_text actor verdict
+step_text actor other = []
+
+-- a run prints the answer's line, or the last step's
+abbrev pub run_text : ScriptActor → Outcome → List ℕ
+run_text actor (outcome.Moved note) = step_line actor note
+run_text actor (outcome.Answered verdict note) = answer_text actor verdict
+run_text actor other = []
+
+-- what a line prints, by the outcome of its last event
+abbrev pub text_of : Line → Outcome → List ℕ
+text_of (line.Session s e) o = session_line s (news_of o)
+text_of (line.End s) o = session_line s news.Left
+text_of (line.Step actor now) o = step_text actor o
+text_of (line.Run actor now) o = run_text actor o
+text_of other o = []
+
+-- A request that was made is noted by its cookie, which wasn't used before with this session's name.
+abbrev pub Notes : Event → Outcome → Names → Names → Type 0
+Notes (event.Ask n ask body) (outcome.Made r) t t' = (IsUsed t.requests n ask.cookie → ⊥) ×
+    (t' ≡ record t { requests = t.requests ++ record { session = n; cookie = ask.cookie; number = r } ∷ [] })
+Notes (event.Ask n ask body) other t t' = ⊥
+Notes made other t t' = t' ≡ t
+
+-- an answer of the graph to a request
+abbrev pub is_way : GraphReply → Bool
+is_way (graph.Routed route) = true
+is_way graph.Shutting = true
+is_way other = false
+
+-- An answer of a part that lets its actor go on: none that leaves the actor as it was, and no Detach.
+abbrev pub moves_on : NoteReply → Bool
+moves_on (reply.Tracker tracker.Quiesced) = false
+moves_on (reply.Tracker tracker.Full) = false
+moves_on (reply.Tracker (tracker.NotYet n)) = false
+moves_on (reply.Tracker tracker.Strange) = false
+moves_on (reply.Stripe (stripe.HeldBy k)) = false
+moves_on (reply.Stripe (stripe.Taken b)) = false
+moves_on (reply.Stripe stripe.NotHeld) = false
+moves_on (reply.Graph answer) = is_way answer
+moves_on other = true
+
+-- the outcome isn't the last of a run
+abbrev pub goes_on : Outcome → Bool
+goes_on (outcome.Moved note) = moves_on note.reply
+goes_on other = false
+
+-- a call of this event that isn't the last of a run
+pub record GoesOn (made : Event) (c : Call) : Type 0 where
+  pub event_is : c.event ≡ made
+  pub on : goes_on c.outcome ≡ true
+
+-- a run of one actor: it goes on up to its last step
+pub record RunsOut (made : Event) (calls : List Call) (last : Outcome) : Type 0 where
+  pub front : List Call
+  pub on : All (GoesOn made) front
+  pub whole : calls ≡ front ++ record { event = made; outcome = last } ∷ []
+  pub ends : goes_on last ≡ false
+
+-- one event with this outcome, or for a `run` all of a run with this last one
+abbrev pub CallsOf : Line → Event → Outcome → List Call → Type 0
+CallsOf (line.Run actor now) made o calls = RunsOut made calls o
+CallsOf other made o calls = calls ≡ record { event = made; outcome = o } ∷ []
+
+-- what a line with events does
+pub record Acts (t : Names) (l : Line) (calls : List Call) (text : List ℕ) (t' : Names) : Type 0 where
+  pub made : Event
+  pub mid : Names
+  pub outcome : Outcome
+  pub event_is : IsEventOf t l made mid
+  pub calls_are : CallsOf l made outcome calls
+  pub notes : Notes made outcome mid t'
+  pub text_is : text ≡ text_of l outcome
+
+-- nothing happens
+pub record Rests (t : Names) (calls : List Call) (text : List ℕ) (t' : Names) : Type 0 where
+  pub calls_are : calls ≡ []
+  pub text_is : text ≡ []
+  pub same : t' ≡ t
+
+-- what a line does; one that says nothing, or plans a failure, makes no event
+abbrev pub Does : Names → Line → List Call → List ℕ → Names → Type 0
+Does t line.Nothing calls text t' = Rests t calls text t'
+Does t (line.Fail j fail) calls text t' = Rests t calls text t'
+Does t other calls text t' = Acts t other calls text t'
+
+-- a line that plans a failure plans it, and no other changes the core but by its calls
+abbrev pub Plans : {D : Type 0} → (D → Seen) → WorldValue D → Line → WorldValue D → Type 0
+Plans seen w (line.Fail j fail) w' = Planned seen w j fail w'
+Plans seen w line.Nothing w' = w' ≡ w
+Plans seen w other w' = Unit {0}
+
+-- a whole line was done: its calls, and what it prints
+pub record IsPlayed {D : Type 0} (seen : D → Seen) (w : WorldValue D) (t : Names) (l : Line) (calls : List Call) (text : List ℕ)
+    (w' : WorldValue D) (t' : Names) : Type 0 where
+  pub plays : Plays seen w calls w'
+  pub does : Does t l calls text t'
+  pub plans : Plans seen w l w'
+
+-- at a desk
+pub record Played {D : Type 0} (seen : D → Seen) (old : Desk D) (l : Line) (new : Desk D) : Type 0 where
+  pub calls : List Call
+  pub text : List ℕ
+  pub is : IsPlayed seen old.world old.table l calls text new.world new.table
+  pub printed : new.out ≡ old.out ++ text
+
+-- the line uses a cookie that was used with the name of its session
+abbrev pub UsesAgain : Names → Line → Type 0
+UsesAgain t (line.Read s c offset long) = (n : ℕ) × (t' : Names) × (Gives t s n t' × IsUsed t'.requests n c)
+UsesAgain t (line.Write s c offset bytes) = (n : ℕ) × (t' : Names) × (Gives t s n t' × IsUsed t'.requests n c)
+UsesAgain t other = ⊥
+
+-- an actor of a script that is no request that was made
+abbrev pub IsUnmade : Names → ScriptActor → Type 0
+IsUnmade t (who.Session s) = ⊥
+IsUnmade t (who.Request s c) = (n : ℕ) × (t' : Names) × (Gives t s n t' × (IsUsed t'.requests n c → ⊥))
+
+abbrev pub DrivesUnmade : Names → Line → Type 0
+DrivesUnmade t (line.Step actor now) = IsUnmade t actor
+DrivesUnmade t (line.Run actor now) = IsUnmade t actor
+DrivesUnmade t other = ⊥
+
+-- the line's event can't come
+pub record CannotCome {D : Type 0} (w : WorldValue D) (t : Names) (l : Line) : Type 0 where
+  pub made : Event
+  pub mid : Names
+  pub event_is : IsEventOf t l made mid
+  pub not_next : IsNotNext w made
+
+-- some of the calls of an event's line: one, or for a `run` any number
+abbrev pub AreFirst : Line → Event → List Call → Type 0
+AreFirst (line.Run actor now) made calls = All (λ (c : Call). c.event ≡ made) calls
+AreFirst other made calls = (o : Outcome) × (calls ≡ record { event = made; outcome = o } ∷ [])
+
+-- the first events of a line that wasn't done to its end
+abbrev pub IsCut : Names → Line → List Call → Type 0
+IsCut t l calls = (calls ≡ []) ⊎ ((made : Event) × (mid : Names) × (IsEventOf t l made mid × AreFirst l made calls))
+
+-- Why a line wasn't done, or not to its end: then nothing of it was printed, and but for refused memory nothing happened.
+abbrev pub Stopped : {D : Type 0} → (D → Seen) → Desk D → Line → Stop → Desk D → Type 0
+Stopped seen old l stop.BadLine new = UsesAgain old.table l × (new.world ≡ old.world) × (new.out ≡ old.out)
+Stopped seen old l stop.NotNext new =
+    (CannotCome old.world old.table l ⊎ DrivesUnmade old.table l) × (UsesAgain old.table l → ⊥) × (new.world ≡ old.world) × (new.out ≡ old.out)
+Stopped seen old l stop.Memory new =
+    (calls : List Call) × (IsCut old.table l calls × Plays seen old.world calls new.world × (new.out ≡ old.out))
+
+abbrev pub PlaysLine : {D : Type 0} → (D → Seen) → Desk D → Line → Result Unit Stop → Desk D → Type 0
+PlaysLine seen old l (Ok u) new = Played seen old l new
+PlaysLine seen old l (Err s) new = Stopped seen old l s new
+
+-- the line asks so, with this body
+abbrev pub IsAsked : Line → List ℕ → Ask → Option (List ℕ) → Type 0
+IsAsked (line.Read s c offset long) session ask body = (s ≡ session) × (ask ≡ read_ask c offset long)
+IsAsked (line.Write s c offset bytes) session ask body = (s ≡ session) × (ask ≡ write_ask c offset bytes) × (body ≡ Some bytes)
+IsAsked other session ask body = ⊥
+
+-- a failure is planned for a stripe that is there
+abbrev pub IsPlanned : Line → Type 0
+IsPlanned (line.Fail j fail) = j < 8
+IsPlanned other = Unit {0}

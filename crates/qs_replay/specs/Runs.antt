@@ -1,0 +1,81 @@
+-- What `run_replay` does, from its words to its status.
+use Rattle.std.specs.Prelude.{◌≡◌, ◌^◌, ℕ, ◌⊎◌, Bool, true, false, List, [], ◌∷◌, map, codes, Option, Some, String}
+use Rattle.std.specs.Global.{Global}
+use Rattle.qs_bytes.specs.declared.status.Status.{Status}
+use Rattle.qs_bytes.specs.declared.status.Status.TheVariants as status
+use Rattle.qs_outside.specs.Blocks.{Seen}
+use Rattle.qs_image.specs.Image.{align_of, block_now}
+use Rattle.qs_image.specs.Opening.{Opens}
+use Rattle.qs_model.specs.Acts.{Element, Exported}
+use Rattle.qs_model.specs.Laws.{Headline, opening}
+use Rattle.qs_model.specs.Steps.{Runs, after}
+use Rattle.qs_model.specs.Worlds.{Export}
+use Rattle.qs_world.specs.Openings.{AreSettled, Exports, IsOpened}
+use Rattle.qs_world.specs.Stands.{Stands}
+use Rattle.qs_world.specs.Values.{WorldValue}
+use Rattle.qs_replay.specs.declared.words.ReplayWords.{ReplayWords}
+use Rattle.qs_replay.specs.Calls.{AreCalls, Call}
+use Rattle.qs_replay.specs.Scripts.{Replays, Scene}
+use Rattle.qs_replay.specs.Tables.{Names}
+use Rattle.qs_replay.specs.Words.{Tells}
+
+abbrev pub no_names : Names
+no_names = record { sessions = []; requests = [] }
+
+-- the most lines of a script
+abbrev pub most_lines : ℕ
+most_lines = 2 ^ 32
+
+-- A run of the model from its opening state: the export is made, and then each step is a call's, in order.
+-- All laws of runs hold of it, and the core stands for where it leads.
+pub record HasRun {D : Type 0} (seen : D → Seen) (disks : List Seen) (calls : List Call) (w : WorldValue D) : Type 0 where
+  pub tells : Bool
+  pub place : ℕ
+  pub export : Export
+  pub elements : List Element
+  pub are : AreCalls (align_of disks) calls elements
+  pub run : Runs (align_of disks) (opening tells (block_now disks)) (Exported place export ∷ elements)
+  pub laws : Headline (align_of disks) (opening tells (block_now disks)) (Exported place export ∷ elements)
+  pub stands : Stands seen w (after (align_of disks) (opening tells (block_now disks)) (Exported place export ∷ elements))
+
+-- A core over the disks, with the file node `file0` and the writable export `disk`.
+pub record Begins {D : Type 0} (seen : D → Seen) (disks : List D) (w : WorldValue D) : Type 0 where
+  pub fresh : WorldValue D
+  pub opened : IsOpened seen disks (codes "file0") false fresh
+  pub exports : Exports seen fresh (codes "disk") true w
+
+-- The script was replayed over the disks. Where these are settled, the calls of its lines are a run, and so are
+-- those with the calls of a line that was cut off.
+pub record IsReplayed {D : Type 0} (seen : D → Seen) (disks : List D) (left sent : Option (List ℕ)) (result : Status)
+    (disks' : List D) (left' sent' : Option (List ℕ)) : Type 0 where
+  pub start : WorldValue D
+  pub begins : Begins seen disks start
+  pub after_all : Scene D
+  pub replays : Replays seen (record { left = left; waiting = []; sent = sent; out = []; world = start; names = no_names }) most_lines result after_all
+  pub left_is : left' ≡ after_all.left
+  pub sent_is : sent' ≡ after_all.sent
+  pub disks_are : disks' ≡ map (λ s. s.disk) after_all.world.stripes
+  pub run : AreSettled (map seen disks) → HasRun seen (map seen disks) replays.calls replays.world
+
+-- nothing was read, written or changed
+pub record Untouched {D : Type 0} (disks : List D) (left sent : Option (List ℕ)) (disks' : List D) (left' sent' : Option (List ℕ)) : Type 0 where
+  pub disks_same : disks' ≡ disks
+  pub left_same : left' ≡ left
+  pub sent_same : sent' ≡ sent
+
+abbrev pub AreWords : List (String Global) → Type 0
+AreWords words = (told : ReplayWords) × Tells words told
+
+-- The disks are tested, and the script is replayed over them; memory may be refused before.
+abbrev pub Opening : {D : Type 0} → (D → Seen) → List D → Option (List ℕ) → Option (List ℕ) → Status → List D → Option (List ℕ) → Option (List ℕ) → Type 0
+Opening seen disks left sent status.Usage disks' left' sent' = ⊥
+Opening seen disks left sent (status.OpenBad bad) disks' left' sent' = Opens (map seen disks) (Some bad) × Untouched disks left sent disks' left' sent'
+Opening seen disks left sent status.Memory disks' left' sent' =
+    Untouched disks left sent disks' left' sent' ⊎ IsReplayed seen disks left sent status.Memory disks' left' sent'
+Opening seen disks left sent other disks' left' sent' = IsReplayed seen disks left sent other disks' left' sent'
+
+-- One call of `run_replay`: the words are tested first, then the disks.
+abbrev pub Ran : {D : Type 0} → List (String Global) → (D → Seen) → List D → Option (List ℕ) → Option (List ℕ) → Status → List D →
+    Option (List ℕ) → Option (List ℕ) → Type 0
+Ran words seen disks left sent status.Usage disks' left' sent' = (AreWords words → ⊥) × Untouched disks left sent disks' left' sent'
+Ran words seen disks left sent other disks' left' sent' = AreWords words × Opening seen disks left sent other disks' left' sent'

@@ -1,0 +1,205 @@
+ghost use Rattle.std.specs.Prelude.{◌≡◌, ◌↔◌, ◌++◌, ◌∷◌, [], All, ℕ, List, Err, IfOk, IfSome, OnOk, OnErr, MatchResult, length, true};
+ghost use Rattle.qs_part.specs.declared.event.Event.TheVariants.{Step as AStep};
+ghost use Rattle.qs_script.specs.declared.line.Line.TheVariants as line;
+ghost use Rattle.qs_world.specs.Events.{IsNotNext};
+ghost use Rattle.qs_replay.specs.Calls.{Call, Plays};
+ghost use Rattle.qs_replay.specs.Effects.{GoesOn, IsActor, IsUnmade, PlaysLine, RunsOut, answer_text, goes_on, moves_on, note_text, run_text, step_text, read_ask, write_ask};
+ghost use Rattle.qs_replay.specs.declared.stop.Stop.TheVariants.{NotNext, Memory as NoMemory, BadLine};
+
+use crate::stop::Stop;
+use crate::table::Table;
+use qs_bytes::{Bytes, Memory, Verdict};
+use qs_outside::Disk;
+use qs_part::event::{Actor, Event, Note, NoteReply, Outcome, StripeNote};
+use qs_part::graph::GraphReply;
+use qs_part::tracker::TrackerReply;
+use qs_script::{ScriptActor, put_answer, put_step};
+use qs_world::world::World;
+use std::alloc::Global;
+
+/// What a script works on: the core, what its names stand for, and the lines that wait to be written.
+#[derive(Debug, Drop)]
+pub struct Desk<D: Disk + Drop> {
+    pub world: World<D>,
+    pub table: Table,
+    pub out: Bytes,
+    pub alloc: Global,
+}
+
+/// An event happens, or it can't come now, or memory is refused; then nothing changes.
+pub fn happen<D: Disk + Drop>(world: &mut World<D>, event: Event) -> Result<Outcome, Stop>
+    ensures ok { IfOk result (λ outcome. Plays D.seen world.old (record { event = event; outcome = outcome } ∷ []) world.new) }
+    ensures err { OnErr result (world.new ≡ world.old) }
+    ensures next { result ≡ Err NotNext → IsNotNext world.old event }
+    ensures form { result ≡ Err BadLine → ⊥ }
+{
+    match world.step(event) {
+        Outcome::NotNext => Err(Stop::NotNext),
+        Outcome::Memory => Err(Stop::Memory),
+        outcome => Ok(outcome),
+    }
+}
+
+/// Whether an answer of a part lets its actor go on in a run.
+fn reply_moves_on(reply: NoteReply) -> bool
+    ensures { result ≡ moves_on reply }
+{
+    match reply {
+        NoteReply::Tracker(answer) => !matches!(
+            answer,
+            TrackerReply::Quiesced
+                | TrackerReply::Full
+                | TrackerReply::NotYet(_)
+                | TrackerReply::Strange
+        ),
+        NoteReply::Graph(answer) => {
+            matches!(answer, GraphReply::Routed(_) | GraphReply::Shutting)
+        }
+        NoteReply::Stripe(answer) => !matches!(
+            answer,
+            StripeNote::HeldBy(_) | StripeNote::Taken(_) | StripeNote::NotHeld
+        ),
+    }
+}
+
+/// Whether the outcome isn't the last of a run.
+fn outcome_goes_on(outcome: &Outcome) -> bool
+    ensures { result ≡ goes_on outcome.now }
+{
+    match outcome {
+        Outcome::Moved(note) => reply_moves_on(note.reply),
+        _ => false,
+    }
+}
+
+/// How many steps a run makes at most.
+const MOST_STEPS: u64 = u64::MAX;
+
+/// An actor's steps, up to an answer, a Detach, or a step that leaves it as it was; the outcome of the
+/// last one. A run of 2^64 steps is given up as refused memory.
+pub fn run_out<D: Disk + Drop>(
+    world: &mut World<D>,
+    actor: Actor,
+    now: u64,
+) -> Result<Outcome, Stop>
+    ensures ok { IfOk result (λ last. (calls : List Call) × (Plays D.seen world.old calls world.new × RunsOut (AStep actor now) calls last)) }
+    ensures next { result ≡ Err NotNext → IsNotNext world.old (AStep actor now) × (world.new ≡ world.old) }
+    ensures form { result ≡ Err BadLine → ⊥ }
+    ensures memory { result ≡ Err NoMemory → (calls : List Call) × (Plays D.seen world.old calls world.new × All (λ (c : Call). c.event ≡ AStep actor now) calls) }
+{
+    let mut outcome = match happen(world, Event::Step { actor, now }) {
+        Ok(outcome) => outcome,
+        Err(stop) => return Err(stop),
+    };
+    for _ in 0..MOST_STEPS {
+        if !outcome_goes_on(&outcome) {
+            return Ok(outcome);
+        }
+        outcome = match happen(world, Event::Step { actor, now }) {
+            Ok(next) => next,
+            Err(_) => return Err(Stop::Memory),
+        };
+    }
+    Err(Stop::Memory)
+}
+
+/// Writes an answer's line at the end, for a request.
+fn put_verdict(
+    alloc: Global,
+    out: &mut Bytes,
+    who: &ScriptActor,
+    verdict: &Verdict,
+) -> Result<(), Memory>
+    ensures ok { OnOk result (out.new ≡ out.old ++ answer_text who.now verdict.now) }
+    ensures err { OnErr result (out.new ≡ out.old) }
+{
+    match who {
+        ScriptActor::Session(_) => Ok(()),
+        ScriptActor::Request(session, cookie) => {
+            put_answer(alloc, out, *session, *cookie, verdict)
+        }
+    }
+}
+
+/// Writes the line of an operation at the end, if there is one.
+fn put_note(
+    alloc: Global,
+    out: &mut Bytes,
+    who: &ScriptActor,
+    note: &Option<Note>,
+) -> Result<(), Memory>
+    ensures ok { OnOk result (out.new ≡ out.old ++ note_text who.now note.now) }
+    ensures err { OnErr result (out.new ≡ out.old) }
+{
+    match note {
+        Some(note) => put_step(alloc, out, who, note),
+        None => Ok(()),
+    }
+}
+
+/// What a step prints.
+pub fn step_lines(alloc: Global, who: &ScriptActor, outcome: &Outcome) -> Result<Bytes, Memory>
+    ensures { IfOk result (λ text. text ≡ step_text who.now outcome.now) }
+{
+    let mut text = Bytes::of(Vec::new(alloc));
+    match outcome {
+        Outcome::Moved(note) => put_step(alloc, &mut text, who, note)?,
+        Outcome::Answered(verdict, note) => {
+            put_note(alloc, &mut text, who, note)?;
+            put_verdict(alloc, &mut text, who, verdict)?;
+        }
+        _ => {}
+    }
+    Ok(text)
+}
+
+/// What a run prints, by its last outcome.
+pub fn run_lines(alloc: Global, who: &ScriptActor, outcome: &Outcome) -> Result<Bytes, Memory>
+    ensures { IfOk result (λ text. text ≡ run_text who.now outcome.now) }
+{
+    let mut text = Bytes::of(Vec::new(alloc));
+    match outcome {
+        Outcome::Moved(note) => put_step(alloc, &mut text, who, note)?,
+        Outcome::Answered(verdict, _) => put_verdict(alloc, &mut text, who, verdict)?,
+        _ => {}
+    }
+    Ok(text)
+}
+
+/// The body of a READ, where there is memory for it; none where it is too long to be served.
+pub fn room_for(alloc: Global, length: u64) -> Option<Bytes> {
+    if length > LONGEST {
+        return None;
+    }
+    match vec![in alloc; 0; length as usize] {
+        Ok(bytes) => Some(Bytes::of(bytes)),
+        Err(_) => None,
+    }
+}
+
+/// The longest request that is served, in bytes.
+const LONGEST: u64 = 33_554_432;
+
+/// The actor that a script names, or why there is none.
+pub fn actor_for(table: &mut Table, who: &ScriptActor) -> Result<Actor, Stop>
+    ensures ok { IfOk result (λ actor. IsActor table.old who.now actor table.new) }
+    ensures next { result ≡ Err NotNext → IsUnmade table.old who.now }
+    ensures form { result ≡ Err BadLine → ⊥ }
+{
+    match who {
+        ScriptActor::Session(session) => match table.number(*session) {
+            Ok(number) => Ok(Actor::Session(number)),
+            Err(_) => Err(Stop::Memory),
+        },
+        ScriptActor::Request(session, cookie) => {
+            let number = match table.number(*session) {
+                Ok(number) => number,
+                Err(_) => return Err(Stop::Memory),
+            };
+            match table.request(number, *cookie) {
+                Some(made) => Ok(Actor::Request(made.number)),
+                None => Err(Stop::NotNext),
+            }
+        }
+    }
+}

@@ -1,0 +1,20 @@
+//! A script of events against the core: its lines are read, each makes its events, and what came of
+//! them is printed.
+#![tactic(auto)]
+
+mod desk;
+mod inbox;
+mod lines;
+mod outbox;
+mod play;
+mod replay;
+mod run;
+mod stop;
+mod table;
+mod words;
+
+pub use run::run_replay;
+pub use words::{ReplayWords, replay_words};
+
+#[cfg(test)]
+mod tests;

@@ -1,0 +1,223 @@
+ghost use Rattle.std.specs.Prelude.{◌≡◌, ◌<◌, Some, false, true};
+ghost use Rattle.qs_script.specs.declared.line.Line.{Line as ALine};
+ghost use Rattle.qs_script.specs.declared.line.Line.TheVariants as line;
+ghost use Rattle.qs_replay.specs.Effects.{IsAsked, IsPlanned, PlaysLine, news_of as the_news};
+
+use crate::desk::{Desk, actor_for, happen, room_for, run_lines, run_out, step_lines};
+use crate::stop::Stop;
+use crate::table::Made;
+use qs_bytes::{Ask, Bytes, Kind, Name};
+use qs_outside::{Disk, Fail, RiggedDisk};
+use qs_part::event::{Event, Outcome};
+use qs_script::{Line, ScriptActor, SessionName, SessionNews, put_session};
+
+/// The request of a `read` or a `write`.
+fn plain_ask(kind: Kind, cookie: u64, offset: u64, length: u64) -> Ask
+    ensures { result ≡ record { kind = kind; fua = false; flags_fit = true; cookie = cookie; offset = offset; length = length } }
+{
+    Ask {
+        kind,
+        fua: false,
+        flags_fit: true,
+        cookie,
+        offset,
+        length,
+    }
+}
+
+impl<D: Disk + Drop> Desk<D> {
+    /// `session S EXPORT`
+    pub fn attach(&mut self, session: SessionName, export: Name) -> Result<(), Stop>
+        ensures { PlaysLine D.seen self.old (line.Session session export) result self.new }
+    {
+        let number = match self.table.number(session) {
+            Ok(number) => number,
+            Err(_) => return Err(Stop::Memory),
+        };
+        let event = Event::Attach {
+            session: number,
+            name: export,
+        };
+        let outcome = match happen(&mut self.world, event) {
+            Ok(outcome) => outcome,
+            Err(stop) => return Err(stop),
+        };
+        match put_session(self.alloc, &mut self.out, session, news_of(&outcome)) {
+            Ok(()) => Ok(()),
+            Err(_) => Err(Stop::Memory),
+        }
+    }
+
+    /// `end S`
+    pub fn end(&mut self, session: SessionName) -> Result<(), Stop>
+        ensures { PlaysLine D.seen self.old (line.End session) result self.new }
+    {
+        let number = match self.table.number(session) {
+            Ok(number) => number,
+            Err(_) => return Err(Stop::Memory),
+        };
+        match happen(&mut self.world, Event::Leave { session: number }) {
+            Ok(_) => {}
+            Err(stop) => return Err(stop),
+        }
+        match put_session(self.alloc, &mut self.out, session, SessionNews::Left) {
+            Ok(()) => Ok(()),
+            Err(_) => Err(Stop::Memory),
+        }
+    }
+
+    /// A session asks for something, by a `read` or a `write`.
+    fn ask(&mut self, session: SessionName, ask: Ask, body: Option<Bytes>) -> Result<(), Stop>
+        ensures { (l : ALine) → IsAsked l session ask body → PlaysLine D.seen self.old l result self.new }
+    {
+        let number = match self.table.number(session) {
+            Ok(number) => number,
+            Err(_) => return Err(Stop::Memory),
+        };
+        match self.table.request(number, ask.cookie) {
+            Some(_) => return Err(Stop::BadLine),
+            None => {}
+        }
+        let event = Event::Ask {
+            session: number,
+            ask,
+            body,
+        };
+        let request = match happen(&mut self.world, event) {
+            Ok(Outcome::Made(request)) => request,
+            Ok(_) => return Err(Stop::Memory),
+            Err(stop) => return Err(stop),
+        };
+        let made = Made {
+            session: number,
+            cookie: ask.cookie,
+            number: request,
+        };
+        match self.table.make(made) {
+            Ok(()) => Ok(()),
+            Err(_) => Err(Stop::Memory),
+        }
+    }
+
+    /// `read S C OFFSET LENGTH`
+    pub fn read(
+        &mut self,
+        session: SessionName,
+        cookie: u64,
+        offset: u64,
+        length: u64,
+    ) -> Result<(), Stop>
+        ensures { PlaysLine D.seen self.old (line.Read session cookie offset length) result self.new }
+    {
+        let body = room_for(self.alloc, length);
+        self.ask(session, plain_ask(Kind::Read, cookie, offset, length), body)
+    }
+
+    /// `write S C OFFSET BYTES`
+    pub fn write(
+        &mut self,
+        session: SessionName,
+        cookie: u64,
+        offset: u64,
+        body: Bytes,
+    ) -> Result<(), Stop>
+        ensures { PlaysLine D.seen self.old (line.Write session cookie offset body) result self.new }
+    {
+        let ask = plain_ask(Kind::Write, cookie, offset, body.len() as u64);
+        self.ask(session, ask, Some(body))
+    }
+
+    /// `step ACTOR [READING]`
+    pub fn step(&mut self, who: &ScriptActor, now: u64) -> Result<(), Stop>
+        ensures { PlaysLine D.seen self.old (line.Step who.now now) result self.new }
+    {
+        let actor = match actor_for(&mut self.table, who) {
+            Ok(actor) => actor,
+            Err(stop) => return Err(stop),
+        };
+        let outcome = match happen(&mut self.world, Event::Step { actor, now }) {
+            Ok(outcome) => outcome,
+            Err(stop) => return Err(stop),
+        };
+        let text = match step_lines(self.alloc, who, &outcome) {
+            Ok(text) => text,
+            Err(_) => return Err(Stop::Memory),
+        };
+        match self.out.append(text.as_slice()) {
+            Ok(()) => Ok(()),
+            Err(_) => Err(Stop::Memory),
+        }
+    }
+
+    /// `run ACTOR [READING]`
+    pub fn run(&mut self, who: &ScriptActor, now: u64) -> Result<(), Stop>
+        ensures { PlaysLine D.seen self.old (line.Run who.now now) result self.new }
+    {
+        let actor = match actor_for(&mut self.table, who) {
+            Ok(actor) => actor,
+            Err(stop) => return Err(stop),
+        };
+        let outcome = match run_out(&mut self.world, actor, now) {
+            Ok(outcome) => outcome,
+            Err(stop) => return Err(stop),
+        };
+        let text = match run_lines(self.alloc, who, &outcome) {
+            Ok(text) => text,
+            Err(_) => return Err(Stop::Memory),
+        };
+        match self.out.append(text.as_slice()) {
+            Ok(()) => Ok(()),
+            Err(_) => Err(Stop::Memory),
+        }
+    }
+}
+
+/// What became of a session, by the outcome of its Attach.
+fn news_of(outcome: &Outcome) -> SessionNews
+    ensures { result ≡ the_news outcome.now }
+{
+    match outcome {
+        Outcome::Attached(info) => SessionNews::Attached(info.size, info.writable),
+        Outcome::NoExport => SessionNews::Refused,
+        Outcome::Crowded => SessionNews::Crowded,
+        _ => SessionNews::Left,
+    }
+}
+
+impl<D: RiggedDisk + Drop> Desk<D> {
+    /// `fail STRIPE KIND`
+    fn plan(&mut self, stripe: u64, kind: Fail) -> Result<(), Stop>
+        requires { stripe < 8 }
+        ensures { PlaysLine D.Disk.seen self.old (line.Fail stripe kind) result self.new }
+    {
+        self.world.plan(stripe as u8, kind);
+        Ok(())
+    }
+
+    /// One line is done.
+    pub fn play(&mut self, line: Line) -> Result<(), Stop>
+        requires { IsPlanned line }
+        ensures { PlaysLine D.Disk.seen self.old line result self.new }
+    {
+        match line {
+            Line::Nothing => Ok(()),
+            Line::Session { session, export } => self.attach(session, export),
+            Line::End { session } => self.end(session),
+            Line::Read {
+                session,
+                cookie,
+                offset,
+                length,
+            } => self.read(session, cookie, offset, length),
+            Line::Write {
+                session,
+                cookie,
+                offset,
+                body,
+            } => self.write(session, cookie, offset, body),
+            Line::Step { actor, now } => self.step(&actor, now),
+            Line::Run { actor, now } => self.run(&actor, now),
+            Line::Fail { stripe, kind } => self.plan(stripe, kind),
+        }
+    }
+}

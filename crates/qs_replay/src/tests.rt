@@ -1,0 +1,189 @@
+use crate::{ReplayWords, replay_words, run_replay};
+use qs_bytes::{Bytes, Memory, OpenBad, Status};
+use qs_outside::{MemDisk, MemSink, MemSource};
+use std::alloc::Global;
+use std::test::Fail;
+
+/// Disks of an image of 8 blocks of 512 zero bytes.
+fn disks(alloc: Global, count: u8) -> Result<Vec<MemDisk>, Memory> {
+    let mut disks = Vec::new(alloc);
+    for stripe in 0..count {
+        disks.push(MemDisk::new(alloc, stripe, 512, 4096, 64)?)?;
+    }
+    Ok(disks)
+}
+
+fn words_of(alloc: Global, words: &[&str]) -> Result<Vec<String>, Memory> {
+    let mut list = Vec::new(alloc);
+    for word in words {
+        list.push(word.to_string(alloc)?)?;
+    }
+    Ok(list)
+}
+
+/// A run of a script over so many disks, with reads of at most `cut` bytes: its status and what was
+/// printed.
+fn run(
+    alloc: Global,
+    count: u8,
+    script: &[u8],
+    cut: usize,
+    fails: (Vec<u64>, Vec<u64>),
+) -> Result<(Status, Vec<u8>), Memory> {
+    let mut cuts = Vec::new(alloc);
+    cuts.resize(64, cut)?;
+    let (read_fails, write_fails) = fails;
+    let mut source = MemSource::new(Bytes::of(Vec::from_slice(alloc, script)?), cuts, read_fails);
+    let mut sink = MemSink::new(alloc, 65_536, write_fails)?;
+    let words = words_of(alloc, &["--blocks", "8"])?;
+    let mut disks = disks(alloc, count)?;
+    let status = run_replay(alloc, words.as_slice(), &mut source, &mut sink, &mut disks);
+    Ok((status, Vec::from_slice(alloc, sink.sent())?))
+}
+
+/// A script over a whole image, in which nothing outside fails.
+fn script(alloc: Global, text: &[u8]) -> Result<(Status, Vec<u8>), Memory> {
+    run(alloc, 8, text, 7, (Vec::new(alloc), Vec::new(alloc)))
+}
+
+#[test]
+fn worked_scripts(rt: HostRuntime) -> Result<(), Fail> {
+    for (text, printed) in [
+        // Two writes of one block: neither is lost.
+        (
+            b"session A disk\nsession B disk\nwrite A 1 0 11*256\nwrite B 1 256 22*256\n\
+step A.1\nstep B.1\nstep A.1\nstep B.1\nstep A.1\nstep B.1\nstep A.1\nstep B.1\n\
+run A.1\nrun B.1\nread A 2 254 4\nrun A.2"
+                .as_slice(),
+            b"A attached 4096 rw\nB attached 4096 rw\nA.1 enter 0\nB.1 enter 1\nA.1 route 0 4096\n\
+B.1 route 0 4096\nA.1 listed 0\nB.1 listed 1\nA.1 started\nB.1 not-yet 0\nA.1 = 0\nB.1 = 0\n\
+A.2 = 0 11112222\n"
+                .as_slice(),
+        ),
+        // A write of no length.
+        (
+            b"session A disk\nwrite A 1 7 -\nstep A.1\nstep A.1\nstep A.1\n",
+            b"A attached 4096 rw\nA.1 enter 0\nA.1 route 0 4096\nA.1 ended\nA.1 = 0\n",
+        ),
+        // Two aligned writes that overlap.
+        (
+            b"session A disk\nsession B disk\nwrite A 1 0 11*1024\nwrite B 1 0 22*1024\n\
+step A.1\nstep A.1\nstep A.1\nstep A.1\nstep A.1\nrun B.1\nrun A.1\nread A 2 511 2\nrun A.2\n",
+            b"A attached 4096 rw\nB attached 4096 rw\nA.1 enter 0\nA.1 route 0 4096\nA.1 listed 0\n\
+A.1 started\nA.1 stored 0\nB.1 = 0\nA.1 = 0\nA.2 = 0 2211\n",
+        ),
+        // A read beside a padded write.
+        (
+            b"session A disk\nsession B disk\nwrite B 1 1 33\nstep B.1\nstep B.1\nstep B.1\nstep B.1\n\
+read A 1 0 1\nrun A.1\nrun B.1\nrun A.1\nread A 2 0 1\nstep A.2\nstep A.2\nstep A.2\nstep A.2\n\
+write B 2 1 44\nrun B.2\nrun A.2\nrun B.2\nend A\nstep A\nsession A disk\n",
+            b"A attached 4096 rw\nB attached 4096 rw\nB.1 enter 0\nB.1 route 0 4096\nB.1 listed 0\n\
+B.1 started\nA.1 not-yet 0\nB.1 = 0\nA.1 = 0 00\nA.2 enter 0\nA.2 route 0 4096\nA.2 listed 2\n\
+A.2 started\nB.2 not-yet 2\nA.2 = 0 00\nB.2 = 0\nA left\nA detached\nA attached 4096 rw\n",
+        ),
+    ] {
+        let (status, out) = script(rt.alloc(), text)?;
+        assert_eq!(rt; status, Status::Done);
+        assert_eq!(rt; out.as_slice(), printed);
+    }
+    Ok(())
+}
+
+#[test]
+fn refused_stores(rt: HostRuntime) -> Result<(), Fail> {
+    for (text, printed) in [
+        (
+            b"session A disk\nwrite A 1 510 aaaaaaaa\nstep A.1\nstep A.1\nstep A.1\nstep A.1\n\
+step A.1\nstep A.1\nstep A.1\nfail 0 store-old\nstep A.1\nstep A.1\nread A 2 508 8\nrun A.2\n"
+                .as_slice(),
+            b"A.1 stored 0\nA.1 fault\nA.1 ended\nA.1 = 5\nA.2 = 0 0000aaaa00000000\n".as_slice(),
+        ),
+        (
+            b"session A disk\nwrite A 1 510 aaaaaaaa\nstep A.1\nstep A.1\nstep A.1\nstep A.1\n\
+step A.1\nstep A.1\nstep A.1\nfail 0 store-new\nstep A.1\nstep A.1\nread A 2 508 8\nrun A.2\n",
+            b"A.1 stored 0\nA.1 fault\nA.1 ended\nA.1 = 5\nA.2 = 0 0000aaaaaaaa0000\n",
+        ),
+        (
+            b"session A disk\nwrite A 1 510 aaaaaaaa\nstep A.1\nstep A.1\nstep A.1\nstep A.1\n\
+step A.1\nstep A.1\nfail 0 store-old\nstep A.1\nstep A.1\nstep A.1\n",
+            b"A.1 held 1\nA.1 fault\nA.1 freed 1\nA.1 ended\nA.1 = 5\n",
+        ),
+    ] {
+        let (status, out) = script(rt.alloc(), text)?;
+        assert_eq!(rt; status, Status::Done);
+        assert!(rt; out.as_slice().ends_with(printed));
+    }
+    Ok(())
+}
+
+#[test]
+fn refused_lines(rt: HostRuntime) -> Result<(), Fail> {
+    for (text, status) in [
+        (b"session A disk\nstep A.1\n".as_slice(), Status::NotNext(2)),
+        (b"session A disk\njump\n", Status::BadLine(2)),
+        (b"session A disk\nend A\r\n", Status::BadLine(2)),
+        (b"session A disk", Status::Done),
+        (b"session A disk\nread A 01 0 1\n", Status::BadLine(2)),
+        (b"session a disk\n", Status::BadLine(1)),
+        (
+            b"session A disk\nread A 1 0 1\nread A 1 0 1\n",
+            Status::BadLine(3),
+        ),
+        (b"session A disk\nsession A disk\n", Status::NotNext(2)),
+        (b"end A", Status::NotNext(1)),
+        (b"read A 1 0 1\n", Status::NotNext(1)),
+    ] {
+        assert_eq!(rt; script(rt.alloc(), text)?.0, status);
+    }
+    Ok(())
+}
+
+#[test]
+fn long_lines(rt: HostRuntime) -> Result<(), Fail> {
+    let alloc = rt.alloc();
+    for (length, status) in [(65_535, Status::Done), (65_536, Status::BadLine(1))] {
+        let mut text = vec![in alloc; b'#'; length]?;
+        text.push(b'\n')?;
+        let none = (Vec::new(alloc), Vec::new(alloc));
+        assert_eq!(rt; run(alloc, 8, text.as_slice(), 60_000, none)?.0, status);
+    }
+    Ok(())
+}
+
+#[test]
+fn faults_of_the_outside(rt: HostRuntime) -> Result<(), Fail> {
+    let alloc = rt.alloc();
+    let first = [0].to_vec(alloc)?;
+    let read = run(alloc, 8, b"end A", 9, (first, Vec::new(alloc)))?;
+    assert_eq!(rt; read.0, Status::ReadFault);
+    let first = [0].to_vec(alloc)?;
+    let write = run(alloc, 8, b"session A disk", 9, (Vec::new(alloc), first))?;
+    assert_eq!(rt; write.0, Status::WriteFault);
+    assert!(rt; write.1.is_empty());
+    let seven = run(alloc, 7, b"", 9, (Vec::new(alloc), Vec::new(alloc)))?;
+    assert_eq!(rt; seven.0, Status::OpenBad(OpenBad::Count(7)));
+    Ok(())
+}
+
+#[test]
+fn words_of_the_command(rt: HostRuntime) -> Result<(), Fail> {
+    let alloc = rt.alloc();
+    for (words, told) in [
+        ([].as_slice(), Some((64, 512))),
+        (&["--blocks", "65536"], Some((65_536, 512))),
+        (&["--align", "4096", "--blocks", "1"], Some((1, 4096))),
+        (&["--blocks", "0"], None),
+        (&["--blocks", "08"], None),
+        (&["--align", "1024"], None),
+        (&["--blocks", "8", "--blocks", "8"], None),
+        (&["--generate", "7"], None),
+    ] {
+        let told = told.map(|(blocks, align)| ReplayWords {
+            blocks,
+            align,
+            generate: None,
+        });
+        assert_eq!(rt; replay_words(words_of(alloc, words)?.as_slice()), told);
+    }
+    Ok(())
+}

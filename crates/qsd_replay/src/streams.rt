@@ -1,0 +1,48 @@
+use qs_outside::{Failed, Sink, Source};
+use std::io::{Read, Write};
+
+/// A reader as a source.
+#[derive(Drop)]
+pub struct Reading<R> {
+    pub inner: R,
+    pub faults: u64,
+}
+
+impl<R: Read> Source for Reading<R> {
+    ghost left = { λ s. R.remaining s.inner };
+
+    ghost read_faults = { λ s. s.faults };
+
+    fn read(&mut self, into: &mut [u8]) -> Result<usize, Failed> {
+        match self.inner.read(into) {
+            Ok(count) => Ok(count),
+            Err(_) => {
+                self.faults = self.faults.saturating_add(1);
+                Err(Failed)
+            }
+        }
+    }
+}
+
+/// A writer as a sink. One that takes nothing has failed.
+#[derive(Drop)]
+pub struct Writing<W> {
+    pub inner: W,
+    pub faults: u64,
+}
+
+impl<W: Write> Sink for Writing<W> {
+    ghost sent = { λ s. W.contents s.inner };
+
+    ghost write_faults = { λ s. s.faults };
+
+    fn write(&mut self, piece: &[u8]) -> Result<usize, Failed> {
+        match self.inner.write(piece) {
+            Ok(count) if count > 0 || piece.is_empty() => Ok(count),
+            _ => {
+                self.faults = self.faults.saturating_add(1);
+                Err(Failed)
+            }
+        }
+    }
+}
