@@ -52,7 +52,7 @@ unused requests n cookie found is none used = let some = used.1 in cc
 pub asks_event : (t t' : Names) (l : Line) (n : ℕ) (session : List ℕ) (ask : Ask) (body : Option (List ℕ)) → IsAsked l session ask body →
     Gives t session n t' → IsEventOf t l (event.Ask n ask body) t'
 asks_event t t' (line.Read s c offset long) n session ask body is gives =
-    (n, body, (subst (λ (x : List ℕ). Gives t x n t') (sym is.0) gives, ap (λ (a : Ask). event.Ask n a body) is.1))
+    (n, body, (subst (λ (x : List ℕ). Gives t x n t') (sym is.0) gives, is.2, ap (λ (a : Ask). event.Ask n a body) is.1))
 asks_event t t' (line.Write s c offset bytes) n session ask body is gives = (
   n,
   (

@@ -46,12 +46,17 @@ IsActor t (who.Session s) actor t' = (n : ℕ) × (Gives t s n t' × (actor ≡ 
 IsActor t (who.Request s c) actor t' =
     (n : ℕ) × (m : Made) × (Gives t s n t' × (request_of t'.requests n c ≡ Some m) × (actor ≡ ARequest m.number))
 
--- The event that a line makes. The buffer of a READ is free: it may be refused.
+-- a READ's buffer has its length; none where it is too long to be served, or memory was refused
+abbrev pub IsRoom : Option (List ℕ) → ℕ → Type 0
+IsRoom None n = Unit {0}
+IsRoom (Some bytes) n = length bytes ≡ n
+
+-- The event that a line makes.
 abbrev pub IsEventOf : Names → Line → Event → Names → Type 0
 IsEventOf t (line.Session s e) made t' = (n : ℕ) × (Gives t s n t' × (made ≡ event.Attach n e))
 IsEventOf t (line.End s) made t' = (n : ℕ) × (Gives t s n t' × (made ≡ event.Leave n))
 IsEventOf t (line.Read s c offset long) made t' =
-    (n : ℕ) × (body : Option (List ℕ)) × (Gives t s n t' × (made ≡ event.Ask n (read_ask c offset long) body))
+    (n : ℕ) × (body : Option (List ℕ)) × (Gives t s n t' × IsRoom body long × (made ≡ event.Ask n (read_ask c offset long) body))
 IsEventOf t (line.Write s c offset bytes) made t' =
     (n : ℕ) × (Gives t s n t' × (made ≡ event.Ask n (write_ask c offset bytes) (Some bytes)))
 IsEventOf t (line.Step actor now) made t' = (a : Actor) × (IsActor t actor a t' × (made ≡ event.Step a now))
@@ -230,7 +235,7 @@ PlaysLine seen old l (Err s) new = Stopped seen old l s new
 
 -- the line asks so, with this body
 abbrev pub IsAsked : Line → List ℕ → Ask → Option (List ℕ) → Type 0
-IsAsked (line.Read s c offset long) session ask body = (s ≡ session) × (ask ≡ read_ask c offset long)
+IsAsked (line.Read s c offset long) session ask body = (s ≡ session) × (ask ≡ read_ask c offset long) × IsRoom body long
 IsAsked (line.Write s c offset bytes) session ask body = (s ≡ session) × (ask ≡ write_ask c offset bytes) × (body ≡ Some bytes)
 IsAsked other session ask body = ⊥
 

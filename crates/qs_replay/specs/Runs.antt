@@ -44,8 +44,8 @@ pub record Begins {D : Type 0} (seen : D → Seen) (disks : List D) (w : WorldVa
   pub opened : IsOpened seen disks (codes "file0") false fresh
   pub exports : Exports seen fresh (codes "disk") true w
 
--- The script was replayed over the disks. Where these are settled, the calls of its lines are a run, and so are
--- those with the calls of a line that was cut off.
+-- The script was replayed over the disks. Where these are settled, the calls of its whole lines are a run
+-- from the opening, with all laws.
 pub record IsReplayed {D : Type 0} (seen : D → Seen) (disks : List D) (left sent : Option (List ℕ)) (result : Status)
     (disks' : List D) (left' sent' : Option (List ℕ)) : Type 0 where
   pub start : WorldValue D

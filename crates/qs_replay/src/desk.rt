@@ -3,7 +3,7 @@ ghost use Rattle.qs_part.specs.declared.event.Event.TheVariants.{Step as AStep};
 ghost use Rattle.qs_script.specs.declared.line.Line.TheVariants as line;
 ghost use Rattle.qs_world.specs.Events.{IsNotNext};
 ghost use Rattle.qs_replay.specs.Calls.{Call, Plays};
-ghost use Rattle.qs_replay.specs.Effects.{GoesOn, IsActor, IsUnmade, PlaysLine, RunsOut, answer_text, goes_on, moves_on, note_text, run_text, step_text, read_ask, write_ask};
+ghost use Rattle.qs_replay.specs.Effects.{IsRoom, GoesOn, IsActor, IsUnmade, PlaysLine, RunsOut, answer_text, goes_on, moves_on, note_text, run_text, step_text, read_ask, write_ask};
 ghost use Rattle.qs_replay.specs.declared.stop.Stop.TheVariants.{NotNext, Memory as NoMemory, BadLine};
 
 use crate::stop::Stop;
@@ -167,7 +167,9 @@ pub fn run_lines(alloc: Global, who: &ScriptActor, outcome: &Outcome) -> Result<
 }
 
 /// The body of a READ, where there is memory for it; none where it is too long to be served.
-pub fn room_for(alloc: Global, length: u64) -> Option<Bytes> {
+pub fn room_for(alloc: Global, length: u64) -> Option<Bytes>
+    ensures { IsRoom result length }
+{
     if length > LONGEST {
         return None;
     }
