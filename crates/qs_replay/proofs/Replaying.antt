@@ -83,11 +83,11 @@ swap (inl x) = inr x
 swap (inr y) = inl y
 
 -- the parts that all ends but a last line share: the lines before, and what was taken and given behind them
-record_of : {D : Type 0} (seen : D → Seen) (a b c : Scene D) (n budget : ℕ) (last : Turn) (so : SoFar seen a n b) (t : Turns seen b last c)
+record_of : {D : Type 0} (seen : D → Seen) (a b c : Scene D) (n budget : ℕ) (how : Turn) (so : SoFar seen a n b) (t : Turns seen b how c)
     (result : Status) → t.printed ≡ [] → (t.rest ≡ c.out) ⊎ (result ≡ status.WriteFault) →
     Ends seen result budget so.texts (spelled so.texts ++ t.taken) b.world b.names c.left c.waiting c.world →
     ((result ≡ status.Memory → ⊥) → Plays seen b.world [] c.world) → Closes seen a budget result c
-record_of seen a b c n budget last so t result silent rest ends idle = record {
+record_of seen a b c n budget how so t result silent rest ends idle = record {
   texts = so.texts;
   calls = so.calls;
   printed = so.printed;
@@ -107,10 +107,10 @@ record_of seen a b c n budget last so t result silent rest ends idle = record {
 }
 
 -- not a fault of the output
-rest_of : (last : Turn) (rest out : List ℕ) (result : Status) → (last ≡ turn.WriteFault → ⊥) → (last ≡ turn.WriteFault) ⊎ (rest ≡ out) →
+rest_of : (how : Turn) (rest out : List ℕ) (result : Status) → (how ≡ turn.WriteFault → ⊥) → (how ≡ turn.WriteFault) ⊎ (rest ≡ out) →
     (rest ≡ out) ⊎ (result ≡ status.WriteFault)
-rest_of last rest out result ne (inl e) = absurd (ne e)
-rest_of last rest out result ne (inr e) = inl e
+rest_of how rest out result ne (inl e) = absurd (ne e)
+rest_of how rest out result ne (inr e) = inl e
 
 idle_of : {D : Type 0} (seen : D → Seen) (w w' : WorldValue D) → w' ≡ w → Plays seen w [] w'
 idle_of {D} seen w w' same = subst (λ (v : WorldValue D). Plays seen w [] v) (sym same) (plays_none seen w)
@@ -122,8 +122,8 @@ taken_of before taken text (inr e) = inr (ap (λ (l : List ℕ). before ++ l) e 
 bare : {D : Type 0} (seen : D → Seen) (w w' : WorldValue D) (calls : List Call) → calls ≡ [] → Plays seen w calls w' → Plays seen w [] w'
 bare seen w w' calls empty plays = subst (λ (cs : List Call). Plays seen w cs w') empty plays
 
-pub closes : {D : Type 0} (seen : D → Seen) (a b c : Scene D) (n budget : ℕ) (last : Turn) → SoFar seen a n b → Turns seen b last c →
-    (last ≡ turn.Goes → ⊥) → Closes seen a budget (status_of last (n + 1)) c
+pub closes : {D : Type 0} (seen : D → Seen) (a b c : Scene D) (n budget : ℕ) (how : Turn) → SoFar seen a n b → Turns seen b how c →
+    (how ≡ turn.Goes → ⊥) → Closes seen a budget (status_of how (n + 1)) c
 closes seen a b c n budget turn.Goes so t ne = absurd (ne refl)
 closes seen a b c n budget turn.Last so t ne = record {
   texts = so.texts ++ t.text ∷ [];
@@ -252,7 +252,7 @@ plays_text_of seen old text l (Err stop.Memory) new reads s =
     (record { calls = s.0; plays = s.1.1; why = inr (l, (reads, s.1.0)) }, s.1.2)
 
 -- a fault of the input or the output is the last line's
-pub read_turn : (last : Turn) (n : ℕ) → status_of last n ≡ status.ReadFault → last ≡ turn.ReadFault
+pub read_turn : (how : Turn) (n : ℕ) → status_of how n ≡ status.ReadFault → how ≡ turn.ReadFault
 read_turn turn.ReadFault n e = refl
 read_turn turn.Goes n e = absurd (cc)
 read_turn turn.Last n e = absurd (cc)
@@ -262,7 +262,7 @@ read_turn (turn.Stops stop.NotNext) n e = absurd (cc)
 read_turn (turn.Stops stop.Memory) n e = absurd (cc)
 read_turn turn.WriteFault n e = absurd (cc)
 
-pub write_turn : (last : Turn) (n : ℕ) → status_of last n ≡ status.WriteFault → last ≡ turn.WriteFault
+pub write_turn : (how : Turn) (n : ℕ) → status_of how n ≡ status.WriteFault → how ≡ turn.WriteFault
 write_turn turn.WriteFault n e = refl
 write_turn turn.Goes n e = absurd (cc)
 write_turn turn.Last n e = absurd (cc)
@@ -275,12 +275,12 @@ write_turn turn.ReadFault n e = absurd (cc)
 pub rose_wide : (a b c d : ℕ) → a ≤ b → Rose b c → c ≤ d → Rose a d
 rose_wide a b c d low rose high = omega arith
 
-pub read_rose : (last : Turn) (n : ℕ) (result : Status) (a b c : ℕ) → (result ≡ status_of last n) ⊎ ((result ≡ status.WriteFault) × (status_of last n ≡ status.Memory → ⊥)) →
-    a ≤ b → (last ≡ turn.ReadFault → Rose b c) → result ≡ status.ReadFault → Rose a c
-read_rose last n result a b c (inl e) low rose is = rose_wide a b c c low (rose (read_turn last n (sym e ∙ is))) (omega arith)
-read_rose last n result a b c (inr e) low rose is = let no = sym e.0 ∙ is in absurd (cc)
+pub read_rose : (how : Turn) (n : ℕ) (result : Status) (a b c : ℕ) → (result ≡ status_of how n) ⊎ ((result ≡ status.WriteFault) × (status_of how n ≡ status.Memory → ⊥)) →
+    a ≤ b → (how ≡ turn.ReadFault → Rose b c) → result ≡ status.ReadFault → Rose a c
+read_rose how n result a b c (inl e) low rose is = rose_wide a b c c low (rose (read_turn how n (sym e ∙ is))) (omega arith)
+read_rose how n result a b c (inr e) low rose is = let no = sym e.0 ∙ is in absurd (cc)
 
-pub write_rose : (last : Turn) (n : ℕ) (a b c d : ℕ) → a ≤ b → b ≤ c → c ≤ d → (last ≡ turn.WriteFault → Rose b c) →
-    (status_of last n ≡ status.WriteFault) ⊎ Rose c d → Rose a d
-write_rose last n a b c d low mid high rose (inl e) = rose_wide a b c d low (rose (write_turn last n e)) high
-write_rose last n a b c d low mid high rose (inr r) = rose_wide a c d d (omega arith) r (omega arith)
+pub write_rose : (how : Turn) (n : ℕ) (a b c d : ℕ) → a ≤ b → b ≤ c → c ≤ d → (how ≡ turn.WriteFault → Rose b c) →
+    (status_of how n ≡ status.WriteFault) ⊎ Rose c d → Rose a d
+write_rose how n a b c d low mid high rose (inl e) = rose_wide a b c d low (rose (write_turn how n e)) high
+write_rose how n a b c d low mid high rose (inr r) = rose_wide a c d d (omega arith) r (omega arith)

@@ -89,7 +89,7 @@ step_text actor other = []
 -- a run prints the answer's line, or the last step's
 abbrev pub run_text : ScriptActor → Outcome → List ℕ
 run_text actor (outcome.Moved note) = step_line actor note
-run_text actor (outcome.Answered verdict note) = answer_text actor verdict
+run_text actor (outcome.Answered verdict _) = answer_text actor verdict
 run_text actor other = []
 
 -- what a line prints, by the outcome of its last event
