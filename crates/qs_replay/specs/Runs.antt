@@ -1,6 +1,7 @@
 -- What `run_replay` does, from its words to its status.
-use Rattle.std.specs.Prelude.{◌≡◌, ◌^◌, ℕ, ◌⊎◌, Bool, true, false, List, [], ◌∷◌, map, codes, Option, Some, String}
+use Rattle.std.specs.Prelude.{◌≡◌, ◌^◌, ℕ, ◌⊎◌, Bool, true, false, List, [], ◌∷◌, map, codes, Option, Some, None, String}
 use Rattle.std.specs.Global.{Global}
+use Rattle.qs_bytes.specs.declared.status.OpenBad.{OpenBad}
 use Rattle.qs_bytes.specs.declared.status.Status.{Status}
 use Rattle.qs_bytes.specs.declared.status.Status.TheVariants as status
 use Rattle.qs_outside.specs.Blocks.{Seen}
@@ -43,6 +44,17 @@ pub record Begins {D : Type 0} (seen : D → Seen) (disks : List D) (w : WorldVa
   pub fresh : WorldValue D
   pub opened : IsOpened seen disks (codes "file0") false fresh
   pub exports : Exports seen fresh (codes "disk") true w
+
+-- the status where no core could be made
+abbrev pub fault_of : Option OpenBad → Status
+fault_of (Some bad) = status.OpenBad bad
+fault_of None = status.Memory
+
+-- The disks come back: they break this rule first, or memory was refused.
+abbrev pub ComesBack : {D : Type 0} → (D → Seen) → List D → List D → Status → Type 0
+ComesBack seen disks back (status.OpenBad bad) = (back ≡ disks) × Opens (map seen disks) (Some bad)
+ComesBack seen disks back status.Memory = back ≡ disks
+ComesBack seen disks back other = ⊥
 
 -- The script was replayed over the disks. Where these are settled, the calls of its whole lines are a run
 -- from the opening, with all laws.

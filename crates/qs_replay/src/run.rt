@@ -1,21 +1,54 @@
-ghost use Rattle.std.specs.Prelude.{◌≡◌, map};
+ghost use Rattle.std.specs.Prelude.{◌≡◌, MatchResult};
 ghost use Rattle.qs_bytes.specs.declared.status.Status.TheVariants as S;
 ghost use Rattle.qs_outside.specs.Faults.{Rose};
-ghost use Rattle.qs_replay.specs.Runs.{Opening, Ran};
+ghost use Rattle.qs_replay.specs.Runs.{Begins, ComesBack, Opening, Ran, fault_of};
 
 use crate::desk::Desk;
 use crate::inbox::Inbox;
 use crate::replay::replay;
 use crate::table::Table;
 use crate::words::replay_words;
-use qs_bytes::{Bytes, Name, Status};
-use qs_outside::{RiggedDisk, Sink, Source};
+use qs_bytes::{Bytes, Name, OpenBad, Status};
+use qs_outside::{Disk, RiggedDisk, Sink, Source};
 use qs_world::world::World;
 use std::alloc::Global;
 use std::mem;
 
 /// How many lines one call reads at most.
 const MOST_LINES: u64 = 1 << 32;
+
+/// The status where no core could be made: the rule that the disks break, or refused memory.
+fn fault(bad: Option<OpenBad>) -> Status
+    ensures { result ≡ fault_of bad }
+{
+    match bad {
+        Some(bad) => Status::OpenBad(bad),
+        None => Status::Memory,
+    }
+}
+
+/// The core over the image that the disks hold, with its export. Else the disks come back, with the
+/// status: the rule that they break, or refused memory.
+fn open_core<D: Disk + Drop>(alloc: Global, disks: Vec<D>) -> Result<World<D>, (Vec<D>, Status)>
+    ensures { MatchResult result
+        (Begins D.seen disks.items)
+        (λ back. ComesBack D.seen disks.items back.0.items back.1) }
+{
+    let Some(file) = Name::of(b"file0") else {
+        return Err((disks, Status::Memory));
+    };
+    let Some(export) = Name::of(b"disk") else {
+        return Err((disks, Status::Memory));
+    };
+    let mut world = match World::new(alloc, disks, file, false) {
+        Ok(world) => world,
+        Err((back, bad)) => return Err((back, fault(bad))),
+    };
+    match world.export_disk(export, true) {
+        Ok(()) => Ok(world),
+        Err(_) => Err((world.into_disks(), Status::Memory)),
+    }
+}
 
 /// Replays the script over the image that the disks hold, if they hold one.
 fn replay_disks<I: Source, O: Sink, D: RiggedDisk + Drop>(
@@ -28,36 +61,17 @@ fn replay_disks<I: Source, O: Sink, D: RiggedDisk + Drop>(
     ensures read { result ≡ S.ReadFault → Rose (I.read_faults input.old) (I.read_faults input.new) }
     ensures write { result ≡ S.WriteFault → Rose (O.write_faults output.old) (O.write_faults output.new) }
 {
-    let mut inbox = match Inbox::new(alloc) {
-        Ok(inbox) => inbox,
-        Err(_) => return Status::Memory,
-    };
-    let file = match Name::of(b"file0") {
-        Some(file) => file,
-        None => return Status::Memory,
-    };
-    let export = match Name::of(b"disk") {
-        Some(export) => export,
-        None => return Status::Memory,
+    let Ok(mut inbox) = Inbox::new(alloc) else {
+        return Status::Memory;
     };
     let taken = mem::replace(disks, Vec::new(alloc));
-    let mut world = match World::new(alloc, taken, file, false) {
+    let world = match open_core(alloc, taken) {
         Ok(world) => world,
-        Err((back, bad)) => {
+        Err((back, status)) => {
             *disks = back;
-            return match bad {
-                Some(bad) => Status::OpenBad(bad),
-                None => Status::Memory,
-            };
+            return status;
         }
     };
-    match world.export_disk(export, true) {
-        Ok(()) => {}
-        Err(_) => {
-            *disks = world.into_disks();
-            return Status::Memory;
-        }
-    }
     let mut desk = Desk {
         world,
         table: Table::new(alloc),
@@ -65,12 +79,7 @@ fn replay_disks<I: Source, O: Sink, D: RiggedDisk + Drop>(
         alloc,
     };
     let status = replay(&mut desk, &mut inbox, input, output, MOST_LINES);
-    let Desk {
-        world,
-        table: _,
-        out: _,
-        alloc: _,
-    } = desk;
+    let Desk { world, .. } = desk;
     *disks = world.into_disks();
     status
 }
