@@ -1,6 +1,6 @@
 -- Names of exports, nodes and groups.
 use Rattle.std.specs.Prelude.{◌≡◌, ℕ, ◌<◌, ◌≤◌, ◌⊎◌, List, [], ◌∷◌, length, All}
-use Rattle.std.specs.Char.{IsAsciiDigit, IsAsciiAlphabetic, IsAsciiAlphanumeric}
+use Rattle.std.specs.Char.{IsAsciiAlphabetic, IsAsciiAlphanumeric}
 use Rattle.std.specs.Str.{IsUtf8}
 
 -- what a name may be: at most 63 bytes of UTF-8

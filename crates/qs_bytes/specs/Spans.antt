@@ -1,5 +1,5 @@
 -- Spans of places, as requests and the blocks that they reach have them.
-use Rattle.std.specs.Prelude.{◌≡◌, ℕ, ◌*◌, ◌/◌, ◌<◌, ◌≤◌}
+use Rattle.std.specs.Prelude.{ℕ, ◌*◌, ◌/◌, ◌<◌, ◌≤◌}
 use Rattle.std.specs.Int.{div_ceil}
 
 -- the places from lo up to and without hi

@@ -4,7 +4,7 @@ use Rattle.qs_part.specs.declared.stripe.Side.{Side}
 use Rattle.qs_part.specs.declared.stripe.Side.TheVariants.{Head, Tail}
 use Rattle.qs_model.specs.Requests.{Client, Pads, Req, Stage, ToRoute, ToList, ToStart, ToLoad, ToHold, ToStore, ToFree, ToEnd, Ready, Entering, In, edge, has, held, loaded, stored, hold_failed, store_failed, abandon, abandoned}
 use Rattle.qs_model.specs.Worlds.{World}
-use Rattle.qs_model.specs.Acts.{Act, Answers, Waits, Enters, Routes, Shuts, Lists, Starts, Loads, LoadFails, Holds, HoldFails, Stores, StoreFails, Frees, Ends, Element, Attached, NoExport, Crowded, Left, Detached, NotAttached, Asked, Did, Exported, Crashed, block_of}
+use Rattle.qs_model.specs.Acts.{Act, Answers, Waits, Enters, Routes, Shuts, Lists, Starts, Loads, LoadFails, Holds, HoldFails, Stores, StoreFails, Frees, Ends, Element, Attached, NoExport, Crowded, Left, Detached, NotAttached, Asked, Did, Exported, Planned, Crashed, block_of}
 use Rattle.qs_model.specs.Guards.{May}
 use Rattle.qs_model.specs.Steps.{moved, leaves, happens, after, Runs}
 use Rattle.qs_model.proofs.Basics.{choose, put_cases}
@@ -26,6 +26,7 @@ next_step A w (NotAttached s e) r h = h
 next_step A w (Asked s c) r h = omega arith
 next_step A w (Did s q act) r h = h
 next_step A w (Exported e x) r h = h
+next_step A w (Planned j fail) r h = h
 next_step A w (Crashed left) r h = h
 
 pub lasts_step : (A : ℕ) (P : Option Req → Type 0) → Lasts A P → (w : World) (e : Element) (r : ℕ) → May A w e → r < w.next → P (w.req r) → P ((happens A w e).req r)
@@ -39,6 +40,7 @@ lasts_step A P lasts w (Asked s c) r may made h = put_cases P w.req s _ r (λ e.
 lasts_step A P lasts w (Did s q act) r may made h =
     put_cases P w.req s _ r (λ e. lasts.own q.client q.dropped q.pads act (subst P (ap w.req e ∙ may.0) h)) (λ n. h)
 lasts_step A P lasts w (Exported e x) r may made h = h
+lasts_step A P lasts w (Planned j fail) r may made h = h
 lasts_step A P lasts w (Crashed left) r may made h = lasts.gone
 
 pub next_run : (A : ℕ) (w : World) (es : List Element) (r : ℕ) → r < w.next → r < (after A w es).next

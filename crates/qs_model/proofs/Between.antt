@@ -4,7 +4,7 @@ use Rattle.qs_bytes.specs.declared.ask.Verdict.{Verdict}
 use Rattle.qs_part.specs.declared.graph.Route.{Route}
 use Rattle.qs_model.specs.Requests.{Step, Client, Pads, Req, Stage, ToRoute, ToList, ToStart, ToLoad, ToHold, ToStore, ToFree, ToEnd, Ready, Entering, In, asked, form_error, abandoned}
 use Rattle.qs_model.specs.Worlds.{Tracker, World, Seat, Vacant, Present, Has}
-use Rattle.qs_model.specs.Acts.{Act, Answers, Waits, Enters, Routes, Shuts, Lists, Starts, Loads, LoadFails, Holds, HoldFails, Stores, StoreFails, Frees, Ends, Element, Attached, NoExport, Crowded, Left, Detached, NotAttached, Asked, Did, Exported, Crashed}
+use Rattle.qs_model.specs.Acts.{Act, Answers, Waits, Enters, Routes, Shuts, Lists, Starts, Loads, LoadFails, Holds, HoldFails, Stores, StoreFails, Frees, Ends, Element, Attached, NoExport, Crowded, Left, Detached, NotAttached, Asked, Did, Exported, Planned, Crashed}
 use Rattle.qs_model.specs.Guards.{May}
 use Rattle.qs_model.specs.Steps.{moved, leaves, happens, after, Runs}
 use Rattle.qs_model.specs.Histories.{answer_of, Acts, IsAnswer, IsAsk, IsStore, IsStoreRow, IsRouted, IsRouteRow}
@@ -29,6 +29,7 @@ appears A w (Asked s c) r q may none is = elim (put_tells w.req s _ r (Some q) i
 appears A w (Did s p act) r q may none is =
     elim (put_tells w.req s _ r (Some q) is) [ inl e ↦ absurd (some_none (sym (ap w.req e.0 ∙ may.0) ∙ none)) | inr e ↦ absurd (some_none (sym e.1 ∙ none)) ]
 appears A w (Exported e x) r q may none is = absurd (some_none (sym is ∙ none))
+appears A w (Planned j fail) r q may none is = absurd (some_none (sym is ∙ none))
 appears A w (Crashed left) r q may none is = absurd (some_none (sym is))
 
 pub was_asked : (A : ℕ) (w : World) (es : List Element) (r : ℕ) (q : Req) → Runs A w es → w.req r ≡ None → (after A w es).req r ≡ Some q → WasAsked r es
@@ -172,6 +173,7 @@ goer_before A w (Did s q act) r route may g = elim (put_tells w.req s _ r (Some 
   | inr e ↦ inl (record { request = g.request; is = e.1; going = g.going; way = g.way })
 ]
 goer_before A w (Exported e x) r route may g = inl (record { request = g.request; is = g.is; going = g.going; way = g.way })
+goer_before A w (Planned j fail) r route may g = inl (record { request = g.request; is = g.is; going = g.going; way = g.way })
 goer_before A w (Crashed left) r route may g = absurd (some_none (sym g.is))
 
 pub was_routed : (A : ℕ) (w : World) (es : List Element) (r : ℕ) (route : Route) → Runs A w es → Goer (after A w es) r route → Goer w r route ⊎ WasRouted r route es

@@ -8,7 +8,7 @@ use Rattle.qs_part.specs.declared.stripe.Side.TheVariants.{Head, Tail}
 use Rattle.qs_model.specs.Puts.{put}
 use Rattle.qs_model.specs.Requests.{Client, Pads, Stage, ToStore, In, edge, pad, covers, writes, reads, body_at}
 use Rattle.qs_model.specs.Worlds.{Image, World, byte_at}
-use Rattle.qs_model.specs.Acts.{Act, Loads, Stores, StoreFails, Element, Attached, NoExport, Crowded, Left, Detached, NotAttached, Asked, Did, Exported, Crashed}
+use Rattle.qs_model.specs.Acts.{Act, Loads, Stores, StoreFails, Element, Attached, NoExport, Crowded, Left, Detached, NotAttached, Asked, Did, Exported, Planned, Crashed}
 use Rattle.qs_model.specs.Guards.{MayDo, May, CanStore}
 use Rattle.qs_model.specs.Steps.{imaged, happens, after, Runs}
 use Rattle.qs_model.specs.Histories.{cell_of, cell_at, cell, reads_in, writes_in, IsStoreOf}
@@ -150,6 +150,7 @@ still_tells A w (NotAttached s e) = refl
 still_tells A w (Asked r c) = refl
 still_tells A w (Did r q act) = refl
 still_tells A w (Exported e x) = refl
+still_tells A w (Planned j fail) = refl
 still_tells A w (Crashed left) = refl
 
 pub told_still : (A : ℕ) (w : World) (e : Element) → IsTrue w.tells → IsTrue (happens A w e).tells

@@ -1,16 +1,19 @@
--- Every step but the making of an export and a crash is an event's, with its outcome.
-use Rattle.std.proofs.Common.{◌≡◌, ℕ, ◌⊎◌, inl, inr, Bool, List, Some, refl}
+-- Every step but the making of an export, a planned failure and a crash is an event's, with its outcome.
+use Rattle.std.proofs.Common.{◌≡◌, ℕ, ◌⊎◌, inl, inr, Bool, List, length, Option, Some, None, refl, sym, ◌∙◌, true≢false}
+use Rattle.std.specs.Prelude.{replicate}
+use Rattle.std.proofs.lemmas.List.{length-replicate}
 use Rattle.qs_part.specs.declared.event.Actor.TheVariants.{Session as ASession, Request as ARequest}
 use Rattle.qs_part.specs.declared.event.Event.{Event}
 use Rattle.qs_part.specs.declared.event.Event.TheVariants.{Attach, Leave, Ask as AskEvent, Step as StepEvent}
 use Rattle.qs_part.specs.declared.event.Outcome.{Outcome}
-use Rattle.qs_model.specs.Requests.{Client, Pads, Stage, ToList, ToStart, ToHold, ToStore, ToFree, ToEnd, Entering, In}
+use Rattle.qs_model.specs.Requests.{writes, Client, Pads, Stage, ToList, ToStart, ToHold, ToStore, ToFree, ToEnd, Entering, In}
 use Rattle.qs_model.specs.Worlds.{World}
-use Rattle.qs_model.specs.Acts.{Act, Answers, Waits, Enters, Routes, Shuts, Lists, Starts, Loads, LoadFails, Holds, HoldFails, Stores, StoreFails, Frees, Ends, Wait, Quiesced, Full, NotYet, HeldBy, Taken, Strange, NotHeld, Element, Attached, NoExport, Crowded, Left, Detached, NotAttached, Asked, Did, Exported, Crashed}
-use Rattle.qs_model.specs.Guards.{MayWait, MayDo, May}
+use Rattle.qs_model.specs.Acts.{Act, Answers, Waits, Enters, Routes, Shuts, Lists, Starts, Loads, LoadFails, Holds, HoldFails, Stores, StoreFails, Frees, Ends, Wait, Quiesced, Full, NotYet, HeldBy, Taken, Strange, NotHeld, Element, Attached, NoExport, Crowded, Left, Detached, NotAttached, Asked, Did, Exported, Planned, Crashed}
+use Rattle.qs_model.specs.Guards.{CanAsk, MayWait, MayDo, May}
 use Rattle.qs_model.specs.Steps.{after, Runs}
-use Rattle.qs_model.specs.Events.{row_outcome, moved_out, wait_note, outcome_of, IsEvent}
+use Rattle.qs_model.specs.Events.{Brings, row_outcome, moved_out, wait_note, outcome_of, IsEvent}
 use Rattle.qs_model.specs.Laws.{Evented, IsOutside}
+use Rattle.qs_model.proofs.Basics.{either}
 use Rattle.qs_model.proofs.Kept.{split_run}
 
 -- an answer that leaves a request where it is has its note
@@ -44,6 +47,25 @@ act_outcome A w c d p (StoreFails bytes took past) may = (_, refl)
 act_outcome A w c d p Frees may = (_, refl)
 act_outcome A w c d p Ends may = (_, refl)
 
+-- the body that came with a request
+asked_brings : (w : World) (r : ℕ) (c : Client) → CanAsk w r c → (body : Option (List ℕ)) × Brings body c
+asked_brings w r c can = elim (either (writes c)) [
+  | inl writing ↦ elim (either c.buffered) [
+    | inl given ↦ whole (can.body writing given)
+    | inr refused ↦ elim (can.refused writing refused) [
+      | inl empty ↦ (None, record { wanted = inr refused; empty = empty })
+      | inr length_is ↦ whole length_is
+    ]
+  ]
+  | inr bare ↦ elim (either c.buffered) [
+    | inl given ↦ (Some (replicate c.ask.length 0), inl (length-replicate c.ask.length 0, λ writing. absurd (true≢false (sym writing ∙ bare))))
+    | inr refused ↦ (None, record { wanted = inr refused; empty = can.other bare })
+  ]
+]
+  where
+    whole : length c.body ≡ c.ask.length → (body : Option (List ℕ)) × Brings body c
+    whole is = (Some c.body, inl (is, λ writing. refl))
+
 -- a step of an event, with its outcome
 abbrev pub Told : ℕ → Element → Type 0
 Told A e = (event : Event) × (outcome : Outcome) × (IsEvent event e × (outcome_of A e ≡ Some outcome))
@@ -55,11 +77,12 @@ step_evented A w (Crowded s name) may = inr (Attach s name, _, ((refl, refl), re
 step_evented A w (Left s e) may = inr (Leave s, _, (refl, refl))
 step_evented A w (Detached s e) may = inr (StepEvent (ASession s) 0, _, (refl, refl))
 step_evented A w (NotAttached s e) may = inr (StepEvent (ASession s) 0, _, (refl, refl))
-step_evented A w (Asked r c) may = inr (AskEvent c.session c.ask (Some c.body), _, ((refl, refl, inl (λ writing. refl)), refl))
+step_evented A w (Asked r c) may = let (body, brings) = asked_brings w r c may in inr (AskEvent c.session c.ask body, _, ((refl, refl, brings), refl))
 step_evented A w (Did r q act) may =
     let (out, is) = act_outcome A w q.client q.dropped q.pads act may.1 in
     inr (StepEvent (ARequest r) 0, out, (refl, is))
 step_evented A w (Exported e x) may = inl tt
+step_evented A w (Planned j fail) may = inl tt
 step_evented A w (Crashed left) may = inl tt
 
 -- the law

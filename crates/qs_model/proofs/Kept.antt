@@ -1,11 +1,13 @@
 -- Every step of a run keeps the facts.
 use Rattle.std.proofs.Common.{◌≡◌, ◌≢◌, ℕ, ◌<◌, ◌⊎◌, inl, inr, Bool, true, false, not, ◌&&◌, ◌||◌, ◌==◌, cond, nat_lt, List, [], ◌∷◌, ◌++◌, Option, Some, None, refl, sym, ap, ◌∙◌, subst, arith, true≢false}
 use Rattle.qs_bytes.specs.declared.ask.Ask.{Ask}
+use Rattle.qs_outside.specs.declared.rigged_disk.Plans.{Plans}
+use Rattle.qs_outside.specs.Rigged.{no_plans, planned_too}
 use Rattle.qs_part.specs.declared.graph.ExportInfo.{ExportInfo}
 use Rattle.qs_model.specs.Puts.{put, without}
 use Rattle.qs_model.specs.Requests.{Client, Pads, Req, Step, Stage, ToRoute, ToList, ToStart, ToLoad, ToHold, ToStore, ToFree, ToEnd, Ready, Entering, In, edge, is_read, is_write, form_error, asked, abandoned, abandon}
-use Rattle.qs_model.specs.Worlds.{Tracker, Vacant, Has, Listing, Hold, Image, Session, Away, Live, Leaving, World, new_world}
-use Rattle.qs_model.specs.Acts.{Act, Answers, Waits, Enters, Routes, Shuts, Lists, Starts, Loads, LoadFails, Holds, HoldFails, Stores, StoreFails, Frees, Ends, Element, Attached, NoExport, Crowded, Left, Detached, NotAttached, Asked, Did, Exported, Crashed}
+use Rattle.qs_model.specs.Worlds.{Tracker, Vacant, Has, Listing, Hold, Image, Export, Session, Away, Live, Leaving, World, new_world}
+use Rattle.qs_model.specs.Acts.{Act, Answers, Waits, Enters, Routes, Shuts, Lists, Starts, Loads, LoadFails, Holds, HoldFails, Stores, StoreFails, Frees, Ends, Element, Attached, NoExport, Crowded, Left, Detached, NotAttached, Asked, Did, Exported, Planned, Crashed}
 use Rattle.qs_model.specs.Guards.{MayDo, May, CanAsk}
 use Rattle.qs_model.specs.Steps.{moved, tracked, imaged, leaves, happens, after, Runs}
 use Rattle.qs_model.specs.Laws.{Follows, Begins}
@@ -414,8 +416,8 @@ detached_ok A w s e ok = record {
       (λ f. among_without s t (w.graph.clients e) other (ok.sessions t e (subst (λ (n : ℕ). IsClient (w.session t) n) f is))) (λ f. ok.sessions t d is));
 }
 
-pub new_ok : (A : ℕ) (tells : Bool) (n : ℕ) (now : ℕ → List ℕ) → Ok A (new_world tells n now)
-new_ok A tells n now = record {
+pub new_ok : (A : ℕ) (tells : Bool) (n : ℕ) (plans : ℕ → Plans) (now : ℕ → List ℕ) → Ok A (new_world tells n plans now)
+new_ok A tells n plans now = record {
   below = λ r q is. absurd (some_none (sym is));
   well = λ r q is. absurd (some_none (sym is));
   one = λ r s q p k a b at bt. absurd (some_none (sym a));
@@ -432,6 +434,19 @@ new_ok A tells n now = record {
     vacant : (l : Listing) → Vacant ≡ Has l → ⊥
     vacant l e = cc
 
+-- the facts say nothing of exports and plans
+pub aside_ok : (A : ℕ) (w : World) (export : ℕ → Option Export) (plans : ℕ → Plans) → Ok A w →
+    Ok A (record w { graph = record w.graph { export = export }; plans = plans })
+aside_ok A w export plans ok = record {
+  below = ok.below;
+  well = ok.well;
+  one = ok.one;
+  owned = ok.owned;
+  manned = ok.manned;
+  tracker = ok.tracker;
+  sessions = ok.sessions;
+}
+
 -- every step keeps the facts
 pub step_ok : (A : ℕ) (w : World) (e : Element) → 0 < A → Ok A w → May A w e → Ok A (happens A w e)
 step_ok A w (Attached s name e) pos ok may = attached_ok A w s name e ok
@@ -442,16 +457,9 @@ step_ok A w (Detached s e) pos ok may = detached_ok A w s e ok
 step_ok A w (NotAttached s e) pos ok may = ok
 step_ok A w (Asked r c) pos ok may = asked_ok A w r c ok may
 step_ok A w (Did r q act) pos ok may = did_ok A w r q act pos ok may
-step_ok A w (Exported e x) pos ok may = record {
-  below = ok.below;
-  well = ok.well;
-  one = ok.one;
-  owned = ok.owned;
-  manned = ok.manned;
-  tracker = ok.tracker;
-  sessions = ok.sessions;
-}
-step_ok A w (Crashed left) pos ok may = new_ok A w.tells w.next left
+step_ok A w (Exported e x) pos ok may = aside_ok A w (put w.graph.export e (Some x)) w.plans ok
+step_ok A w (Planned j fail) pos ok may = aside_ok A w w.graph.export (put w.plans j (planned_too fail (w.plans j))) ok
+step_ok A w (Crashed left) pos ok may = new_ok A w.tells w.next (λ j. no_plans) left
 
 -- and so does every run
 pub run_ok : (A : ℕ) (w : World) (es : List Element) → 0 < A → Ok A w → Runs A w es → Ok A (after A w es)

@@ -20,3 +20,8 @@ pub mod ReadsOnce
 pub mod WritesOnce
 pub mod Evented
 pub mod Padded
+pub mod DeterminedStates
+pub mod DeterminedNumbers
+pub mod DeterminedRows
+pub mod DeterminedEvents
+pub mod DeterminedSteps

@@ -1,6 +1,7 @@
 -- The padded write of the example is a run.
-use Rattle.std.proofs.Common.{◌≡◌, ◌≢◌, ℕ, zero, suc, ◌<◌, inl, inr, true, [], ◌∷◌, Option, Some, None, refl, sym, ap, arith, lit<, get_or}
+use Rattle.std.proofs.Common.{◌≡◌, ◌≢◌, ℕ, zero, suc, ◌<◌, inl, inr, true, [], ◌∷◌, Option, Some, None, refl, sym, ap, arith, true≢false, lit<, get_or}
 use Rattle.std.specs.List.{filter_map}
+use Rattle.qs_outside.specs.Rigged.{no_plans}
 use Rattle.qs_part.specs.declared.stripe.Side.{Side}
 use Rattle.qs_part.specs.declared.stripe.Side.TheVariants.{Head, Tail}
 use Rattle.qs_model.specs.Puts.{put}
@@ -52,14 +53,14 @@ other_side c is = elim (put_tells {X = Option Hold} (λ b. None) 0 (Some (record
 pub place_of : (a h : Hold) → Some a ≡ Some h → h.place ≡ a.place
 place_of a h e = let f : h ≡ a = cc in ap (λ (x : Hold). x.place) f
 
-pub padded_runs : Runs 4 (opening true (λ b. zeros)) padded
+pub padded_runs : Runs 4 (opening true (λ j. no_plans) (λ b. zeros)) padded
 unfolding put edge has serial routed held started stored
 padded_runs = (
   record { room = lit< tt; free = refl; unused = refl; lowest = λ d h. absurd (omega arith); other = λ d y is. absurd (some_none (sym is)) },
   (
     (refl, record { finds = record { export = record { name = 100 ∷ []; route = whole }; stands = refl; named = inl refl }; size = refl; writable = refl; room = lit< tt }),
     (
-      record { next = refl; room = lit< tt; live = refl; unrouted = refl; buffered = λ e. refl; body = λ a b. refl },
+      record { next = refl; room = lit< tt; live = refl; unrouted = refl; buffered = λ e. refl; body = λ a b. refl; refused = λ a b. inr refl; other = λ e. absurd (true≢false e) },
       (
         (refl, record { open_ = refl; room = lit< tt; free = refl; lowest = λ j h. absurd (omega arith) }),
         (
@@ -69,13 +70,13 @@ padded_runs = (
             (
               (refl, record { listed = refl; clear = λ j m is less c. omega arith }),
               (
-                (refl, (record { free = refl; one = λ c same is. some_none (sym is) }, record { whole = refl; now = λ t. refl })),
+                (refl, (record { free = refl; one = λ c same is. some_none (sym is) }, record { whole = refl; now = λ t. refl; planned = refl })),
                 (
-                  (refl, (record { free = refl; one = λ c same is. other_side c is }, record { whole = refl; now = λ t. refl })),
+                  (refl, (record { free = refl; one = λ c same is. other_side c is }, record { whole = refl; now = λ t. refl; planned = refl })),
                   (
-                    (refl, (record { free = λ h is. place_of _ h is; whole = refl; merged = merged_first; older = (inr (0, lit< tt, refl), (inl refl, tt)) }, λ told had. (1, lit< tt, refl))),
+                    (refl, (record { free = λ h is. place_of _ h is; whole = refl; merged = merged_first; older = (inr (0, lit< tt, refl), (inl refl, tt)) }, λ told had. (1, lit< tt, refl), refl)),
                     (
-                      (refl, (record { free = λ h is. place_of _ h is; whole = refl; merged = merged_second; older = (inr (0, lit< tt, refl), (inl refl, tt)) }, λ told had. (1, lit< tt, refl))),
+                      (refl, (record { free = λ h is. place_of _ h is; whole = refl; merged = merged_second; older = (inr (0, lit< tt, refl), (inl refl, tt)) }, λ told had. (1, lit< tt, refl), refl)),
                       (
                         (refl, λ e. cc),
                         tt,
@@ -92,6 +93,6 @@ padded_runs = (
   ),
 )
 
-pub padded_blocks : ((after 4 (opening true (λ b. zeros)) padded).image.now 0 ≡ 0 ∷ 0 ∷ 0 ∷ 7 ∷ []) × ((after 4 (opening true (λ b. zeros)) padded).image.now 1 ≡ 8 ∷ 0 ∷ 0 ∷ 0 ∷ [])
+pub padded_blocks : ((after 4 (opening true (λ j. no_plans) (λ b. zeros)) padded).image.now 0 ≡ 0 ∷ 0 ∷ 0 ∷ 7 ∷ []) × ((after 4 (opening true (λ j. no_plans) (λ b. zeros)) padded).image.now 1 ≡ 8 ∷ 0 ∷ 0 ∷ 0 ∷ [])
 unfolding put edge
 padded_blocks = (refl, refl)

@@ -5,7 +5,7 @@ use Rattle.std.proofs.lemmas.List.Elements.{filter-append}
 use Rattle.qs_cells.specs.declared.cell.CellEntry.{CellEntry}
 use Rattle.qs_model.specs.Requests.{Client, Pads, Req, Stage, asked, abandon}
 use Rattle.qs_model.specs.Worlds.{World}
-use Rattle.qs_model.specs.Acts.{Act, Loads, Stores, StoreFails, Element, Attached, NoExport, Crowded, Left, Detached, NotAttached, Asked, Did, Exported, Crashed}
+use Rattle.qs_model.specs.Acts.{Act, Loads, Stores, StoreFails, Element, Attached, NoExport, Crowded, Left, Detached, NotAttached, Asked, Did, Exported, Planned, Crashed}
 use Rattle.qs_model.specs.Guards.{May, MayDo}
 use Rattle.qs_model.specs.Steps.{moved, leaves, happens, after, Runs}
 use Rattle.qs_model.specs.Histories.{cell_of, cell_at, cell, is_of, reads_in, writes_in}
@@ -115,6 +115,7 @@ due_step A x r due all es w (NotAttached s e) plan ok may gone h = h
 due_step A x r due all es w (Asked s c) plan ok may gone h = due_asked A x r s due all es w c plan may ok h
 due_step A x r due all es w (Did s p act) plan ok may gone h = due_did A x r s due all es w p act plan ok may gone h
 due_step A x r due all es w (Exported e y) plan ok may gone h = due_same A x r due all es w (happens A w (Exported e y)) refl refl h
+due_step A x r due all es w (Planned j fail) plan ok may gone h = due_same A x r due all es w (happens A w (Planned j fail)) refl refl h
 due_step A x r due all es w (Crashed left) plan ok may gone h = record {
   there = λ q is. absurd (gone refl (ok.below r q is));
   unmade = λ none old. h.unmade refl old;

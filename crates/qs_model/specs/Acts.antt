@@ -1,6 +1,7 @@
 -- What can happen: one row of the request table at a time, and the events of sessions.
 use Rattle.std.specs.Prelude.{ℕ, Bool, List, Option, Some, None}
 use Rattle.qs_bytes.specs.declared.ask.Verdict.{Verdict}
+use Rattle.qs_outside.specs.declared.rigged_disk.Fail.{Fail}
 use Rattle.qs_part.specs.declared.graph.ExportInfo.{ExportInfo}
 use Rattle.qs_part.specs.declared.graph.Route.{Route}
 use Rattle.qs_part.specs.declared.stripe.Side.{Side}
@@ -38,7 +39,8 @@ pub data Act : Stage → Type 0 where
   Ends : {k : ℕ} {v : Verdict} → Act (In k (ToEnd v))
 
 -- One step of a run. A session attaches to the export at a place, is refused, leaves, is detached;
--- a request is made; a request, as it stands, does one row; an export is made; a crash leaves these blocks.
+-- a request is made; a request, as it stands, does one row; an export is made; a failure is planned for the
+-- disk of a stripe; a crash leaves these blocks.
 pub data Element : Type 0 where
   Attached : (s : ℕ) (name : List ℕ) → ExportInfo → Element
   NoExport : (s : ℕ) (name : List ℕ) → Element
@@ -49,6 +51,7 @@ pub data Element : Type 0 where
   Asked : (r : ℕ) → Client → Element
   Did : (r : ℕ) (q : Req) → Act q.stage → Element
   Exported : (e : ℕ) → Export → Element
+  Planned : (j : ℕ) → Fail → Element
   Crashed : (left : ℕ → List ℕ) → Element
 
 -- the block that a row's operation stands on, for the rows of Load, Hold, Store and Free

@@ -1,5 +1,5 @@
 -- The events of the core, and its outcomes, as a run's steps have them.
-use Rattle.std.specs.Prelude.{◌≡◌, ◌≢◌, ℕ, ◌⊎◌, Bool, true, false, List, length, Option, Some, None}
+use Rattle.std.specs.Prelude.{◌≡◌, ◌≢◌, ℕ, ◌⊎◌, Bool, true, false, List, [], length, Option, Some, None}
 use Rattle.qs_part.specs.declared.event.Actor.TheVariants.{Session as ASession, Request as ARequest}
 use Rattle.qs_part.specs.declared.event.Event.{Event}
 use Rattle.qs_part.specs.declared.event.Event.TheVariants.{Attach, Leave, Ask as AskEvent, Step as StepEvent}
@@ -82,15 +82,17 @@ outcome_of A (Asked r c) = Some (Made r)
 outcome_of A (Did r q act) = row_outcome A q.client q.dropped act
 outcome_of A _ = None
 
--- no buffer is wanted, or it was refused
-abbrev pub HasNone : Client → Type 0
-HasNone c = (c.ask.length ≡ 0) ⊎ (c.buffered ≡ false)
+-- no buffer is wanted, or it was refused; the request has no bytes
+pub record HasNone (c : Client) : Type 0 where
+  pub wanted : (c.ask.length ≡ 0) ⊎ (c.buffered ≡ false)
+  pub empty : c.body ≡ []
 
 -- The body that came with an Ask: none where a buffer was refused or none is wanted, else a WRITE's
 -- bytes. One that isn't of the length that is asked for counts as none.
 abbrev pub Brings : Option (List ℕ) → Client → Type 0
 Brings None c = HasNone c
-Brings (Some body) c = (writes c ≡ true → body ≡ c.body) ⊎ ((length body ≢ c.ask.length) × HasNone c)
+Brings (Some body) c =
+    ((length body ≡ c.ask.length) × (writes c ≡ true → body ≡ c.body)) ⊎ ((length body ≢ c.ask.length) × HasNone c)
 
 -- the event that a step answers; the clock's reading of a Step is free where no group is asked
 abbrev pub IsEvent : Event → Element → Type 0

@@ -5,7 +5,7 @@ use Rattle.qs_part.specs.declared.graph.ExportInfo.{ExportInfo}
 use Rattle.qs_part.specs.declared.stripe.Side.{Side}
 use Rattle.qs_model.specs.Requests.{Client, Pads, Req, Stage, ToList, ToStart, ToHold, ToStore, ToFree, ToEnd, Entering, In, edge, merged_at, no_route, writes}
 use Rattle.qs_model.specs.Worlds.{Tracker, Listing, Seat, Vacant, Present, Has, Conflict, Hold, Image, stripe_of, Graph, Export, Away, Live, Leaving, World}
-use Rattle.qs_model.specs.Acts.{Act, Answers, Waits, Enters, Routes, Shuts, Lists, Starts, Loads, LoadFails, Holds, HoldFails, Stores, StoreFails, Frees, Ends, Wait, Quiesced, Full, NotYet, HeldBy, Taken, Strange, NotHeld, Element, Attached, NoExport, Crowded, Left, Detached, NotAttached, Asked, Did, Exported, Crashed}
+use Rattle.qs_model.specs.Acts.{Act, Answers, Waits, Enters, Routes, Shuts, Lists, Starts, Loads, LoadFails, Holds, HoldFails, Stores, StoreFails, Frees, Ends, Wait, Quiesced, Full, NotYet, HeldBy, Taken, Strange, NotHeld, Element, Attached, NoExport, Crowded, Left, Detached, NotAttached, Asked, Did, Exported, Planned, Crashed}
 
 -- Enter: no quiesce stands, and k is the lowest free place
 pub record CanEnter (t : Tracker) (k : ℕ) : Type 0 where
@@ -64,10 +64,12 @@ pub record MustWait (t : Tracker) (k n : ℕ) : Type 0 where
   pub conflict : Conflict other own
   pub lowest : (j : ℕ) (m : Listing) → t.seat j ≡ Has m → m.number < own.number → Conflict m own → n ≤ m.number
 
--- a block's bytes were read; where the disks tell their content, they are what it holds
+-- A block's bytes were read; where the disks tell their content, they are what it holds. No load was planned
+-- to fail.
 pub record CanRead (A : ℕ) (w : World) (b : ℕ) (bytes : List ℕ) : Type 0 where
   pub whole : length bytes ≡ A
   pub now : IsTrue w.tells → bytes ≡ w.image.now b
+  pub planned : (w.plans (stripe_of b)).load ≡ false
 
 -- Hold: nobody holds the block, and the place holds no other block of the stripe for this end
 pub record CanHold (i : Image) (k b : ℕ) (side : Side) : Type 0 where
@@ -115,7 +117,8 @@ MayDo A w c p (Loads {b = b} bytes) = CanRead A w b bytes
 MayDo A w c p LoadFails = Unit {0}
 MayDo A w c p (Holds {k = k} {side = side} bytes) = CanHold w.image k (edge A c side) side × CanRead A w (edge A c side) bytes
 MayDo A w c p (HoldFails {k = k} {side = side}) = CanHold w.image k (edge A c side) side
-MayDo A w c p (Stores {k = k} {b = b} bytes past) = CanStore A w.image k c p b bytes past × MayKeep w b bytes past
+MayDo A w c p (Stores {k = k} {b = b} bytes past) =
+    CanStore A w.image k c p b bytes past × MayKeep w b bytes past × ((w.plans (stripe_of b)).store ≡ None)
 MayDo A w c p (StoreFails {k = k} {b = b} bytes took past) =
     CanStore A w.image k c p b bytes past × MayKeep w b (if took then bytes else w.image.now b) past
 MayDo A w c p (Frees {k = k} {side = side}) = (h : Hold) × ((w.image.holder (edge A c side) ≡ Some h) × (h.place ≡ k))
@@ -143,7 +146,8 @@ pub record CanExport (g : Graph) (e : ℕ) (x : Export) : Type 0 where
   pub other : (d : ℕ) (y : Export) → g.export d ≡ Some y → y.name ≢ x.name
 
 -- A request is made for a session that is attached. It has no way yet; a READ or WRITE of no length
--- wants no buffer; a WRITE has the bytes that it announced.
+-- wants no buffer; a WRITE has the bytes that it announced, or none where its buffers were refused, and no other
+-- request has any.
 pub record CanAsk (w : World) (r : ℕ) (c : Client) : Type 0 where
   pub next : r ≡ w.next
   pub room : r < 2 ^ 64 - 1
@@ -151,6 +155,8 @@ pub record CanAsk (w : World) (r : ℕ) (c : Client) : Type 0 where
   pub unrouted : c.route ≡ no_route
   pub buffered : c.ask.length ≡ 0 → c.buffered ≡ true
   pub body : writes c ≡ true → c.buffered ≡ true → length c.body ≡ c.ask.length
+  pub refused : writes c ≡ true → c.buffered ≡ false → (c.body ≡ []) ⊎ (length c.body ≡ c.ask.length)
+  pub other : writes c ≡ false → c.body ≡ []
 
 -- a request of this session is still there
 abbrev pub HasRequest : World → ℕ → Type 0
@@ -171,4 +177,5 @@ May A w (NotAttached s e) = CanDetach w s e × (w.graph.clients e ≡ [])
 May A w (Asked r c) = CanAsk w r c
 May A w (Did r q act) = (w.req r ≡ Some q) × MayDo A w q.client q.pads act
 May A w (Exported e x) = CanExport w.graph e x
+May A w (Planned j fail) = j < 8
 May A w (Crashed left) = (b : ℕ) → IsTrue w.tells → Contains (w.image.past b) (left b)

@@ -5,10 +5,11 @@ use Rattle.qs_bytes.specs.Spans.{Covers, aligned_out}
 use Rattle.qs_cells.specs.declared.cell.CellEntry.{CellEntry}
 use Rattle.qs_cells.specs.declared.cell.CellEntry.TheVariants.{Read, Write}
 use Rattle.qs_cells.specs.Cells.{value_after, Legal}
+use Rattle.qs_outside.specs.declared.rigged_disk.Plans.{Plans}
 use Rattle.qs_part.specs.declared.graph.Route.{Route}
 use Rattle.qs_model.specs.Requests.{Client, Req, Step, In, span_of, covers, serial, body_at}
 use Rattle.qs_model.specs.Worlds.{Listing, Vacant, Has, Conflict, Tracker, World, byte_at, new_world}
-use Rattle.qs_model.specs.Acts.{Element, Did, Exported, Crashed}
+use Rattle.qs_model.specs.Acts.{Element, Did, Exported, Planned, Crashed}
 use Rattle.qs_model.specs.Guards.{CanStart}
 use Rattle.qs_model.specs.Steps.{after}
 use Rattle.qs_part.specs.declared.event.Event.{Event}
@@ -16,9 +17,9 @@ use Rattle.qs_part.specs.declared.event.Outcome.{Outcome}
 use Rattle.qs_model.specs.Events.{outcome_of, IsEvent}
 use Rattle.qs_model.specs.Histories.{cell, is_of, Acts, Answered, IsAnswer, IsAsk, IsStore, IsStoreOf, IsRouted, IsOddStep, IsEntry}
 
--- the core over disks with this content, as it was made
-abbrev pub opening : Bool → (ℕ → List ℕ) → World
-opening tells now = new_world tells 0 now
+-- the core over disks with this content and these plans, as it was made
+abbrev pub opening : Bool → (ℕ → Plans) → (ℕ → List ℕ) → World
+opening tells plans now = new_world tells 0 plans now
 
 -- in the list es, e is the step behind `before`
 abbrev pub Follows : List Element → Element → List Element → Type 0
@@ -138,9 +139,10 @@ pub record Placed (w : World) : Type 0 where
 abbrev pub InPlace : ℕ → World → List Element → Type 0
 InPlace A w es = (before : List Element) → Begins before es → Placed (after A w before)
 
--- the making of an export, and a crash
+-- the making of an export, a planned failure, and a crash
 abbrev pub IsOutside : Element → Type 0
 IsOutside (Exported e x) = Unit {0}
+IsOutside (Planned j fail) = Unit {0}
 IsOutside (Crashed left) = Unit {0}
 IsOutside _ = ⊥
 

@@ -3,10 +3,12 @@ use Rattle.std.specs.Prelude.{ℕ, ◌+◌, Bool, true, false, List, [], ◌∷�
 use Rattle.qs_bytes.specs.declared.ask.Verdict.TheVariants.{Refused}
 use Rattle.qs_bytes.specs.declared.ask.Errno.TheVariants.{Io, Shutdown}
 use Rattle.qs_bytes.specs.Spans.{aligned_out}
+use Rattle.qs_outside.specs.declared.rigged_disk.Plans.{Plans}
+use Rattle.qs_outside.specs.Rigged.{no_plans, planned_too}
 use Rattle.qs_model.specs.Puts.{put, without}
 use Rattle.qs_model.specs.Requests.{Client, Pads, Req, Stage, ToRoute, ToStart, ToEnd, In, edge, span_of, serial, keep, asked, routed, started, loaded, held, hold_failed, stored, store_failed, abandon}
 use Rattle.qs_model.specs.Worlds.{Tracker, Listing, Vacant, Present, Has, Image, stripe_of, Away, Live, Leaving, World, new_world}
-use Rattle.qs_model.specs.Acts.{Act, Answers, Waits, Enters, Routes, Shuts, Lists, Starts, Loads, LoadFails, Holds, HoldFails, Stores, StoreFails, Frees, Ends, Element, Attached, NoExport, Crowded, Left, Detached, NotAttached, Asked, Did, Exported, Crashed}
+use Rattle.qs_model.specs.Acts.{Act, Answers, Waits, Enters, Routes, Shuts, Lists, Starts, Loads, LoadFails, Holds, HoldFails, Stores, StoreFails, Frees, Ends, Element, Attached, NoExport, Crowded, Left, Detached, NotAttached, Asked, Did, Exported, Planned, Crashed}
 use Rattle.qs_model.specs.Guards.{May}
 
 abbrev pub request : Client → Bool → Pads → Stage → Option Req
@@ -61,6 +63,23 @@ imaged A i c (StoreFails {b = b} bytes took past) = written i b (if took then by
 imaged A i c (Frees {side = side}) = record i { holder = put i.holder (edge A c side) None }
 imaged A i c _ = i
 
+-- a load of a block spends the plan of its kind, and so does a store
+abbrev pub load_done : (ℕ → Plans) → ℕ → (ℕ → Plans)
+load_done plans b = put plans (stripe_of b) (record (plans (stripe_of b)) { load = false })
+
+abbrev pub store_done : (ℕ → Plans) → ℕ → (ℕ → Plans)
+store_done plans b = put plans (stripe_of b) (record (plans (stripe_of b)) { store = None })
+
+-- the plans after a row of the request table
+abbrev pub spent : ℕ → (ℕ → Plans) → Client → {stage : Stage} → Act stage → (ℕ → Plans)
+spent A plans c (Loads {b = b} bytes) = load_done plans b
+spent A plans c (LoadFails {b = b}) = load_done plans b
+spent A plans c (Holds {side = side} bytes) = load_done plans (edge A c side)
+spent A plans c (HoldFails {side = side}) = load_done plans (edge A c side)
+spent A plans c (Stores {b = b} bytes past) = store_done plans b
+spent A plans c (StoreFails {b = b} bytes took past) = store_done plans b
+spent A plans c _ = plans
+
 -- each request of a session that leaves is abandoned
 abbrev pub leaves : ℕ → Option Req → Option Req
 leaves s None = None
@@ -85,9 +104,11 @@ happens A w (Did r q act) = record w {
   req = put w.req r (moved A q.client q.dropped q.pads act);
   tracker = tracked A w.tracker q.client act;
   image = imaged A w.image q.client act;
+  plans = spent A w.plans q.client act;
 }
 happens A w (Exported e x) = record w { graph = record w.graph { export = put w.graph.export e (Some x) } }
-happens A w (Crashed left) = new_world w.tells w.next left
+happens A w (Planned j fail) = record w { plans = put w.plans j (planned_too fail (w.plans j)) }
+happens A w (Crashed left) = new_world w.tells w.next (λ j. no_plans) left
 
 -- the core after a list of steps
 abbrev pub after : ℕ → World → List Element → World

@@ -1,6 +1,7 @@
--- The state of the core: sessions, requests, graph, tracker and image.
+-- The state of the core: sessions, requests, graph, tracker, image and planned failures.
 use Rattle.std.specs.Prelude.{ℕ, ◌/◌, ◌%◌, ◌⊎◌, Bool, true, false, List, [], ◌∷◌, Option, None, IsTrue, get_or}
 use Rattle.qs_bytes.specs.Spans.{Places, Overlap}
+use Rattle.qs_outside.specs.declared.rigged_disk.Plans.{Plans}
 use Rattle.qs_part.specs.declared.graph.Route.{Route}
 use Rattle.qs_part.specs.declared.stripe.Side.{Side}
 use Rattle.qs_model.specs.Requests.{Req}
@@ -66,7 +67,8 @@ pub data Session : Type 0 where
   Leaving : (e : ℕ) → Session
 
 -- All of the core. `tells` says whether the disks tell their content, `next` is the number of the
--- next request; a request that has ended is None.
+-- next request; a request that has ended is None. `plans` has the failures that are planned for the
+-- disk of each stripe.
 pub record World : Type 0 where
   pub tells : Bool
   pub next : ℕ
@@ -75,6 +77,7 @@ pub record World : Type 0 where
   pub graph : Graph
   pub tracker : Tracker
   pub image : Image
+  pub plans : ℕ → Plans
 
 abbrev pub new_tracker : Tracker
 new_tracker = record { quiesced = false; number = 0; seat = λ k. Vacant }
@@ -86,9 +89,9 @@ new_graph = record { export = λ e. None; clients = λ e. [] }
 abbrev pub settled : (ℕ → List ℕ) → Image
 settled now = record { now = now; past = λ b. now b ∷ []; holder = λ b. None; clean = λ s. true }
 
--- the core over disks with this content, after n requests were made
-abbrev pub new_world : Bool → ℕ → (ℕ → List ℕ) → World
-new_world tells n now = record {
+-- the core over disks with this content and these plans, after n requests were made
+abbrev pub new_world : Bool → ℕ → (ℕ → Plans) → (ℕ → List ℕ) → World
+new_world tells n plans now = record {
   tells = tells;
   next = n;
   req = λ r. None;
@@ -96,4 +99,5 @@ new_world tells n now = record {
   graph = new_graph;
   tracker = new_tracker;
   image = settled now;
+  plans = plans;
 }

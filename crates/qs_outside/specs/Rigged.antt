@@ -1,8 +1,9 @@
 -- Failures that are planned for a disk.
-use Rattle.std.specs.Prelude.{ℕ, Bool, true, false, Option, Some, None, if◌then◌else◌}
+use Rattle.std.specs.Prelude.{◌≡◌, ℕ, Bool, true, false, List, Option, Some, None, IsTrue, if◌then◌else◌}
 use Rattle.qs_outside.specs.declared.rigged_disk.Fail.{Fail}
 use Rattle.qs_outside.specs.declared.rigged_disk.Fail.TheVariants.{Load, StoreOld, StoreNew, Sync}
 use Rattle.qs_outside.specs.declared.rigged_disk.Plans.{Plans}
+use Rattle.qs_outside.specs.Blocks.{Seen, Same, Stored}
 use Rattle.qs_outside.specs.Streams.{next_count}
 
 -- nothing is planned
@@ -20,6 +21,26 @@ planned_too Load plans = record plans { load = true }
 planned_too StoreOld plans = record plans { store = Some false }
 planned_too StoreNew plans = record plans { store = Some true }
 planned_too Sync plans = record plans { sync = true }
+
+-- no load is planned to fail, and no store, and no sync
+abbrev pub MayLoad : Seen → Type 0
+MayLoad disk = (plans_of disk.planned).load ≡ false
+
+abbrev pub MayStore : Seen → Type 0
+MayStore disk = (plans_of disk.planned).store ≡ None
+
+abbrev pub MaySync : Seen → Type 0
+MaySync disk = (plans_of disk.planned).sync ≡ false
+
+-- A store that was planned to fail, on a disk that isn't full, left the old content or wrote all the same, as
+-- its plan says.
+abbrev pub LeftAsPlanned : Bool → ℕ → List ℕ → Seen → Seen → Type 0
+LeftAsPlanned false b bytes old new = Same old.now new.now
+LeftAsPlanned true b bytes old new = Stored b bytes old.now new.now
+
+abbrev pub AsPlanned : ℕ → List ℕ → Seen → Seen → Type 0
+AsPlanned b bytes old new = (writes : Bool) → IsTrue old.tells → old.full ≡ Some false →
+    (plans_of old.planned).store ≡ Some writes → LeftAsPlanned writes b bytes old new
 
 -- a failed call counts
 abbrev pub counted_if : Bool → ℕ → ℕ

@@ -1,5 +1,6 @@
 ghost use Rattle.std.specs.Prelude.{◌≡◌, ℕ, ◌∷◌, [], length, IsTrue, OnOk, OnErr, Contains};
 ghost use Rattle.qs_outside.specs.Faults.{HasCause};
+ghost use Rattle.qs_outside.specs.Rigged.{AsPlanned, MayLoad, MayStore, MaySync};
 ghost use Rattle.qs_outside.specs.Blocks.{Seen, IsBlock, Fixed, Same, Stored, StoredOrNot, MayLeave, load_spent, store_spent, sync_spent};
 
 use crate::stream::Failed;
@@ -23,7 +24,8 @@ pub trait Disk {
     fn length(&self) -> u64
         ensures { result ≡ (seen self.now).size };
 
-    /// Reads block `b`. Either way nothing but the count of faults and the plans changes.
+    /// Reads block `b`. Either way nothing but the count of faults and the plans changes. Where a failure
+    /// is planned it fails.
     fn load(&mut self, b: u64, into: &mut [u8]) -> Result<(), Failed>
         requires block { IsBlock (seen self.old) b }
         requires whole { length into.old ≡ (seen self.old).align }
@@ -31,11 +33,13 @@ pub trait Disk {
         ensures fixed { Fixed (seen self.old) (seen self.new) }
         ensures now { IsTrue (seen self.old).tells → Same (seen self.old).now (seen self.new).now }
         ensures past { IsTrue (seen self.old).tells → Same (seen self.old).past (seen self.new).past }
+        ensures works { OnOk result (MayLoad (seen self.old)) }
         ensures planned { (seen self.new).planned ≡ load_spent (seen self.old).planned }
         ensures full { (seen self.new).full ≡ (seen self.old).full }
         ensures cause { HasCause (seen self.old).faults (seen self.new).faults result };
 
-    /// Writes block `b`. A refused store left the old content or the new; other blocks stay.
+    /// Writes block `b`. A refused store left the old content or the new; other blocks stay. Where a
+    /// failure is planned it fails, and on a disk that isn't full it does what the plan says.
     fn store(&mut self, b: u64, bytes: &[u8]) -> Result<(), Failed>
         requires block { IsBlock (seen self.old) b }
         requires whole { length bytes.now ≡ (seen self.old).align }
@@ -45,16 +49,19 @@ pub trait Disk {
         ensures past_now { IsTrue (seen self.old).tells → Contains ((seen self.old).past b) ((seen self.old).now b) →
             Contains ((seen self.new).past b) ((seen self.new).now b) }
         ensures fixed { Fixed (seen self.old) (seen self.new) }
+        ensures works { OnOk result (MayStore (seen self.old)) }
+        ensures as_planned { AsPlanned b bytes.now (seen self.old) (seen self.new) }
         ensures planned { (seen self.new).planned ≡ store_spent (seen self.old).planned }
         ensures cause { HasCause (seen self.old).faults (seen self.new).faults result };
 
     /// Makes each block's content the one that a crash leaves. A failed sync changes nothing but the
-    /// count of faults and the plans.
+    /// count of faults and the plans. Where a failure is planned it fails.
     fn sync(&mut self) -> Result<(), Failed>
         ensures settled { IsTrue (seen self.old).tells → OnOk result (Same (λ b. (seen self.old).now b ∷ []) (seen self.new).past) }
         ensures unsettled { IsTrue (seen self.old).tells → OnErr result (Same (seen self.old).past (seen self.new).past) }
         ensures now { IsTrue (seen self.old).tells → Same (seen self.old).now (seen self.new).now }
         ensures fixed { Fixed (seen self.old) (seen self.new) }
+        ensures works { OnOk result (MaySync (seen self.old)) }
         ensures planned { (seen self.new).planned ≡ sync_spent (seen self.old).planned }
         ensures cause { HasCause (seen self.old).faults (seen self.new).faults result };
 }

@@ -1,6 +1,6 @@
 -- What a line did, by the way that its function ended.
 use Rattle.std.proofs.Common.{◌≡◌, ◌⊎◌, ◌<◌, ℕ, zero, suc, arith, List, [], ◌∷◌, ◌++◌, refl, append-nil, sym, subst, inl, inr, ap, ◌∙◌}
-use Rattle.std.specs.Prelude.{All, Option, None, true}
+use Rattle.std.specs.Prelude.{All, Bool, Option, None, true, false}
 use Rattle.std.proofs.lemmas.List.Elements.{All-append, All-cons, All-nil}
 use Rattle.qs_part.specs.declared.event.Actor.{Actor}
 use Rattle.qs_bytes.specs.declared.ask.Ask.{Ask}
@@ -13,85 +13,83 @@ use Rattle.qs_script.specs.declared.actor.ScriptActor.{ScriptActor}
 use Rattle.qs_script.specs.declared.line.Line.{Line}
 use Rattle.qs_script.specs.declared.line.Line.TheVariants as line
 use Rattle.qs_world.specs.Events.{IsNotNext}
-use Rattle.qs_world.specs.Values.{WorldValue}
 use Rattle.qs_replay.specs.declared.stop.Stop.{Stop}
 use Rattle.qs_replay.specs.declared.stop.Stop.TheVariants as stop
 use Rattle.qs_replay.specs.declared.desk.Desk.{Desk}
-use Rattle.qs_replay.specs.Calls.{Call, Plays}
+use Rattle.qs_replay.specs.Calls.{Call, Happened, Plays}
 use Rattle.qs_replay.specs.Tables.{Gives, IsKnown, IsUsed, Names, request_of}
 use Rattle.qs_replay.specs.declared.table.Made.{Made as MadeHere}
-use Rattle.qs_replay.specs.Effects.{GoesOn, IsActor, RunsOut, goes_on, AreFirst, IsAsked, IsEventOf, Played, Stopped, UsesAgain, write_ask}
-use Rattle.qs_replay.proofs.Plays.{plays_none}
+use Rattle.qs_replay.specs.Effects.{GoesOn, IsActor, goes_on, AreFirst, IsAsked, IsEventOf, Played, Stopped, UsesAgain, write_ask}
 
 -- nothing happened, and nothing was printed
 pub stopped_none : {D : Type 0} (seen : D → Seen) (old : Desk D) (l : Line) (new : Desk D) → new.world ≡ old.world → new.out ≡ old.out →
     Stopped seen old l stop.Memory new
-stopped_none {D} seen old l new same out =
-    ([], (inl refl, subst (λ (w : WorldValue D). Plays seen old.world [] w) (sym same) (plays_none seen old.world), out))
+stopped_none seen old l new same out =
+    ([], (inl refl, same, out))
 
 -- the line's event was refused
-pub stopped_event : {D : Type 0} (seen : D → Seen) (old : Desk D) (l : Line) (s : Stop) (new : Desk D) (made : Event) (mid : Names) →
-    IsEventOf old.table l made mid → new.world ≡ old.world → new.out ≡ old.out →
+pub stopped_event : {D : Type 0} (seen : D → Seen) (old : Desk D) (l : Line) (s : Stop) (new : Desk D) (made : Event) (mid : Names) (lost : Bool) →
+    IsEventOf old.table l lost made mid → new.world ≡ old.world → new.out ≡ old.out →
     (s ≡ stop.NotNext → IsNotNext old.world made) → (s ≡ stop.BadLine → ⊥) → (UsesAgain old.table l → ⊥) → Stopped seen old l s new
-stopped_event seen old l stop.BadLine new made mid is same out next form once = absurd (form refl)
-stopped_event seen old l stop.NotNext new made mid is same out next form once =
-    (inl (record { made = made; mid = mid; event_is = is; not_next = next refl }), once, same, out)
-stopped_event seen old l stop.Memory new made mid is same out next form once = stopped_none seen old l new same out
+stopped_event seen old l stop.BadLine new made mid lost is same out next form once = absurd (form refl)
+stopped_event seen old l stop.NotNext new made mid lost is same out next form once =
+    (inl (record { made = made; mid = mid; lost = lost; event_is = is; not_next = next refl }), once, same, out)
+stopped_event seen old l stop.Memory new made mid lost is same out next form once = stopped_none seen old l new same out
 
 -- the line's events came, and memory was refused behind them
-pub stopped_cut : {D : Type 0} (seen : D → Seen) (old : Desk D) (l : Line) (new : Desk D) (calls : List Call) (made : Event) (mid : Names) →
-    IsEventOf old.table l made mid → AreFirst l made calls → Plays seen old.world calls new.world → new.out ≡ old.out →
+pub stopped_cut : {D : Type 0} (seen : D → Seen) (old : Desk D) (l : Line) (new : Desk D) (calls : List Call) (made : Event) (mid : Names) (lost : Bool) →
+    IsEventOf old.table l lost made mid → AreFirst l made calls → Plays seen old.world calls new.world → new.out ≡ old.out →
     Stopped seen old l stop.Memory new
-stopped_cut seen old l new calls made mid is first plays out = (calls, (inr (made, mid, (is, first)), plays, out))
+stopped_cut seen old l new calls made mid lost is first plays out = (calls, (inr (made, mid, lost, (is, first)), plays, out))
 
 -- a cookie that stands for no request wasn't used
 pub unused : (requests : List MadeHere) (n cookie : ℕ) (found : Option MadeHere) → found ≡ request_of requests n cookie → found ≡ None → IsUsed requests n cookie → ⊥
 unused requests n cookie found is none used = let some = used.1 in cc
 
 -- a line that asks has this event
-pub asks_event : (t t' : Names) (l : Line) (n : ℕ) (session : List ℕ) (ask : Ask) (body : Option (List ℕ)) → IsAsked l session ask body →
-    Gives t session n t' → IsEventOf t l (event.Ask n ask body) t'
-asks_event t t' (line.Read s c offset long) n session ask body is gives =
+pub asks_event : (t t' : Names) (l : Line) (lost : Bool) (n : ℕ) (session : List ℕ) (ask : Ask) (body : Option (List ℕ)) → IsAsked l lost session ask body →
+    Gives t session n t' → IsEventOf t l lost (event.Ask n ask body) t'
+asks_event t t' (line.Read s c offset long) lost n session ask body is gives =
     (n, body, (subst (λ (x : List ℕ). Gives t x n t') (sym is.0) gives, is.2, ap (λ (a : Ask). event.Ask n a body) is.1))
-asks_event t t' (line.Write s c offset bytes) n session ask body is gives = (
+asks_event t t' (line.Write s c offset bytes) lost n session ask body is gives = (
   n,
   (
     subst (λ (x : List ℕ). Gives t x n t') (sym is.0) gives,
     ap (λ (a : Ask). event.Ask n a body) is.1 ∙ ap (λ (b : Option (List ℕ)). event.Ask n (write_ask c offset bytes) b) is.2,
   ),
 )
-asks_event t t' line.Nothing n session ask body is gives = absurd is
-asks_event t t' (line.Session s e) n session ask body is gives = absurd is
-asks_event t t' (line.End s) n session ask body is gives = absurd is
-asks_event t t' (line.Step a now) n session ask body is gives = absurd is
-asks_event t t' (line.Run a now) n session ask body is gives = absurd is
-asks_event t t' (line.Fail j k) n session ask body is gives = absurd is
+asks_event t t' line.Nothing lost n session ask body is gives = absurd is
+asks_event t t' (line.Session s e) lost n session ask body is gives = absurd is
+asks_event t t' (line.End s) lost n session ask body is gives = absurd is
+asks_event t t' (line.Step a now) lost n session ask body is gives = absurd is
+asks_event t t' (line.Run a now) lost n session ask body is gives = absurd is
+asks_event t t' (line.Fail j k) lost n session ask body is gives = absurd is
 
 -- one call is among the first of a line that asks
-pub asks_first : (l : Line) (session : List ℕ) (ask : Ask) (body : Option (List ℕ)) (made : Event) (o : Outcome) → IsAsked l session ask body →
-    AreFirst l made (record { event = made; outcome = o } ∷ [])
-asks_first (line.Read s c offset long) session ask body made o is = (o, refl)
-asks_first (line.Write s c offset bytes) session ask body made o is = (o, refl)
-asks_first line.Nothing session ask body made o is = absurd is
-asks_first (line.Session s e) session ask body made o is = absurd is
-asks_first (line.End s) session ask body made o is = absurd is
-asks_first (line.Step a now) session ask body made o is = absurd is
-asks_first (line.Run a now) session ask body made o is = absurd is
-asks_first (line.Fail j k) session ask body made o is = absurd is
+pub asks_first : (l : Line) (lost : Bool) (session : List ℕ) (ask : Ask) (body : Option (List ℕ)) (made : Event) (o : Outcome) → IsAsked l lost session ask body →
+    AreFirst l made (Happened made o ∷ [])
+asks_first (line.Read s c offset long) lost session ask body made o is = (o, refl)
+asks_first (line.Write s c offset bytes) lost session ask body made o is = (o, refl)
+asks_first line.Nothing lost session ask body made o is = absurd is
+asks_first (line.Session s e) lost session ask body made o is = absurd is
+asks_first (line.End s) lost session ask body made o is = absurd is
+asks_first (line.Step a now) lost session ask body made o is = absurd is
+asks_first (line.Run a now) lost session ask body made o is = absurd is
+asks_first (line.Fail j k) lost session ask body made o is = absurd is
 
 -- a cookie that was used is used again
-pub asks_again : (t t' : Names) (l : Line) (n : ℕ) (session : List ℕ) (ask : Ask) (body : Option (List ℕ)) → IsAsked l session ask body →
+pub asks_again : (t t' : Names) (l : Line) (lost : Bool) (n : ℕ) (session : List ℕ) (ask : Ask) (body : Option (List ℕ)) → IsAsked l lost session ask body →
     Gives t session n t' → IsUsed t'.requests n ask.cookie → UsesAgain t l
-asks_again t t' (line.Read s c offset long) n session ask body is gives used =
+asks_again t t' (line.Read s c offset long) lost n session ask body is gives used =
     (n, t', (subst (λ (x : List ℕ). Gives t x n t') (sym is.0) gives, subst (λ (a : Ask). IsUsed t'.requests n a.cookie) is.1 used))
-asks_again t t' (line.Write s c offset bytes) n session ask body is gives used =
+asks_again t t' (line.Write s c offset bytes) lost n session ask body is gives used =
     (n, t', (subst (λ (x : List ℕ). Gives t x n t') (sym is.0) gives, subst (λ (a : Ask). IsUsed t'.requests n a.cookie) is.1 used))
-asks_again t t' line.Nothing n session ask body is gives used = absurd is
-asks_again t t' (line.Session s e) n session ask body is gives used = absurd is
-asks_again t t' (line.End s) n session ask body is gives used = absurd is
-asks_again t t' (line.Step a now) n session ask body is gives used = absurd is
-asks_again t t' (line.Run a now) n session ask body is gives used = absurd is
-asks_again t t' (line.Fail j k) n session ask body is gives used = absurd is
+asks_again t t' line.Nothing lost n session ask body is gives used = absurd is
+asks_again t t' (line.Session s e) lost n session ask body is gives used = absurd is
+asks_again t t' (line.End s) lost n session ask body is gives used = absurd is
+asks_again t t' (line.Step a now) lost n session ask body is gives used = absurd is
+asks_again t t' (line.Run a now) lost n session ask body is gives used = absurd is
+asks_again t t' (line.Fail j k) lost n session ask body is gives used = absurd is
 
 compare_cases : (n m : ℕ) → (n < m) ⊎ ((n ≡ m) ⊎ (m < n))
 compare_cases zero zero = inr (inl refl)
@@ -109,7 +107,7 @@ known_one names s n m one two =
           elim rest [ inl same ↦ same | inr above ↦ absurd (one.before m above two.here) ]
     ]
 
-gives_number : (t a b : Names) (s : List ℕ) (n m : ℕ) → Gives t s n a → Gives t s m b → n ≡ m
+pub gives_number : (t a b : Names) (s : List ℕ) (n m : ℕ) → Gives t s n a → Gives t s m b → n ≡ m
 gives_number t a b s n m (inl p) (inl q) = known_one t.sessions s n m p.0 q.0
 gives_number t a b s n m (inl p) (inr q) = absurd (q.0 n p.0.inside p.0.here)
 gives_number t a b s n m (inr p) (inl q) = absurd (p.0 m q.0.inside q.0.here)
@@ -125,38 +123,37 @@ fresh_once t a b s n m cookie one fresh two used =
     fresh (subst (λ (k : ℕ). IsUsed a.requests k cookie) (gives_number t b a s m n two one)
     (subst (λ (rs : List MadeHere). IsUsed rs m cookie) (gives_requests t b s m two ∙ sym (gives_requests t a s n one)) used))
 
-pub asks_once : (t a : Names) (l : Line) (n : ℕ) (session : List ℕ) (ask : Ask) (body : Option (List ℕ)) → IsAsked l session ask body →
+pub asks_once : (t a : Names) (l : Line) (lost : Bool) (n : ℕ) (session : List ℕ) (ask : Ask) (body : Option (List ℕ)) → IsAsked l lost session ask body →
     Gives t session n a → (IsUsed a.requests n ask.cookie → ⊥) → UsesAgain t l → ⊥
-asks_once t a (line.Read s c offset long) n session ask body is gives fresh again =
+asks_once t a (line.Read s c offset long) lost n session ask body is gives fresh again =
     fresh_once t a again.1 session n again.0 c gives (λ used. fresh (subst (λ (k : Ask). IsUsed a.requests n k.cookie) (sym is.1) used))
     (subst (λ (x : List ℕ). Gives t x again.0 again.1) is.0 again.2.0) again.2.1
-asks_once t a (line.Write s c offset bytes) n session ask body is gives fresh again =
+asks_once t a (line.Write s c offset bytes) lost n session ask body is gives fresh again =
     fresh_once t a again.1 session n again.0 c gives (λ used. fresh (subst (λ (k : Ask). IsUsed a.requests n k.cookie) (sym is.1) used))
     (subst (λ (x : List ℕ). Gives t x again.0 again.1) is.0 again.2.0) again.2.1
-asks_once t a line.Nothing n session ask body is gives fresh again = absurd is
-asks_once t a (line.Session s e) n session ask body is gives fresh again = absurd is
-asks_once t a (line.End s) n session ask body is gives fresh again = absurd is
-asks_once t a (line.Step w now) n session ask body is gives fresh again = absurd is
-asks_once t a (line.Run w now) n session ask body is gives fresh again = absurd is
-asks_once t a (line.Fail j k) n session ask body is gives fresh again = absurd is
+asks_once t a line.Nothing lost n session ask body is gives fresh again = absurd is
+asks_once t a (line.Session s e) lost n session ask body is gives fresh again = absurd is
+asks_once t a (line.End s) lost n session ask body is gives fresh again = absurd is
+asks_once t a (line.Step w now) lost n session ask body is gives fresh again = absurd is
+asks_once t a (line.Run w now) lost n session ask body is gives fresh again = absurd is
+asks_once t a (line.Fail j k) lost n session ask body is gives fresh again = absurd is
 
 -- a line that asks was done
-pub asks_played : {D : Type 0} (seen : D → Seen) (old : Desk D) (l : Line) (new : Desk D) (n r : ℕ) (mid : Names) (session : List ℕ) (ask : Ask)
-    (body : Option (List ℕ)) → IsAsked l session ask body → Gives old.table session n mid → (IsUsed mid.requests n ask.cookie → ⊥) →
-    Plays seen old.world (record { event = event.Ask n ask body; outcome = Made r } ∷ []) new.world →
+pub asks_played : {D : Type 0} (seen : D → Seen) (old : Desk D) (l : Line) (lost : Bool) (new : Desk D) (n r : ℕ) (mid : Names) (session : List ℕ) (ask : Ask)
+    (body : Option (List ℕ)) → IsAsked l lost session ask body → Gives old.table session n mid → (IsUsed mid.requests n ask.cookie → ⊥) →
+    Plays seen old.world (Happened (event.Ask n ask body) (Made r) ∷ []) new.world →
     new.table ≡ record { sessions = mid.sessions; requests = mid.requests ++ record { session = n; cookie = ask.cookie; number = r } ∷ [] } →
-    new.out ≡ old.out → Played seen old l new
-asks_played seen old (line.Read s c offset long) new n r mid session ask body is gives fresh plays table out = record {
-  calls = record { event = event.Ask n ask body; outcome = Made r } ∷ [];
+    new.out ≡ old.out → Played seen old l lost new
+asks_played seen old (line.Read s c offset long) lost new n r mid session ask body is gives fresh plays table out = record {
+  calls = Happened (event.Ask n ask body) (Made r) ∷ [];
   text = [];
   is = record {
     plays = plays;
-    plans = tt;
     does = record {
       made = event.Ask n ask body;
       mid = mid;
       outcome = Made r;
-      event_is = asks_event old.table mid (line.Read s c offset long) n session ask body is gives;
+      event_is = asks_event old.table mid (line.Read s c offset long) lost n session ask body is gives;
       calls_are = refl;
       notes = (fresh, table);
       text_is = refl;
@@ -164,17 +161,16 @@ asks_played seen old (line.Read s c offset long) new n r mid session ask body is
   };
   printed = out ∙ sym (append-nil old.out);
 }
-asks_played seen old (line.Write s c offset bytes) new n r mid session ask body is gives fresh plays table out = record {
-  calls = record { event = event.Ask n ask body; outcome = Made r } ∷ [];
+asks_played seen old (line.Write s c offset bytes) lost new n r mid session ask body is gives fresh plays table out = record {
+  calls = Happened (event.Ask n ask body) (Made r) ∷ [];
   text = [];
   is = record {
     plays = plays;
-    plans = tt;
     does = record {
       made = event.Ask n ask body;
       mid = mid;
       outcome = Made r;
-      event_is = asks_event old.table mid (line.Write s c offset bytes) n session ask body is gives;
+      event_is = asks_event old.table mid (line.Write s c offset bytes) lost n session ask body is gives;
       calls_are = refl;
       notes = (fresh, table);
       text_is = refl;
@@ -182,40 +178,24 @@ asks_played seen old (line.Write s c offset bytes) new n r mid session ask body 
   };
   printed = out ∙ sym (append-nil old.out);
 }
-asks_played seen old line.Nothing new n r mid session ask body is gives fresh plays table out = absurd is
-asks_played seen old (line.Session s e) new n r mid session ask body is gives fresh plays table out = absurd is
-asks_played seen old (line.End s) new n r mid session ask body is gives fresh plays table out = absurd is
-asks_played seen old (line.Step a now) new n r mid session ask body is gives fresh plays table out = absurd is
-asks_played seen old (line.Run a now) new n r mid session ask body is gives fresh plays table out = absurd is
-asks_played seen old (line.Fail j k) new n r mid session ask body is gives fresh plays table out = absurd is
+asks_played seen old line.Nothing lost new n r mid session ask body is gives fresh plays table out = absurd is
+asks_played seen old (line.Session s e) lost new n r mid session ask body is gives fresh plays table out = absurd is
+asks_played seen old (line.End s) lost new n r mid session ask body is gives fresh plays table out = absurd is
+asks_played seen old (line.Step a now) lost new n r mid session ask body is gives fresh plays table out = absurd is
+asks_played seen old (line.Run a now) lost new n r mid session ask body is gives fresh plays table out = absurd is
+asks_played seen old (line.Fail j k) lost new n r mid session ask body is gives fresh plays table out = absurd is
 
-only : (made : Event) (o : Outcome) → All (λ (c : Call). c.event ≡ made) (record { event = made; outcome = o } ∷ [])
-only made o = All-cons (λ (c : Call). c.event ≡ made) (record { event = made; outcome = o }) [] refl (All-nil (λ (c : Call). c.event ≡ made))
+one_goes : (made : Event) (o : Outcome) → goes_on o ≡ true → All (GoesOn made) (Happened made o ∷ [])
+one_goes made o goes = All-cons (GoesOn made) (Happened made o) [] (record { outcome = o; is = refl; on = goes }) (All-nil (GoesOn made))
 
-one_goes : (made : Event) (o : Outcome) → goes_on o ≡ true → All (GoesOn made) (record { event = made; outcome = o } ∷ [])
-one_goes made o goes = All-cons (GoesOn made) (record { event = made; outcome = o }) [] (record { event_is = refl; on = goes }) (All-nil (GoesOn made))
+pub goes_more : (made : Event) (o : Outcome) (front : List Call) → All (GoesOn made) front → goes_on o ≡ true → All (GoesOn made) (front ++ Happened made o ∷ [])
+goes_more made o front on goes = All-append (GoesOn made) front (Happened made o ∷ []) on (one_goes made o goes)
 
--- all calls of a run are of its event
-pub front_first : (made : Event) (o : Outcome) (front : List Call) → All (GoesOn made) front →
-    All (λ (c : Call). c.event ≡ made) (front ++ record { event = made; outcome = o } ∷ [])
-front_first made o front on =
-    All-append (λ (c : Call). c.event ≡ made) front (record { event = made; outcome = o } ∷ []) (λ k d below. (on k d below).event_is) (only made o)
-
-pub run_first : (made : Event) (calls : List Call) (last : Outcome) → RunsOut made calls last → All (λ (c : Call). c.event ≡ made) calls
-run_first made calls last out = subst (λ (cs : List Call). All (λ (c : Call). c.event ≡ made) cs) (sym out.whole) (front_first made last out.front out.on)
-
-pub goes_more : (made : Event) (o : Outcome) (front : List Call) → All (GoesOn made) front → goes_on o ≡ true →
-    All (GoesOn made) (front ++ record { event = made; outcome = o } ∷ [])
-goes_more made o front on goes = All-append (GoesOn made) front (record { event = made; outcome = o } ∷ []) on (one_goes made o goes)
-
--- a run wasn't done to its end
+-- a run couldn't begin
 pub stopped_run : {D : Type 0} (seen : D → Seen) (old : Desk D) (a : ScriptActor) (now : ℕ) (s : Stop) (new : Desk D) (actor : Actor) (mid : Names) →
-    IsActor old.table a actor mid → new.out ≡ old.out → (s ≡ stop.NotNext → IsNotNext old.world (event.Step actor now) × (new.world ≡ old.world)) →
-    (s ≡ stop.BadLine → ⊥) →
-    (s ≡ stop.Memory → (calls : List Call) × (Plays seen old.world calls new.world × All (λ (c : Call). c.event ≡ event.Step actor now) calls)) →
-    Stopped seen old (line.Run a now) s new
+    IsActor old.table a actor mid → new.out ≡ old.out → IsNotNext old.world (event.Step actor now) × (new.world ≡ old.world) →
+    (s ≡ stop.BadLine → ⊥) → (s ≡ stop.Memory → ⊥) → Stopped seen old (line.Run a now) s new
 stopped_run seen old a now stop.BadLine new actor mid is out next form memory = absurd (form refl)
 stopped_run seen old a now stop.NotNext new actor mid is out next form memory =
-    (inl (record { made = event.Step actor now; mid = mid; event_is = (actor, (is, refl)); not_next = (next refl).0 }), λ again. again, (next refl).1, out)
-stopped_run seen old a now stop.Memory new actor mid is out next form memory =
-    ((memory refl).0, (inr (event.Step actor now, mid, ((actor, (is, refl)), (memory refl).1.1)), (memory refl).1.0, out))
+    (inl (record { made = event.Step actor now; mid = mid; lost = false; event_is = (actor, (is, refl)); not_next = next.0 }), λ again. again, next.1, out)
+stopped_run seen old a now stop.Memory new actor mid is out next form memory = absurd (memory refl)

@@ -1,5 +1,5 @@
 -- Lines one after the other, and the end of a script.
-use Rattle.std.proofs.Common.{◌≡◌, ◌⊎◌, ℕ, ◌+◌, ◌≤◌, List, [], ◌∷◌, ◌++◌, refl, sym, subst, ap, ◌∙◌, inl, inr, arith, append_assoc, append-nil, length-append, true}
+use Rattle.std.proofs.Common.{◌≡◌, ◌⊎◌, ℕ, ◌+◌, ◌<◌, ◌≤◌, length, Bool, List, [], ◌∷◌, ◌++◌, refl, sym, subst, ap, ◌∙◌, inl, inr, arith, append_assoc, append-nil, length-append, true}
 use Rattle.std.specs.Prelude.{Option, Result, Ok, Err}
 use Rattle.qs_outside.specs.Faults.{Rose}
 use Rattle.qs_script.specs.Lines.{Reads}
@@ -17,14 +17,51 @@ use Rattle.qs_replay.specs.declared.replay.Turn.TheVariants as turn
 use Rattle.qs_replay.specs.Calls.{Call, Plays}
 use Rattle.qs_replay.specs.Tables.{Names}
 use Rattle.qs_replay.specs.Waiting.{Gives, Takes}
-use Rattle.qs_replay.specs.Scripts.{AllDone, none, more, Ends, Finishes, IsTaken, PlaysText, Replays, Scene, SoFar, Turns, is_whole, spelled, status_of}
+use Rattle.qs_replay.specs.Readings.{IsText}
+use Rattle.qs_replay.specs.Scripts.{AllDone, DoesText, Ends, Finishes, IsFront, PlaysText, Replays, Scene, SoFar, Turns, is_whole, spelled, status_of}
 use Rattle.qs_replay.proofs.Flows.{gives_none, gives_on, takes_none, takes_on}
-use Rattle.qs_replay.proofs.Plays.{plays_none}
 
 pub spelled_more : (texts : List (List ℕ)) (text : List ℕ) → spelled (texts ++ text ∷ []) ≡ spelled texts ++ (text ++ 10 ∷ [])
 spelled_more [] text = refl
 spelled_more (t ∷ texts) text =
     ap (λ (l : List ℕ). t ++ 10 ∷ l) (spelled_more texts text) ∙ sym (append_assoc t (10 ∷ spelled texts) (text ++ 10 ∷ []))
+
+-- no line was done
+pub done_none : {D : Type 0} (seen : D → Seen) (w : WorldValue D) (t : Names) → AllDone seen w t [] [] [] w t
+done_none seen w t = record { calls_are = refl; printed_are = refl; world = refl; names = refl }
+
+-- one line more was done
+pub done_more : {D : Type 0} (seen : D → Seen) (w : WorldValue D) (t : Names) (texts : List (List ℕ)) (calls : List Call) (printed : List ℕ)
+    (w1 : WorldValue D) (t1 : Names) (text : List ℕ) (calls' : List Call) (printed' : List ℕ) (w2 : WorldValue D) (t2 : Names) →
+    AllDone seen w t texts calls printed w1 t1 → IsText text → DoesText seen w1 t1 text calls' printed' w2 t2 →
+    AllDone seen w t (texts ++ text ∷ []) (calls ++ calls') (printed ++ printed') w2 t2
+done_more {D} seen w t [] calls printed w1 t1 text calls' printed' w2 t2 done is_text does = record {
+  first = calls';
+  later = [];
+  words = printed';
+  more = [];
+  world = w2;
+  names = t2;
+  is_text = is_text;
+  does = subst (λ (v : WorldValue D). DoesText seen v t text calls' printed' w2 t2) done.world
+      (subst (λ (u : Names). DoesText seen w1 u text calls' printed' w2 t2) done.names does);
+  rest = done_none seen w2 t2;
+  calls_are = ap (λ (cs : List Call). cs ++ calls') done.calls_are ∙ sym (append-nil calls');
+  printed_are = ap (λ (bs : List ℕ). bs ++ printed') done.printed_are ∙ sym (append-nil printed');
+}
+done_more seen w t (x ∷ texts) calls printed w1 t1 text calls' printed' w2 t2 done is_text does = record {
+  first = done.first;
+  later = done.later ++ calls';
+  words = done.words;
+  more = done.more ++ printed';
+  world = done.world;
+  names = done.names;
+  is_text = done.is_text;
+  does = done.does;
+  rest = done_more seen done.world done.names texts done.later done.more w1 t1 text calls' printed' w2 t2 done.rest is_text does;
+  calls_are = ap (λ (cs : List Call). cs ++ calls') done.calls_are ∙ append_assoc done.first done.later calls';
+  printed_are = ap (λ (bs : List ℕ). bs ++ printed') done.printed_are ∙ append_assoc done.words done.more printed';
+}
 
 pub so_far_none : {D : Type 0} (seen : D → Seen) (a : Scene D) → SoFar seen a 0 a
 so_far_none seen a = record {
@@ -32,7 +69,7 @@ so_far_none seen a = record {
   calls = [];
   printed = [];
   count = refl;
-  done = none;
+  done = done_none seen a.world a.names;
   takes = takes_none a.left a.waiting;
   gives = gives_none a.sent a.out;
 }
@@ -52,7 +89,7 @@ so_far_more seen a b c n so t = record {
   calls = so.calls ++ t.calls;
   printed = so.printed ++ t.printed;
   count = length-append so.texts (t.text ∷ []) ∙ ap (λ (k : ℕ). k + 1) so.count;
-  done = more so.done t.text t.calls t.printed c.world c.names t.does.1;
+  done = done_more seen a.world a.names so.texts so.calls so.printed b.world b.names t.text t.calls t.printed c.world c.names so.done t.does.1 t.does.2;
   takes =
       subst (λ (l : List ℕ). Takes a.left a.waiting l c.left c.waiting)
       (ap (λ (l : List ℕ). spelled so.texts ++ l) t.does.0 ∙ sym (spelled_more so.texts t.text))
@@ -70,13 +107,15 @@ pub record Closes {D : Type 0} (seen : D → Seen) (a : Scene D) (budget : ℕ) 
   pub world : WorldValue D
   pub names : Names
   pub done : AllDone seen a.world a.names texts calls printed world names
+  pub few : length texts ≤ budget
   pub taken : List ℕ
   pub takes : Takes a.left a.waiting taken c.left c.waiting
   pub rest : List ℕ
   pub gives : Gives a.sent a.out printed c.sent rest
   pub rest_is : (result ≡ status.WriteFault) ⊎ (rest ≡ c.out)
-  pub ends : Ends seen result budget texts taken world names c.left c.waiting c.world
-  pub idle : (result ≡ status.Memory → ⊥) → Plays seen world [] c.world
+  pub cut : List Call
+  pub cut_plays : Plays seen world cut c.world
+  pub ends : Ends result budget texts taken cut world names c.left c.waiting
 
 swap : {X Y : Type 0} → X ⊎ Y → Y ⊎ X
 swap (inl x) = inr x
@@ -84,16 +123,16 @@ swap (inr y) = inl y
 
 -- the parts that all ends but a last line share: the lines before, and what was taken and given behind them
 record_of : {D : Type 0} (seen : D → Seen) (a b c : Scene D) (n budget : ℕ) (how : Turn) (so : SoFar seen a n b) (t : Turns seen b how c)
-    (result : Status) → t.printed ≡ [] → (t.rest ≡ c.out) ⊎ (result ≡ status.WriteFault) →
-    Ends seen result budget so.texts (spelled so.texts ++ t.taken) b.world b.names c.left c.waiting c.world →
-    ((result ≡ status.Memory → ⊥) → Plays seen b.world [] c.world) → Closes seen a budget result c
-record_of seen a b c n budget how so t result silent rest ends idle = record {
+    (result : Status) (cut : List Call) → n < budget → t.printed ≡ [] → (t.rest ≡ c.out) ⊎ (result ≡ status.WriteFault) → Plays seen b.world cut c.world →
+    Ends result budget so.texts (spelled so.texts ++ t.taken) cut b.world b.names c.left c.waiting → Closes seen a budget result c
+record_of seen a b c n budget how so t result cut below silent rest plays ends = record {
   texts = so.texts;
   calls = so.calls;
   printed = so.printed;
   world = b.world;
   names = b.names;
   done = so.done;
+  few = omega (arith, so.count);
   taken = spelled so.texts ++ t.taken;
   takes = takes_on a.left b.left c.left a.waiting b.waiting c.waiting (spelled so.texts) t.taken so.takes t.takes;
   rest = t.rest;
@@ -102,8 +141,9 @@ record_of seen a b c n budget how so t result silent rest ends idle = record {
       (ap (λ (l : List ℕ). so.printed ++ l) silent ∙ append-nil so.printed)
       (gives_on a.sent b.sent c.sent a.out b.out t.rest so.printed t.printed so.gives t.gives);
   rest_is = swap rest;
+  cut = cut;
+  cut_plays = plays;
   ends = ends;
-  idle = idle;
 }
 
 -- not a fault of the output
@@ -112,26 +152,23 @@ rest_of : (how : Turn) (rest out : List ℕ) (result : Status) → (how ≡ turn
 rest_of how rest out result ne (inl e) = absurd (ne e)
 rest_of how rest out result ne (inr e) = inl e
 
-idle_of : {D : Type 0} (seen : D → Seen) (w w' : WorldValue D) → w' ≡ w → Plays seen w [] w'
-idle_of {D} seen w w' same = subst (λ (v : WorldValue D). Plays seen w [] v) (sym same) (plays_none seen w)
+-- a last line without LF isn't spelled with one
+bare_last : (texts : List (List ℕ)) (text : List ℕ) → spelled texts ++ text ≡ spelled (texts ++ text ∷ []) → ⊥
+bare_last texts text same =
+    let long : length (spelled texts ++ text) ≡ length (spelled texts ++ (text ++ 10 ∷ [])) = ap length (same ∙ spelled_more texts text) in
+    omega (arith, long, length-append (spelled texts) text, length-append (spelled texts) (text ++ 10 ∷ []), length-append text (10 ∷ []))
 
-taken_of : (before taken text : List ℕ) → IsTaken taken text → (before ++ taken ≡ before ++ text) ⊎ (before ++ taken ≡ before ++ text ++ 10 ∷ [])
-taken_of before taken text (inl e) = inl (ap (λ (l : List ℕ). before ++ l) e)
-taken_of before taken text (inr e) = inr (ap (λ (l : List ℕ). before ++ l) e ∙ sym (append_assoc before text (10 ∷ [])))
-
-bare : {D : Type 0} (seen : D → Seen) (w w' : WorldValue D) (calls : List Call) → calls ≡ [] → Plays seen w calls w' → Plays seen w [] w'
-bare seen w w' calls empty plays = subst (λ (cs : List Call). Plays seen w cs w') empty plays
-
-pub closes : {D : Type 0} (seen : D → Seen) (a b c : Scene D) (n budget : ℕ) (how : Turn) → SoFar seen a n b → Turns seen b how c →
+pub closes : {D : Type 0} (seen : D → Seen) (a b c : Scene D) (n budget : ℕ) (how : Turn) → n < budget → SoFar seen a n b → Turns seen b how c →
     (how ≡ turn.Goes → ⊥) → Closes seen a budget (status_of how (n + 1)) c
-closes seen a b c n budget turn.Goes so t ne = absurd (ne refl)
-closes seen a b c n budget turn.Last so t ne = record {
+closes seen a b c n budget turn.Goes below so t ne = absurd (ne refl)
+closes seen a b c n budget turn.Last below so t ne = record {
   texts = so.texts ++ t.text ∷ [];
   calls = so.calls ++ t.calls;
   printed = so.printed ++ t.printed;
   world = c.world;
   names = c.names;
-  done = more so.done t.text t.calls t.printed c.world c.names t.does.2;
+  done = done_more seen a.world a.names so.texts so.calls so.printed b.world b.names t.text t.calls t.printed c.world c.names so.done t.does.1 t.does.4;
+  few = omega (arith, so.count, length-append so.texts (t.text ∷ []));
   taken = spelled so.texts ++ t.text;
   takes =
       subst (λ (l : List ℕ). Takes a.left a.waiting (spelled so.texts ++ l) c.left c.waiting) t.does.0
@@ -139,36 +176,39 @@ closes seen a b c n budget turn.Last so t ne = record {
   rest = t.rest;
   gives = gives_on a.sent b.sent c.sent a.out b.out t.rest so.printed t.printed so.gives t.gives;
   rest_is = elim (rest_of turn.Last t.rest c.out status.Done (λ e. absurd (cc)) t.rest_is) [ inl e ↦ inr e | inr e ↦ inl e ];
-  ends = (inr (append_assoc (spelled so.texts) t.text (10 ∷ []) ∙ sym (spelled_more so.texts t.text)), t.does.1, refl);
-  idle = λ ne'. plays_none seen c.world;
+  cut = [];
+  cut_plays = refl;
+  ends = (inr (so.texts, t.text, (refl, t.does.2, refl)), t.does.3, refl, λ same. absurd (bare_last so.texts t.text same));
 }
-closes seen a b c n budget turn.End so t ne =
-    record_of seen a b c n budget turn.End so t status.Done t.does.2.printed_is (rest_of turn.End t.rest c.out status.Done (λ e. absurd (cc)) t.rest_is)
-    (inl (ap (λ (l : List ℕ). spelled so.texts ++ l) t.does.0 ∙ append-nil (spelled so.texts)), t.does.1, t.does.2.world)
-    (λ ne'. idle_of seen b.world c.world t.does.2.world)
-closes seen a b c n budget (turn.Stops stop.BadLine) so t ne =
-    record_of seen a b c n budget (turn.Stops stop.BadLine) so t (status.BadLine (n + 1)) t.does.1
-    (rest_of (turn.Stops stop.BadLine) t.rest c.out (status.BadLine (n + 1)) (λ e. absurd (cc)) t.rest_is)
-    (ap (λ (k : ℕ). k + 1) (sym so.count), record { text = t.text; no_end = t.no_end; taken_is = taken_of (spelled so.texts) t.taken t.text t.does.0; leaves = t.does.2 })
-    (λ ne'. bare seen b.world c.world t.does.2.calls t.does.2.why.0 t.does.2.plays)
-closes seen a b c n budget (turn.Stops stop.NotNext) so t ne =
-    record_of seen a b c n budget (turn.Stops stop.NotNext) so t (status.NotNext (n + 1)) t.does.1
-    (rest_of (turn.Stops stop.NotNext) t.rest c.out (status.NotNext (n + 1)) (λ e. absurd (cc)) t.rest_is)
-    (ap (λ (k : ℕ). k + 1) (sym so.count), record { text = t.text; no_end = t.no_end; taken_is = taken_of (spelled so.texts) t.taken t.text t.does.0; leaves = t.does.2 })
-    (λ ne'. bare seen b.world c.world t.does.2.calls t.does.2.why.0 t.does.2.plays)
-closes seen a b c n budget (turn.Stops stop.Memory) so t ne =
-    record_of seen a b c n budget (turn.Stops stop.Memory) so t status.Memory t.does.1
-    (rest_of (turn.Stops stop.Memory) t.rest c.out status.Memory (λ e. absurd (cc)) t.rest_is)
-    (record { text = t.text; no_end = t.no_end; taken_is = taken_of (spelled so.texts) t.taken t.text t.does.0; leaves = t.does.2 })
-    (λ ne'. absurd (ne' refl))
-closes seen a b c n budget turn.ReadFault so t ne =
-    record_of seen a b c n budget turn.ReadFault so t status.ReadFault t.does.1.printed_is
-    (rest_of turn.ReadFault t.rest c.out status.ReadFault (λ e. absurd (cc)) t.rest_is)
-    (t.does.1.world, (t.text, (t.no_end, ap (λ (l : List ℕ). spelled so.texts ++ l) t.does.0)))
-    (λ ne'. idle_of seen b.world c.world t.does.1.world)
-closes seen a b c n budget turn.WriteFault so t ne =
-    record_of seen a b c n budget turn.WriteFault so t status.WriteFault t.does.1.printed_is (inr refl)
-    (idle_of seen b.world c.world t.does.1.world) (λ ne'. idle_of seen b.world c.world t.does.1.world)
+closes seen a b c n budget turn.End below so t ne =
+    record_of seen a b c n budget turn.End so t status.Done [] below t.does.2.printed_is (rest_of turn.End t.rest c.out status.Done (λ e. absurd (cc)) t.rest_is)
+    t.does.2.world
+    (inl (ap (λ (l : List ℕ). spelled so.texts ++ l) t.does.0 ∙ append-nil (spelled so.texts)), t.does.1, refl, λ same. omega (arith, so.count))
+closes seen a b c n budget (turn.Stops stop.BadLine) below so t ne =
+    record_of seen a b c n budget (turn.Stops stop.BadLine) so t (status.BadLine (n + 1)) t.does.2.calls below t.does.1
+    (rest_of (turn.Stops stop.BadLine) t.rest c.out (status.BadLine (n + 1)) (λ e. absurd (cc)) t.rest_is) t.does.2.plays (
+      ap (λ (k : ℕ). k + 1) (sym so.count),
+      record { text = t.text; bytes = t.taken; no_end = t.no_end; taken_is = refl; is_taken = t.does.0; why = t.does.2.why },
+      omega arith,
+    )
+closes seen a b c n budget (turn.Stops stop.NotNext) below so t ne =
+    record_of seen a b c n budget (turn.Stops stop.NotNext) so t (status.NotNext (n + 1)) t.does.2.calls below t.does.1
+    (rest_of (turn.Stops stop.NotNext) t.rest c.out (status.NotNext (n + 1)) (λ e. absurd (cc)) t.rest_is) t.does.2.plays (
+      ap (λ (k : ℕ). k + 1) (sym so.count),
+      record { text = t.text; bytes = t.taken; no_end = t.no_end; taken_is = refl; is_taken = t.does.0; why = t.does.2.why },
+      omega arith,
+    )
+closes seen a b c n budget (turn.Stops stop.Memory) below so t ne =
+    record_of seen a b c n budget (turn.Stops stop.Memory) so t status.Memory t.does.2.calls below t.does.1
+    (rest_of (turn.Stops stop.Memory) t.rest c.out status.Memory (λ e. absurd (cc)) t.rest_is) t.does.2.plays
+    (record { text = t.text; bytes = t.taken; no_end = t.no_end; taken_is = refl; is_taken = t.does.0; why = t.does.2.why })
+closes seen a b c n budget turn.ReadFault below so t ne =
+    record_of seen a b c n budget turn.ReadFault so t status.ReadFault [] below t.does.1.printed_is
+    (rest_of turn.ReadFault t.rest c.out status.ReadFault (λ e. absurd (cc)) t.rest_is) t.does.1.world
+    (refl, (t.text, (t.no_end, ap (λ (l : List ℕ). spelled so.texts ++ l) t.does.0)))
+closes seen a b c n budget turn.WriteFault below so t ne =
+    record_of seen a b c n budget turn.WriteFault so t status.WriteFault [] below t.does.1.printed_is (inr refl) t.does.1.world
+    (refl, inl (t.taken, refl))
 
 -- all lines of the budget were done
 pub closes_spent : {D : Type 0} (seen : D → Seen) (a b : Scene D) (budget : ℕ) → SoFar seen a budget b → Closes seen a budget status.Spent b
@@ -179,13 +219,15 @@ closes_spent seen a b budget so = record {
   world = b.world;
   names = b.names;
   done = so.done;
+  few = omega (arith, so.count);
   taken = spelled so.texts;
   takes = so.takes;
   rest = b.out;
   gives = so.gives;
   rest_is = inr refl;
+  cut = [];
+  cut_plays = refl;
   ends = (so.count, refl, refl);
-  idle = λ ne. plays_none seen b.world;
 }
 
 unwhole : (before result : Status) → before ≡ status.WriteFault → (result ≡ before) ⊎ (result ≡ status.WriteFault) → is_whole result ≡ true → ⊥
@@ -207,13 +249,27 @@ out_of seen a c budget before result sent' x f is (inr e) = (
   ),
 )
 
+-- the output failed behind this end
+front_of : {D : Type 0} (before : Status) (budget : ℕ) (texts : List (List ℕ)) (taken : List ℕ) (cut : List Call) (w : WorldValue D) (t : Names)
+    (left : Option (List ℕ)) (waiting : List ℕ) → (before ≡ status.Memory → ⊥) → Ends before budget texts taken cut w t left waiting →
+    (cut ≡ []) × IsFront texts taken left waiting
+front_of status.Done budget texts taken cut w t left waiting ne ends = (ends.2, inr (ends.0, ends.1))
+front_of (status.BadLine n) budget texts taken cut w t left waiting ne ends = (ends.1.why.0, inl (ends.1.bytes, ends.1.taken_is))
+front_of (status.NotNext n) budget texts taken cut w t left waiting ne ends = (ends.1.why.0, inl (ends.1.bytes, ends.1.taken_is))
+front_of status.Memory budget texts taken cut w t left waiting ne ends = absurd (ne refl)
+front_of status.ReadFault budget texts taken cut w t left waiting ne ends = (ends.0, inl (ends.1.0, ends.1.1.1))
+front_of status.WriteFault budget texts taken cut w t left waiting ne ends = ends
+front_of status.Spent budget texts taken cut w t left waiting ne ends = (ends.2, inl ([], ends.1 ∙ sym (append-nil (spelled texts))))
+front_of _ budget texts taken cut w t left waiting ne ends = absurd ends
+
 ends_of : {D : Type 0} (seen : D → Seen) (a c : Scene D) (budget : ℕ) (before result : Status) (x : Closes seen a budget before c) →
     (result ≡ before) ⊎ ((result ≡ status.WriteFault) × (before ≡ status.Memory → ⊥)) →
-    Ends seen result budget x.texts x.taken x.world x.names c.left c.waiting c.world
+    Ends result budget x.texts x.taken x.cut x.world x.names c.left c.waiting
 ends_of seen a c budget before result x (inl e) =
-    subst (λ (s : Status). Ends seen s budget x.texts x.taken x.world x.names c.left c.waiting c.world) (sym e) x.ends
+    subst (λ (s : Status). Ends s budget x.texts x.taken x.cut x.world x.names c.left c.waiting) (sym e) x.ends
 ends_of seen a c budget before result x (inr e) =
-    subst (λ (s : Status). Ends seen s budget x.texts x.taken x.world x.names c.left c.waiting c.world) (sym e.0) (x.idle e.1)
+    subst (λ (s : Status). Ends s budget x.texts x.taken x.cut x.world x.names c.left c.waiting) (sym e.0)
+    (front_of before budget x.texts x.taken x.cut x.world x.names c.left c.waiting e.1 x.ends)
 
 either : {X Y Z : Type 0} → X ⊎ (Y × Z) → X ⊎ Y
 either (inl x) = inl x
@@ -232,23 +288,27 @@ finished seen a c budget before result sent' out' x f =
       world = x.world;
       names = x.names;
       done = x.done;
+      few = x.few;
       taken = x.taken;
       takes = x.takes;
       rest = out.0;
       gives = out.1.0;
       whole = out.1.1;
+      cut = x.cut;
+      cut_plays = x.cut_plays;
       ends = ends_of seen a c budget before result x f.result_is;
     }
 
 -- the text of a line and what the line did
-pub plays_text_of : {D : Type 0} (seen : D → Seen) (old : Desk D) (text : List ℕ) (l : Line) (result : Result Unit Stop) (new : Desk D) → Reads text l →
-    PlaysLine seen old l result new → PlaysText seen old text result new
-plays_text_of seen old text l (Ok u) new reads played = (played.calls, played.text, (record { line = l; reads = reads; is = played.is }, played.printed))
-plays_text_of seen old text l (Err stop.BadLine) new reads s =
-    (record { calls = []; plays = idle_of seen old.world new.world s.1; why = (refl, inr (inr (l, (reads, s.0)))) }, s.2)
-plays_text_of seen old text l (Err stop.NotNext) new reads s =
-    (record { calls = []; plays = idle_of seen old.world new.world s.2; why = (refl, (l, (reads, s.1, s.0))) }, s.3)
-plays_text_of seen old text l (Err stop.Memory) new reads s =
+pub plays_text_of : {D : Type 0} (seen : D → Seen) (old : Desk D) (text : List ℕ) (l : Line) (lost : Bool) (result : Result Unit Stop) (new : Desk D) → Reads text l →
+    PlaysLine seen old l lost result new → PlaysText seen old text result new
+plays_text_of seen old text l lost (Ok u) new reads played =
+    (played.calls, played.text, (record { line = l; lost = lost; reads = reads; is = played.is }, played.printed))
+plays_text_of seen old text l lost (Err stop.BadLine) new reads s =
+    (record { calls = []; plays = s.1; why = (refl, inr (inr (l, (reads, s.0)))) }, s.2)
+plays_text_of seen old text l lost (Err stop.NotNext) new reads s =
+    (record { calls = []; plays = s.2; why = (refl, (l, (reads, s.1, s.0))) }, s.3)
+plays_text_of seen old text l lost (Err stop.Memory) new reads s =
     (record { calls = s.0; plays = s.1.1; why = inr (l, (reads, s.1.0)) }, s.1.2)
 
 -- a fault of the input or the output is the last line's

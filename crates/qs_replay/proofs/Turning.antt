@@ -1,5 +1,5 @@
 -- What one line makes of a scene.
-use Rattle.std.proofs.Common.{◌≡◌, ◌⊎◌, ℕ, List, [], ◌∷◌, ◌++◌, refl, sym, subst, inl, inr, arith}
+use Rattle.std.proofs.Common.{◌≡◌, ◌≢◌, ◌<◌, length, ℕ, List, [], ◌∷◌, ◌++◌, refl, sym, subst, inl, inr, arith}
 use Rattle.std.specs.Prelude.{Option, Ok, Err}
 use Rattle.qs_outside.specs.Blocks.{Seen}
 use Rattle.qs_script.specs.Finds.{HasNo}
@@ -9,12 +9,12 @@ use Rattle.qs_replay.specs.declared.lines.Came.TheVariants as came
 use Rattle.qs_replay.specs.declared.stop.Stop.{Stop}
 use Rattle.qs_replay.specs.declared.stop.Stop.TheVariants as stop
 use Rattle.qs_replay.specs.declared.replay.Turn.TheVariants as turn
-use Rattle.qs_replay.specs.Readings.{Comes}
+use Rattle.qs_script.specs.Cuts.{longest}
+use Rattle.qs_replay.specs.Readings.{Comes, IsUsedUp}
 use Rattle.qs_replay.specs.Tables.{Names}
 use Rattle.qs_replay.specs.Waiting.{Gives, Takes, Writes}
-use Rattle.qs_replay.specs.Scripts.{PlaysText, Turns}
+use Rattle.qs_replay.specs.Scripts.{IsTaken, PlaysText, Turns}
 use Rattle.qs_replay.proofs.Flows.{gives_behind, gives_on}
-use Rattle.qs_replay.proofs.Plays.{plays_none}
 
 -- what waited is written or waits
 given : (sent sent' : Option (List ℕ)) (out out1 : List ℕ) (F : Type 0) → (F → ⊥) → Writes sent out sent' out1 F → Gives sent out [] sent' out1
@@ -36,7 +36,7 @@ turn_goes seen left left' sent sent' waiting waiting' text out old new comes wri
   gives = gives_on sent sent' sent' out old.out new.out [] plays.1 (given sent sent' out old.out (came.Line ≡ came.WriteFault) (λ e. absurd (cc)) writes)
       (gives_behind sent' old.out plays.1 new.out plays.2.1);
   rest_is = inr refl;
-  does = (refl, plays.2.0);
+  does = (refl, comes.1, plays.2.0);
 }
 
 -- the last line was done
@@ -55,12 +55,24 @@ turn_last seen left left' sent sent' waiting waiting' text out old new comes wri
   gives = gives_on sent sent' sent' out old.out new.out [] plays.1 (given sent sent' out old.out (came.Last ≡ came.WriteFault) (λ e. absurd (cc)) writes)
       (gives_behind sent' old.out plays.1 new.out plays.2.1);
   rest_is = inr refl;
-  does = (refl, comes.2, plays.2.0);
+  does = (refl, comes.1, comes.2, comes.3, plays.2.0);
 }
+
+-- a whole line was taken, or the last one
+line_taken : (s : Stop) (text : List ℕ) (left : Option (List ℕ)) (waiting : List ℕ) → length text < longest → IsTaken s (text ++ 10 ∷ []) text left waiting
+line_taken stop.BadLine text left waiting short = inl (inl refl)
+line_taken stop.NotNext text left waiting short = (inl refl, short)
+line_taken stop.Memory text left waiting short = inr refl
+
+last_taken : (s : Stop) (text : List ℕ) (left : Option (List ℕ)) (waiting : List ℕ) → length text < longest → (text ≢ []) → IsUsedUp left waiting →
+    IsTaken s text text left waiting
+last_taken stop.BadLine text left waiting short some over = inl (inr (refl, some, over))
+last_taken stop.NotNext text left waiting short some over = (inr (refl, some, over), short)
+last_taken stop.Memory text left waiting short some over = inl refl
 
 -- a line wasn't done to its end
 stops_with : {D : Type 0} (seen : D → Seen) (left left' sent sent' : Option (List ℕ)) (waiting waiting' text taken out : List ℕ) (s : Stop) (old new : Desk D) →
-    Takes left waiting taken left' waiting' → HasNo 10 text → (taken ≡ text) ⊎ (taken ≡ text ++ 10 ∷ []) → Gives sent out [] sent' old.out →
+    Takes left waiting taken left' waiting' → HasNo 10 text → IsTaken s taken text left' waiting' → Gives sent out [] sent' old.out →
     PlaysText seen old text (Err s) new →
     Turns seen (record { left = left; waiting = waiting; sent = sent; out = out; world = old.world; names = old.table }) (turn.Stops s)
     (record { left = left'; waiting = waiting'; sent = sent'; out = new.out; world = new.world; names = new.table })
@@ -82,7 +94,7 @@ pub turn_stops : {D : Type 0} (seen : D → Seen) (left left' sent sent' : Optio
     Turns seen (record { left = left; waiting = waiting; sent = sent; out = out; world = old.world; names = old.table }) (turn.Stops s)
     (record { left = left'; waiting = waiting'; sent = sent'; out = new.out; world = new.world; names = new.table })
 turn_stops seen left left' sent sent' waiting waiting' text out s old new comes writes plays =
-    stops_with seen left left' sent sent' waiting waiting' text (text ++ 10 ∷ []) out s old new comes.0 comes.1.no_end (inr refl)
+    stops_with seen left left' sent sent' waiting waiting' text (text ++ 10 ∷ []) out s old new comes.0 comes.1.no_end (line_taken s text left' waiting' comes.1.short)
     (given sent sent' out old.out (came.Line ≡ came.WriteFault) (λ e. absurd (cc)) writes) plays
 
 pub turn_last_stops : {D : Type 0} (seen : D → Seen) (left left' sent sent' : Option (List ℕ)) (waiting waiting' text out : List ℕ) (s : Stop) (old new : Desk D) →
@@ -90,7 +102,7 @@ pub turn_last_stops : {D : Type 0} (seen : D → Seen) (left left' sent sent' : 
     Turns seen (record { left = left; waiting = waiting; sent = sent; out = out; world = old.world; names = old.table }) (turn.Stops s)
     (record { left = left'; waiting = waiting'; sent = sent'; out = new.out; world = new.world; names = new.table })
 turn_last_stops seen left left' sent sent' waiting waiting' text out s old new comes writes plays =
-    stops_with seen left left' sent sent' waiting waiting' text text out s old new comes.0 comes.1.no_end (inl refl)
+    stops_with seen left left' sent sent' waiting waiting' text text out s old new comes.0 comes.1.no_end (last_taken s text left' waiting' comes.1.short comes.2 comes.3)
     (given sent sent' out old.out (came.Last ≡ came.WriteFault) (λ e. absurd (cc)) writes) plays
 
 -- the line was too long
@@ -108,7 +120,7 @@ turn_long seen left left' sent sent' waiting waiting' text out out' w t comes wr
   takes = comes.0;
   gives = given sent sent' out out' (came.TooLong ≡ came.WriteFault) (λ e. absurd (cc)) writes;
   rest_is = inr refl;
-  does = (inl refl, refl, record { calls = []; plays = plays_none seen w; why = (refl, inl comes.2) });
+  does = (inr (refl, comes.2), refl, record { calls = []; plays = refl; why = (refl, inl (omega (arith, comes.2))) });
 }
 
 -- memory was refused for what is read
@@ -126,7 +138,7 @@ turn_memory seen left left' sent sent' waiting waiting' text out out' w t comes 
   takes = comes.0;
   gives = given sent sent' out out' (came.Memory ≡ came.WriteFault) (λ e. absurd (cc)) writes;
   rest_is = inr refl;
-  does = (inl refl, refl, record { calls = []; plays = plays_none seen w; why = inl refl });
+  does = (inl refl, refl, record { calls = []; plays = refl; why = inl refl });
 }
 
 -- there was no line more

@@ -1,5 +1,5 @@
 -- What a line of a script does: the events that it makes, what it prints, and the names after it.
-use Rattle.std.specs.Prelude.{◌≡◌, ℕ, ◌<◌, ◌⊎◌, Bool, true, false, List, [], ◌∷◌, ◌++◌, length, All, Option, Some, None, Result, Ok, Err}
+use Rattle.std.specs.Prelude.{◌≡◌, ℕ, ◌<◌, ◌≤◌, ◌⊎◌, Bool, true, false, List, [], ◌∷◌, ◌++◌, length, replicate, All, Option, Some, None, Result, Ok, Err}
 use Rattle.qs_bytes.specs.declared.ask.Ask.{Ask}
 use Rattle.qs_bytes.specs.declared.ask.Kind.TheVariants as kind
 use Rattle.qs_bytes.specs.declared.ask.Verdict.{Verdict}
@@ -25,13 +25,12 @@ use Rattle.qs_script.specs.declared.print.SessionNews.{SessionNews}
 use Rattle.qs_script.specs.declared.print.SessionNews.TheVariants as news
 use Rattle.qs_script.specs.Prints.{answer_line, session_line, step_line}
 use Rattle.qs_world.specs.Events.{IsNotNext}
-use Rattle.qs_world.specs.Openings.{Planned}
 use Rattle.qs_world.specs.Values.{WorldValue}
 use Rattle.qs_replay.specs.declared.stop.Stop.{Stop}
 use Rattle.qs_replay.specs.declared.stop.Stop.TheVariants as stop
 use Rattle.qs_replay.specs.declared.table.Made.{Made}
 use Rattle.qs_replay.specs.declared.desk.Desk.{Desk}
-use Rattle.qs_replay.specs.Calls.{Call, Plays}
+use Rattle.qs_replay.specs.Calls.{Call, Happened, Rigged, Plays}
 use Rattle.qs_replay.specs.Tables.{Gives, IsUsed, Names, request_of}
 
 abbrev pub read_ask : ℕ → ℕ → ℕ → Ask
@@ -46,23 +45,32 @@ IsActor t (who.Session s) actor t' = (n : ℕ) × (Gives t s n t' × (actor ≡ 
 IsActor t (who.Request s c) actor t' =
     (n : ℕ) × (m : Made) × (Gives t s n t' × (request_of t'.requests n c ≡ Some m) × (actor ≡ ARequest m.number))
 
--- a READ's buffer has its length; none where it is too long to be served, or memory was refused
+-- the longest request that is served, in bytes
+abbrev pub longest_request : ℕ
+longest_request = 33554432
+
+-- A READ's buffer has its length. There is none where it is too long to be served, or memory was refused.
 abbrev pub IsRoom : Option (List ℕ) → ℕ → Type 0
-IsRoom None n = Unit {0}
-IsRoom (Some bytes) n = length bytes ≡ n
+IsRoom None n = 0 < n
+IsRoom (Some bytes) n = (bytes ≡ replicate n 0) × (n ≤ longest_request)
+
+-- a WRITE's bytes, or none where memory was refused for them, so that they were lost
+abbrev pub bytes_or : Bool → List ℕ → Option (List ℕ)
+bytes_or true (b ∷ bytes) = None
+bytes_or lost bytes = Some bytes
 
 -- The event that a line makes.
-abbrev pub IsEventOf : Names → Line → Event → Names → Type 0
-IsEventOf t (line.Session s e) made t' = (n : ℕ) × (Gives t s n t' × (made ≡ event.Attach n e))
-IsEventOf t (line.End s) made t' = (n : ℕ) × (Gives t s n t' × (made ≡ event.Leave n))
-IsEventOf t (line.Read s c offset long) made t' =
+abbrev pub IsEventOf : Names → Line → Bool → Event → Names → Type 0
+IsEventOf t (line.Session s e) lost made t' = (n : ℕ) × (Gives t s n t' × (made ≡ event.Attach n e))
+IsEventOf t (line.End s) lost made t' = (n : ℕ) × (Gives t s n t' × (made ≡ event.Leave n))
+IsEventOf t (line.Read s c offset long) lost made t' =
     (n : ℕ) × (body : Option (List ℕ)) × (Gives t s n t' × IsRoom body long × (made ≡ event.Ask n (read_ask c offset long) body))
-IsEventOf t (line.Write s c offset bytes) made t' =
-    (n : ℕ) × (Gives t s n t' × (made ≡ event.Ask n (write_ask c offset bytes) (Some bytes)))
-IsEventOf t (line.Step actor now) made t' = (a : Actor) × (IsActor t actor a t' × (made ≡ event.Step a now))
-IsEventOf t (line.Run actor now) made t' = (a : Actor) × (IsActor t actor a t' × (made ≡ event.Step a now))
-IsEventOf t line.Nothing made t' = ⊥
-IsEventOf t (line.Fail j fail) made t' = ⊥
+IsEventOf t (line.Write s c offset bytes) lost made t' =
+    (n : ℕ) × (Gives t s n t' × (made ≡ event.Ask n (write_ask c offset bytes) (bytes_or lost bytes)))
+IsEventOf t (line.Step actor now) lost made t' = (a : Actor) × (IsActor t actor a t' × (made ≡ event.Step a now))
+IsEventOf t (line.Run actor now) lost made t' = (a : Actor) × (IsActor t actor a t' × (made ≡ event.Step a now))
+IsEventOf t line.Nothing lost made t' = ⊥
+IsEventOf t (line.Fail j fail) lost made t' = ⊥
 
 -- what became of a session
 abbrev pub news_of : Outcome → SessionNews
@@ -132,61 +140,55 @@ goes_on other = false
 
 -- a call of this event that isn't the last of a run
 pub record GoesOn (made : Event) (c : Call) : Type 0 where
-  pub event_is : c.event ≡ made
-  pub on : goes_on c.outcome ≡ true
+  pub outcome : Outcome
+  pub is : c ≡ Happened made outcome
+  pub on : goes_on outcome ≡ true
 
 -- a run of one actor: it goes on up to its last step
 pub record RunsOut (made : Event) (calls : List Call) (last : Outcome) : Type 0 where
   pub front : List Call
   pub on : All (GoesOn made) front
-  pub whole : calls ≡ front ++ record { event = made; outcome = last } ∷ []
+  pub whole : calls ≡ front ++ Happened made last ∷ []
   pub ends : goes_on last ≡ false
 
 -- one event with this outcome, or for a `run` all of a run with this last one
 abbrev pub CallsOf : Line → Event → Outcome → List Call → Type 0
 CallsOf (line.Run actor now) made o calls = RunsOut made calls o
-CallsOf other made o calls = calls ≡ record { event = made; outcome = o } ∷ []
+CallsOf other made o calls = calls ≡ Happened made o ∷ []
 
 -- what a line with events does
-pub record Acts (t : Names) (l : Line) (calls : List Call) (text : List ℕ) (t' : Names) : Type 0 where
+pub record Acts (t : Names) (l : Line) (lost : Bool) (calls : List Call) (text : List ℕ) (t' : Names) : Type 0 where
   pub made : Event
   pub mid : Names
   pub outcome : Outcome
-  pub event_is : IsEventOf t l made mid
+  pub event_is : IsEventOf t l lost made mid
   pub calls_are : CallsOf l made outcome calls
   pub notes : Notes made outcome mid t'
   pub text_is : text ≡ text_of l outcome
 
--- nothing happens
-pub record Rests (t : Names) (calls : List Call) (text : List ℕ) (t' : Names) : Type 0 where
-  pub calls_are : calls ≡ []
+-- nothing happens but these calls, and nothing is printed
+pub record Rests (t : Names) (given calls : List Call) (text : List ℕ) (t' : Names) : Type 0 where
+  pub calls_are : calls ≡ given
   pub text_is : text ≡ []
   pub same : t' ≡ t
 
--- what a line does; one that says nothing, or plans a failure, makes no event
-abbrev pub Does : Names → Line → List Call → List ℕ → Names → Type 0
-Does t line.Nothing calls text t' = Rests t calls text t'
-Does t (line.Fail j fail) calls text t' = Rests t calls text t'
-Does t other calls text t' = Acts t other calls text t'
-
--- a line that plans a failure plans it, and no other changes the core but by its calls
-abbrev pub Plans : {D : Type 0} → (D → Seen) → WorldValue D → Line → WorldValue D → Type 0
-Plans seen w (line.Fail j fail) w' = Planned seen w j fail w'
-Plans seen w line.Nothing w' = w' ≡ w
-Plans seen w other w' = Unit {0}
+-- what a line does: one that says nothing does nothing, one that plans a failure plans it, and the others make events
+abbrev pub Does : Names → Line → Bool → List Call → List ℕ → Names → Type 0
+Does t line.Nothing lost calls text t' = Rests t [] calls text t'
+Does t (line.Fail j fail) lost calls text t' = Rests t (Rigged j fail ∷ []) calls text t'
+Does t other lost calls text t' = Acts t other lost calls text t'
 
 -- a whole line was done: its calls, and what it prints
-pub record IsPlayed {D : Type 0} (seen : D → Seen) (w : WorldValue D) (t : Names) (l : Line) (calls : List Call) (text : List ℕ)
+pub record IsPlayed {D : Type 0} (seen : D → Seen) (w : WorldValue D) (t : Names) (l : Line) (lost : Bool) (calls : List Call) (text : List ℕ)
     (w' : WorldValue D) (t' : Names) : Type 0 where
   pub plays : Plays seen w calls w'
-  pub does : Does t l calls text t'
-  pub plans : Plans seen w l w'
+  pub does : Does t l lost calls text t'
 
 -- at a desk
-pub record Played {D : Type 0} (seen : D → Seen) (old : Desk D) (l : Line) (new : Desk D) : Type 0 where
+pub record Played {D : Type 0} (seen : D → Seen) (old : Desk D) (l : Line) (lost : Bool) (new : Desk D) : Type 0 where
   pub calls : List Call
   pub text : List ℕ
-  pub is : IsPlayed seen old.world old.table l calls text new.world new.table
+  pub is : IsPlayed seen old.world old.table l lost calls text new.world new.table
   pub printed : new.out ≡ old.out ++ text
 
 -- the line uses a cookie that was used with the name of its session
@@ -209,17 +211,18 @@ DrivesUnmade t other = ⊥
 pub record CannotCome {D : Type 0} (w : WorldValue D) (t : Names) (l : Line) : Type 0 where
   pub made : Event
   pub mid : Names
-  pub event_is : IsEventOf t l made mid
+  pub lost : Bool
+  pub event_is : IsEventOf t l lost made mid
   pub not_next : IsNotNext w made
 
--- some of the calls of an event's line: one, or for a `run` any number
+-- The calls of an event's line that wasn't done to its end: all of them, or for a `run` also its first ones.
 abbrev pub AreFirst : Line → Event → List Call → Type 0
-AreFirst (line.Run actor now) made calls = All (λ (c : Call). c.event ≡ made) calls
-AreFirst other made calls = (o : Outcome) × (calls ≡ record { event = made; outcome = o } ∷ [])
+AreFirst (line.Run actor now) made calls = All (GoesOn made) calls ⊎ ((o : Outcome) × RunsOut made calls o)
+AreFirst other made calls = (o : Outcome) × (calls ≡ Happened made o ∷ [])
 
--- the first events of a line that wasn't done to its end
+-- none, or these
 abbrev pub IsCut : Names → Line → List Call → Type 0
-IsCut t l calls = (calls ≡ []) ⊎ ((made : Event) × (mid : Names) × (IsEventOf t l made mid × AreFirst l made calls))
+IsCut t l calls = (calls ≡ []) ⊎ ((made : Event) × (mid : Names) × (lost : Bool) × (IsEventOf t l lost made mid × AreFirst l made calls))
 
 -- Why a line wasn't done, or not to its end: then nothing of it was printed, and but for refused memory nothing happened.
 abbrev pub Stopped : {D : Type 0} → (D → Seen) → Desk D → Line → Stop → Desk D → Type 0
@@ -229,15 +232,15 @@ Stopped seen old l stop.NotNext new =
 Stopped seen old l stop.Memory new =
     (calls : List Call) × (IsCut old.table l calls × Plays seen old.world calls new.world × (new.out ≡ old.out))
 
-abbrev pub PlaysLine : {D : Type 0} → (D → Seen) → Desk D → Line → Result Unit Stop → Desk D → Type 0
-PlaysLine seen old l (Ok u) new = Played seen old l new
-PlaysLine seen old l (Err s) new = Stopped seen old l s new
+abbrev pub PlaysLine : {D : Type 0} → (D → Seen) → Desk D → Line → Bool → Result Unit Stop → Desk D → Type 0
+PlaysLine seen old l lost (Ok u) new = Played seen old l lost new
+PlaysLine seen old l lost (Err s) new = Stopped seen old l s new
 
 -- the line asks so, with this body
-abbrev pub IsAsked : Line → List ℕ → Ask → Option (List ℕ) → Type 0
-IsAsked (line.Read s c offset long) session ask body = (s ≡ session) × (ask ≡ read_ask c offset long) × IsRoom body long
-IsAsked (line.Write s c offset bytes) session ask body = (s ≡ session) × (ask ≡ write_ask c offset bytes) × (body ≡ Some bytes)
-IsAsked other session ask body = ⊥
+abbrev pub IsAsked : Line → Bool → List ℕ → Ask → Option (List ℕ) → Type 0
+IsAsked (line.Read s c offset long) lost session ask body = (s ≡ session) × (ask ≡ read_ask c offset long) × IsRoom body long
+IsAsked (line.Write s c offset bytes) lost session ask body = (s ≡ session) × (ask ≡ write_ask c offset bytes) × (body ≡ bytes_or lost bytes)
+IsAsked other lost session ask body = ⊥
 
 -- a failure is planned for a stripe that is there
 abbrev pub IsPlanned : Line → Type 0

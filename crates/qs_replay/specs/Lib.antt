@@ -1,6 +1,7 @@
 pub mod Tables
 pub mod Calls
 pub mod Effects
+pub mod Ranks
 pub mod Readings
 pub mod Waiting
 pub mod Words

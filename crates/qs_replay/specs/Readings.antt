@@ -1,5 +1,5 @@
 -- Bytes that come from a source, and lines that are cut out of them.
-use Rattle.std.specs.Prelude.{◌≡◌, ℕ, ◌<◌, List, [], ◌∷◌, ◌++◌, length, Option, IfNone}
+use Rattle.std.specs.Prelude.{◌≡◌, ◌≢◌, ℕ, ◌<◌, List, [], ◌∷◌, ◌++◌, length, Option, IfNone}
 use Rattle.std.specs.Io.KnownBytes.{IsAtEnd}
 use Rattle.qs_script.specs.Cuts.{Cuts, longest}
 use Rattle.qs_script.specs.Finds.{HasNo}
@@ -38,7 +38,7 @@ pub record IsText (text : List ℕ) : Type 0 where
 -- too many bytes for a line. Where the input or the output failed, it was a front of a line.
 abbrev pub Comes : Option (List ℕ) → List ℕ → Came → List ℕ → Option (List ℕ) → List ℕ → Type 0
 Comes left waiting came.Line text left' waiting' = Takes left waiting (text ++ 10 ∷ []) left' waiting' × IsText text
-Comes left waiting came.Last text left' waiting' = Takes left waiting text left' waiting' × IsText text × IsUsedUp left' waiting'
+Comes left waiting came.Last text left' waiting' = Takes left waiting text left' waiting' × IsText text × (text ≢ []) × IsUsedUp left' waiting'
 Comes left waiting came.End text left' waiting' = Takes left waiting [] left' waiting' × IsUsedUp left' waiting'
 Comes left waiting came.TooLong text left' waiting' = Takes left waiting text left' waiting' × HasNo 10 text × (length text ≡ longest)
 Comes left waiting other text left' waiting' = Takes left waiting text left' waiting' × IsText text

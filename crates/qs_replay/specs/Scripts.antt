@@ -1,5 +1,5 @@
 -- A whole script: its lines, one after the other, and how it ends.
-use Rattle.std.specs.Prelude.{◌≡◌, ℕ, ◌+◌, ◌⊎◌, Bool, true, false, List, [], ◌∷◌, ◌++◌, length, Option, Result, Ok, Err}
+use Rattle.std.specs.Prelude.{◌≡◌, ◌≢◌, ℕ, ◌+◌, ◌<◌, ◌≤◌, ◌==◌, ◌⊎◌, Bool, true, false, List, [], ◌∷◌, ◌++◌, length, Option, Result, Ok, Err, if◌then◌else◌}
 use Rattle.qs_outside.specs.Blocks.{Seen}
 use Rattle.qs_bytes.specs.declared.status.Status.{Status}
 use Rattle.qs_bytes.specs.declared.status.Status.TheVariants as status
@@ -15,26 +15,31 @@ use Rattle.qs_replay.specs.declared.replay.Turn.{Turn}
 use Rattle.qs_replay.specs.declared.replay.Turn.TheVariants as turn
 use Rattle.qs_replay.specs.Calls.{Call, Plays}
 use Rattle.qs_replay.specs.Effects.{CannotCome, DrivesUnmade, IsCut, IsPlayed, UsesAgain}
-use Rattle.qs_replay.specs.Readings.{IsUsedUp}
+use Rattle.qs_replay.specs.Readings.{IsText, IsUsedUp}
 use Rattle.qs_replay.specs.Tables.{Names}
 use Rattle.qs_replay.specs.Waiting.{Gives, Takes}
 
 -- it is too long, or no line is spelled, or one that uses a cookie again
 abbrev pub IsBad : Names → List ℕ → Type 0
-IsBad t text = (length text ≡ longest) ⊎ ((l : Line) → Reads text l → ⊥) ⊎ ((l : Line) × (Reads text l × UsesAgain t l))
+IsBad t text = (longest ≤ length text) ⊎ ((l : Line) → Reads text l → ⊥) ⊎ ((l : Line) × (Reads text l × UsesAgain t l))
+
+-- its event can't come, or its actor is no request that was made
+abbrev pub IsUntimely : {D : Type 0} → WorldValue D → Names → List ℕ → Type 0
+IsUntimely w t text = (l : Line) × (Reads text l × (UsesAgain t l → ⊥) × (CannotCome w t l ⊎ DrivesUnmade t l))
 
 -- why a line wasn't done to its end, and the calls that it made
 abbrev pub Why : {D : Type 0} → WorldValue D → Names → List ℕ → Stop → List Call → Type 0
 Why w t text stop.BadLine calls = (calls ≡ []) × IsBad t text
-Why w t text stop.NotNext calls = (calls ≡ []) × ((l : Line) × (Reads text l × (UsesAgain t l → ⊥) × (CannotCome w t l ⊎ DrivesUnmade t l)))
+Why w t text stop.NotNext calls = (calls ≡ []) × IsUntimely w t text
 Why w t text stop.Memory calls = (calls ≡ []) ⊎ ((l : Line) × (Reads text l × IsCut t l calls))
 
--- the text of one line was done
+-- The text of one line was done. Of a `write` the bytes are lost where memory was refused for them; then the request has none.
 pub record DoesText {D : Type 0} (seen : D → Seen) (w : WorldValue D) (t : Names) (text : List ℕ) (calls : List Call) (printed : List ℕ)
     (w' : WorldValue D) (t' : Names) : Type 0 where
   pub line : Line
+  pub lost : Bool
   pub reads : Reads text line
-  pub is : IsPlayed seen w t line calls printed w' t'
+  pub is : IsPlayed seen w t line lost calls printed w' t'
 
 -- it wasn't done to its end; of it nothing was printed
 pub record LeavesText {D : Type 0} (seen : D → Seen) (w : WorldValue D) (t : Names) (text : List ℕ) (s : Stop) (w' : WorldValue D) : Type 0 where
@@ -48,13 +53,33 @@ PlaysText seen old text (Ok u) new =
     (calls : List Call) × (printed : List ℕ) × (DoesText seen old.world old.table text calls printed new.world new.table × (new.out ≡ old.out ++ printed))
 PlaysText seen old text (Err s) new = LeavesText seen old.world old.table text s new.world × (new.out ≡ old.out)
 
+-- one line was done, and then others
+pub record DoesFirst {D : Type 0} (seen : D → Seen) (w : WorldValue D) (t : Names) (text : List ℕ) (calls : List Call) (printed : List ℕ)
+    (others : WorldValue D → Names → List Call → List ℕ → Type 0) : Type 0 where
+  pub first : List Call
+  pub later : List Call
+  pub words : List ℕ
+  pub more : List ℕ
+  pub world : WorldValue D
+  pub names : Names
+  pub is_text : IsText text
+  pub does : DoesText seen w t text first words world names
+  pub rest : others world names later more
+  pub calls_are : calls ≡ first ++ later
+  pub printed_are : printed ≡ words ++ more
+
+-- no line was
+pub record DoesNone {D : Type 0} (w : WorldValue D) (t : Names) (calls : List Call) (printed : List ℕ) (w' : WorldValue D) (t' : Names) : Type 0 where
+  pub calls_are : calls ≡ []
+  pub printed_are : printed ≡ []
+  pub world : w' ≡ w
+  pub names : t' ≡ t
+
 -- texts of lines were done one after the other
-pub data AllDone {D : Type 0} (seen : D → Seen) (w : WorldValue D) (t : Names) : List (List ℕ) → List Call → List ℕ → WorldValue D → Names → Type 0 where
-  none : AllDone seen w t [] [] [] w t
-  more : {texts : List (List ℕ)} {calls : List Call} {printed : List ℕ} {w1 : WorldValue D} {t1 : Names} →
-      AllDone seen w t texts calls printed w1 t1 →
-      (text : List ℕ) (calls' : List Call) (printed' : List ℕ) (w2 : WorldValue D) (t2 : Names) → DoesText seen w1 t1 text calls' printed' w2 t2 →
-      AllDone seen w t (texts ++ text ∷ []) (calls ++ calls') (printed ++ printed') w2 t2
+abbrev pub AllDone : {D : Type 0} → (D → Seen) → WorldValue D → Names → List (List ℕ) → List Call → List ℕ → WorldValue D → Names → Type 0
+AllDone seen w t [] calls printed w' t' = DoesNone w t calls printed w' t'
+AllDone seen w t (text ∷ texts) calls printed w' t' =
+    DoesFirst seen w t text calls printed (λ mid names later more. AllDone seen mid names texts later more w' t')
 
 -- the texts, each with its LF
 abbrev pub spelled : List (List ℕ) → List ℕ
@@ -77,18 +102,24 @@ pub record Idles {D : Type 0} (before : Scene D) (printed : List ℕ) (after : S
   pub names : after.names ≡ before.names
   pub printed_is : printed ≡ []
 
--- a line's text with its LF, or without
-abbrev pub IsTaken : List ℕ → List ℕ → Type 0
-IsTaken taken text = (taken ≡ text) ⊎ (taken ≡ text ++ 10 ∷ [])
+-- a line's text was taken with its LF, or the last one, which isn't empty, without
+abbrev pub IsLine : List ℕ → List ℕ → Option (List ℕ) → List ℕ → Type 0
+IsLine taken text left waiting = (taken ≡ text ++ 10 ∷ []) ⊎ ((taken ≡ text) × (text ≢ []) × IsUsedUp left waiting)
+
+-- What was taken of a line that wasn't done: the line, or too many bytes, or, where memory was refused, some of it.
+abbrev pub IsTaken : Stop → List ℕ → List ℕ → Option (List ℕ) → List ℕ → Type 0
+IsTaken stop.BadLine taken text left waiting = IsLine taken text left waiting ⊎ ((taken ≡ text) × (length text ≡ longest))
+IsTaken stop.NotNext taken text left waiting = IsLine taken text left waiting × (length text < longest)
+IsTaken stop.Memory taken text left waiting = (taken ≡ text) ⊎ (taken ≡ text ++ 10 ∷ [])
 
 abbrev pub TurnDoes : {D : Type 0} → (D → Seen) → Scene D → Turn → List ℕ → List ℕ → List Call → List ℕ → Scene D → Type 0
 TurnDoes seen before turn.Goes text taken calls printed after =
-    (taken ≡ text ++ 10 ∷ []) × DoesText seen before.world before.names text calls printed after.world after.names
+    (taken ≡ text ++ 10 ∷ []) × IsText text × DoesText seen before.world before.names text calls printed after.world after.names
 TurnDoes seen before turn.Last text taken calls printed after =
-    (taken ≡ text) × IsUsedUp after.left after.waiting × DoesText seen before.world before.names text calls printed after.world after.names
+    (taken ≡ text) × IsText text × (text ≢ []) × IsUsedUp after.left after.waiting × DoesText seen before.world before.names text calls printed after.world after.names
 TurnDoes seen before turn.End text taken calls printed after = (taken ≡ []) × IsUsedUp after.left after.waiting × Idles before printed after
 TurnDoes seen before (turn.Stops s) text taken calls printed after =
-    IsTaken taken text × (printed ≡ []) × LeavesText seen before.world before.names text s after.world
+    IsTaken s taken text after.left after.waiting × (printed ≡ []) × LeavesText seen before.world before.names text s after.world
 TurnDoes seen before other text taken calls printed after = (taken ≡ text) × Idles before printed after
 
 -- one line was read, and what came of it
@@ -139,28 +170,40 @@ status_of (turn.Stops stop.Memory) n = status.Memory
 status_of turn.ReadFault n = status.ReadFault
 status_of turn.WriteFault n = status.WriteFault
 
--- the texts of the lines, each with its LF, which the last may lack
+-- the texts of the lines, each with its LF, which a last one that isn't empty may lack
 abbrev pub IsScript : List ℕ → List (List ℕ) → Type 0
-IsScript taken texts = (taken ≡ spelled texts) ⊎ (taken ++ 10 ∷ [] ≡ spelled texts)
+IsScript taken texts = (taken ≡ spelled texts) ⊎
+    ((front : List (List ℕ)) × (text : List ℕ) × ((texts ≡ front ++ text ∷ []) × (text ≢ []) × (taken ≡ spelled front ++ text)))
 
--- the line behind the texts wasn't done to its end
-pub record BreaksOff {D : Type 0} (seen : D → Seen) (s : Stop) (texts : List (List ℕ)) (taken : List ℕ) (w : WorldValue D) (t : Names)
-    (after : WorldValue D) : Type 0 where
+-- the line behind the texts wasn't done to its end; its calls were these
+pub record BreaksOff {D : Type 0} (s : Stop) (texts : List (List ℕ)) (taken : List ℕ) (cut : List Call) (w : WorldValue D) (t : Names)
+    (left : Option (List ℕ)) (waiting : List ℕ) : Type 0 where
   pub text : List ℕ
+  pub bytes : List ℕ
   pub no_end : HasNo 10 text
-  pub taken_is : (taken ≡ spelled texts ++ text) ⊎ (taken ≡ spelled texts ++ text ++ 10 ∷ [])
-  pub leaves : LeavesText seen w t text s after
+  pub taken_is : taken ≡ spelled texts ++ bytes
+  pub is_taken : IsTaken s bytes text left waiting
+  pub why : Why w t text s cut
 
--- How a script ends behind the texts of the lines that were done: the names and the core after these, the input, and the core at the end.
-abbrev pub Ends : {D : Type 0} → (D → Seen) → Status → ℕ → List (List ℕ) → List ℕ → WorldValue D → Names → Option (List ℕ) → List ℕ → WorldValue D → Type 0
-Ends seen status.Done budget texts taken w t left waiting w' = IsScript taken texts × IsUsedUp left waiting × (w' ≡ w)
-Ends seen (status.BadLine n) budget texts taken w t left waiting w' = (n ≡ length texts + 1) × BreaksOff seen stop.BadLine texts taken w t w'
-Ends seen (status.NotNext n) budget texts taken w t left waiting w' = (n ≡ length texts + 1) × BreaksOff seen stop.NotNext texts taken w t w'
-Ends seen status.Memory budget texts taken w t left waiting w' = BreaksOff seen stop.Memory texts taken w t w'
-Ends seen status.ReadFault budget texts taken w t left waiting w' = (w' ≡ w) × ((text : List ℕ) × (HasNo 10 text × (taken ≡ spelled texts ++ text)))
-Ends seen status.WriteFault budget texts taken w t left waiting w' = Plays seen w [] w'
-Ends seen status.Spent budget texts taken w t left waiting w' = (length texts ≡ budget) × (taken ≡ spelled texts) × (w' ≡ w)
-Ends seen other budget texts taken w t left waiting w' = ⊥
+-- a front of a line was taken
+abbrev pub IsBegun : List (List ℕ) → List ℕ → Type 0
+IsBegun texts taken = (text : List ℕ) × (HasNo 10 text × (taken ≡ spelled texts ++ text))
+
+-- Where the output failed: the texts were taken, each with its LF, and perhaps bytes behind them; or the whole script was.
+abbrev pub IsFront : List (List ℕ) → List ℕ → Option (List ℕ) → List ℕ → Type 0
+IsFront texts taken left waiting = ((more : List ℕ) × (taken ≡ spelled texts ++ more)) ⊎ (IsScript taken texts × IsUsedUp left waiting)
+
+-- How a script ends behind the texts of the lines that were done: what was taken, the calls of a line that was cut off, the names and the core
+-- before these, and the input. A script whose last line has its LF is done only within the budget.
+abbrev pub Ends : {D : Type 0} → Status → ℕ → List (List ℕ) → List ℕ → List Call → WorldValue D → Names → Option (List ℕ) → List ℕ → Type 0
+Ends status.Done budget texts taken cut w t left waiting = IsScript taken texts × IsUsedUp left waiting × (cut ≡ []) × (taken ≡ spelled texts → length texts < budget)
+Ends (status.BadLine n) budget texts taken cut w t left waiting = (n ≡ length texts + 1) × BreaksOff stop.BadLine texts taken cut w t left waiting × (n ≤ budget)
+Ends (status.NotNext n) budget texts taken cut w t left waiting = (n ≡ length texts + 1) × BreaksOff stop.NotNext texts taken cut w t left waiting × (n ≤ budget)
+Ends status.Memory budget texts taken cut w t left waiting = BreaksOff stop.Memory texts taken cut w t left waiting
+Ends status.ReadFault budget texts taken cut w t left waiting = (cut ≡ []) × IsBegun texts taken
+Ends status.WriteFault budget texts taken cut w t left waiting = (cut ≡ []) × IsFront texts taken left waiting
+Ends status.Spent budget texts taken cut w t left waiting = (length texts ≡ budget) × (taken ≡ spelled texts) × (cut ≡ [])
+Ends other budget texts taken cut w t left waiting = ⊥
 
 -- A script was replayed: its lines were done in order up to its end, and what they print was written, a front
 -- of it where the output failed or memory was refused.
@@ -171,9 +214,34 @@ pub record Replays {D : Type 0} (seen : D → Seen) (before : Scene D) (budget :
   pub world : WorldValue D
   pub names : Names
   pub done : AllDone seen before.world before.names texts calls printed world names
+  pub few : length texts ≤ budget
   pub taken : List ℕ
   pub takes : Takes before.left before.waiting taken after.left after.waiting
   pub rest : List ℕ
   pub gives : Gives before.sent before.out printed after.sent rest
   pub whole : is_whole result ≡ true → rest ≡ []
-  pub ends : Ends seen result budget texts taken world names after.left after.waiting after.world
+  pub cut : List Call
+  pub cut_plays : Plays seen world cut after.world
+  pub ends : Ends result budget texts taken cut world names after.left after.waiting
+
+-- The lines of a script: each ends in LF, which the last may lack where it isn't empty.
+abbrev pub lines_from : List ℕ → List ℕ → List (List ℕ)
+lines_from [] [] = []
+lines_from (b ∷ line) [] = (b ∷ line) ∷ []
+lines_from line (b ∷ bytes) = if b == 10 then line ∷ lines_from [] bytes else lines_from (line ++ b ∷ []) bytes
+
+abbrev pub lines_of : List ℕ → List (List ℕ)
+lines_of script = lines_from [] script
+
+-- the line behind these is so
+abbrev pub IsNextLine : List (List ℕ) → List (List ℕ) → (List ℕ → Type 0) → Type 0
+IsNextLine lines texts P = (line : List ℕ) × (rest : List (List ℕ)) × ((lines ≡ texts ++ line ∷ rest) × P line)
+
+-- How far a replay came in the lines of its script, by its status: through all of them; up to the first that is bad, or can't come; through
+-- as many as the budget lets; or through some.
+abbrev pub ReachesLine : {D : Type 0} → Status → ℕ → List (List ℕ) → List (List ℕ) → WorldValue D → Names → Type 0
+ReachesLine status.Done budget lines texts w t = texts ≡ lines
+ReachesLine (status.BadLine n) budget lines texts w t = (n ≡ length texts + 1) × IsNextLine lines texts (IsBad t)
+ReachesLine (status.NotNext n) budget lines texts w t = (n ≡ length texts + 1) × IsNextLine lines texts (λ line. IsText line × IsUntimely w t line)
+ReachesLine status.Spent budget lines texts w t = (length texts ≡ budget) × ((rest : List (List ℕ)) × (lines ≡ texts ++ rest))
+ReachesLine other budget lines texts w t = (rest : List (List ℕ)) × (lines ≡ texts ++ rest)

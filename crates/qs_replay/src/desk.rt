@@ -1,9 +1,10 @@
-ghost use Rattle.std.specs.Prelude.{◌≡◌, ◌↔◌, ◌++◌, ◌∷◌, [], All, ℕ, List, Err, IfOk, IfSome, OnOk, OnErr, MatchResult, length, true};
+ghost use Rattle.std.specs.Prelude.{◌≡◌, ◌↔◌, ◌++◌, ◌∷◌, [], All, ℕ, List, Err, IfOk, IfSome, OnOk, OnErr, MatchResult, ◌<◌, length as list_length, true};
 ghost use Rattle.qs_part.specs.declared.event.Event.TheVariants.{Step as AStep};
 ghost use Rattle.qs_script.specs.declared.line.Line.TheVariants as line;
-ghost use Rattle.qs_world.specs.Events.{IsNotNext};
-ghost use Rattle.qs_replay.specs.Calls.{Call, Plays};
-ghost use Rattle.qs_replay.specs.Effects.{IsRoom, GoesOn, IsActor, IsUnmade, PlaysLine, RunsOut, answer_text, goes_on, moves_on, note_text, run_text, step_text, read_ask, write_ask};
+ghost use Rattle.qs_world.specs.Events.{IsNotNext, TakesMemory};
+ghost use Rattle.qs_replay.specs.Calls.{Call, Happened, Plays};
+ghost use Rattle.qs_replay.specs.Ranks.{rank_at};
+ghost use Rattle.qs_replay.specs.Effects.{IsRoom, bytes_or, GoesOn, IsActor, IsUnmade, PlaysLine, RunsOut, answer_text, goes_on, moves_on, note_text, run_text, step_text, read_ask, write_ask};
 ghost use Rattle.qs_replay.specs.declared.stop.Stop.TheVariants.{NotNext, Memory as NoMemory, BadLine};
 
 use crate::stop::Stop;
@@ -26,11 +27,15 @@ pub struct Desk<D: Disk + Drop> {
     pub alloc: Global,
 }
 
-/// An event happens, or it can't come now, or memory is refused; then nothing changes.
+/// An event happens, or it can't come now, or memory is refused; then nothing changes. Where it lets its
+/// actor go on, it can come again, and the actor has fewer steps to make.
 pub fn happen<D: Disk + Drop>(world: &mut World<D>, event: Event) -> Result<Outcome, Stop>
-    ensures ok { IfOk result (λ outcome. Plays D.seen world.old (record { event = event; outcome = outcome } ∷ []) world.new) }
+    ensures ok { IfOk result (λ outcome. Plays D.seen world.old (Happened event outcome ∷ []) world.new) }
+    ensures on { IfOk result (λ outcome. goes_on outcome ≡ true →
+        (rank_at world.new event < rank_at world.old event) × (IsNotNext world.new event → ⊥)) }
     ensures err { OnErr result (world.new ≡ world.old) }
     ensures next { result ≡ Err NotNext → IsNotNext world.old event }
+    ensures memory { result ≡ Err NoMemory → TakesMemory event }
     ensures form { result ≡ Err BadLine → ⊥ }
 {
     match world.step(event) {
@@ -72,35 +77,28 @@ fn outcome_goes_on(outcome: &Outcome) -> bool
     }
 }
 
-/// How many steps a run makes at most.
-const MOST_STEPS: u64 = u64::MAX;
-
 /// An actor's steps, up to an answer, a Detach, or a step that leaves it as it was; the outcome of the
-/// last one. A run of 2^64 steps is given up as refused memory.
+/// last one.
 pub fn run_out<D: Disk + Drop>(
     world: &mut World<D>,
     actor: Actor,
     now: u64,
 ) -> Result<Outcome, Stop>
     ensures ok { IfOk result (λ last. (calls : List Call) × (Plays D.seen world.old calls world.new × RunsOut (AStep actor now) calls last)) }
-    ensures next { result ≡ Err NotNext → IsNotNext world.old (AStep actor now) × (world.new ≡ world.old) }
-    ensures form { result ≡ Err BadLine → ⊥ }
-    ensures memory { result ≡ Err NoMemory → (calls : List Call) × (Plays D.seen world.old calls world.new × All (λ (c : Call). c.event ≡ AStep actor now) calls) }
+    ensures next { OnErr result (IsNotNext world.old (AStep actor now) × (world.new ≡ world.old)) }
+    ensures only { (result ≡ Err BadLine → ⊥) × (result ≡ Err NoMemory → ⊥) }
 {
     let mut outcome = match happen(world, Event::Step { actor, now }) {
         Ok(outcome) => outcome,
         Err(stop) => return Err(stop),
     };
-    for _ in 0..MOST_STEPS {
-        if !outcome_goes_on(&outcome) {
-            return Ok(outcome);
-        }
+    'steps: while outcome_goes_on(&outcome) {
         outcome = match happen(world, Event::Step { actor, now }) {
             Ok(next) => next,
-            Err(_) => return Err(Stop::Memory),
+            Err(_) => unreachable!(),
         };
     }
-    Err(Stop::Memory)
+    Ok(outcome)
 }
 
 /// Writes an answer's line at the end, for a request.
@@ -173,9 +171,23 @@ pub fn room_for(alloc: Global, length: u64) -> Option<Bytes>
     if length > LONGEST {
         return None;
     }
+    if length == 0 {
+        return Some(Bytes::of(Vec::new(alloc)));
+    }
     match vec![in alloc; 0; length as usize] {
         Ok(bytes) => Some(Bytes::of(bytes)),
         Err(_) => None,
+    }
+}
+
+/// The body of a WRITE of this length whose bytes found no memory: none, but where none are wanted.
+pub fn lost_bytes(alloc: Global, length: u64) -> Option<Bytes>
+    ensures { (bytes : List ℕ) → list_length bytes ≡ length → result ≡ bytes_or true bytes }
+{
+    if length == 0 {
+        Some(Bytes::of(Vec::new(alloc)))
+    } else {
+        None
     }
 }
 

@@ -1,9 +1,9 @@
-ghost use Rattle.std.specs.Prelude.{◌≡◌, ◌<◌, Some, false, true};
+ghost use Rattle.std.specs.Prelude.{◌≡◌, ◌<◌, ℕ, Bool, List, Some, false, true, length as list_length};
 ghost use Rattle.qs_script.specs.declared.line.Line.{Line as ALine};
 ghost use Rattle.qs_script.specs.declared.line.Line.TheVariants as line;
 ghost use Rattle.qs_replay.specs.Effects.{IsAsked, IsPlanned, PlaysLine, news_of as the_news};
 
-use crate::desk::{Desk, actor_for, happen, room_for, run_lines, run_out, step_lines};
+use crate::desk::{Desk, actor_for, happen, lost_bytes, room_for, run_lines, run_out, step_lines};
 use crate::stop::Stop;
 use crate::table::Made;
 use qs_bytes::{Ask, Bytes, Kind, Name};
@@ -28,7 +28,7 @@ fn plain_ask(kind: Kind, cookie: u64, offset: u64, length: u64) -> Ask
 impl<D: Disk + Drop> Desk<D> {
     /// `session S EXPORT`
     pub fn attach(&mut self, session: SessionName, export: Name) -> Result<(), Stop>
-        ensures { PlaysLine D.seen self.old (line.Session session export) result self.new }
+        ensures { PlaysLine D.seen self.old (line.Session session export) false result self.new }
     {
         let number = match self.table.number(session) {
             Ok(number) => number,
@@ -50,7 +50,7 @@ impl<D: Disk + Drop> Desk<D> {
 
     /// `end S`
     pub fn end(&mut self, session: SessionName) -> Result<(), Stop>
-        ensures { PlaysLine D.seen self.old (line.End session) result self.new }
+        ensures { PlaysLine D.seen self.old (line.End session) false result self.new }
     {
         let number = match self.table.number(session) {
             Ok(number) => number,
@@ -68,7 +68,7 @@ impl<D: Disk + Drop> Desk<D> {
 
     /// A session asks for something, by a `read` or a `write`.
     fn ask(&mut self, session: SessionName, ask: Ask, body: Option<Bytes>) -> Result<(), Stop>
-        ensures { (l : ALine) → IsAsked l session ask body → PlaysLine D.seen self.old l result self.new }
+        ensures { (l : ALine) (lost : Bool) → IsAsked l lost session ask body → PlaysLine D.seen self.old l lost result self.new }
     {
         let number = match self.table.number(session) {
             Ok(number) => number,
@@ -107,7 +107,7 @@ impl<D: Disk + Drop> Desk<D> {
         offset: u64,
         length: u64,
     ) -> Result<(), Stop>
-        ensures { PlaysLine D.seen self.old (line.Read session cookie offset length) result self.new }
+        ensures { PlaysLine D.seen self.old (line.Read session cookie offset length) false result self.new }
     {
         let body = room_for(self.alloc, length);
         self.ask(session, plain_ask(Kind::Read, cookie, offset, length), body)
@@ -121,15 +121,31 @@ impl<D: Disk + Drop> Desk<D> {
         offset: u64,
         body: Bytes,
     ) -> Result<(), Stop>
-        ensures { PlaysLine D.seen self.old (line.Write session cookie offset body) result self.new }
+        ensures { PlaysLine D.seen self.old (line.Write session cookie offset body) false result self.new }
     {
         let ask = plain_ask(Kind::Write, cookie, offset, body.len() as u64);
         self.ask(session, ask, Some(body))
     }
 
+    /// `write S C OFFSET BYTES`, where memory was refused for the bytes: the request has none.
+    pub fn write_lost(
+        &mut self,
+        session: SessionName,
+        cookie: u64,
+        offset: u64,
+        length: u64,
+    ) -> Result<(), Stop>
+        ensures { (bytes : List ℕ) → list_length bytes ≡ length →
+            PlaysLine D.seen self.old (line.Write session cookie offset bytes) true result self.new }
+    {
+        let body = lost_bytes(self.alloc, length);
+        let ask = plain_ask(Kind::Write, cookie, offset, length);
+        self.ask(session, ask, body)
+    }
+
     /// `step ACTOR [READING]`
     pub fn step(&mut self, who: &ScriptActor, now: u64) -> Result<(), Stop>
-        ensures { PlaysLine D.seen self.old (line.Step who.now now) result self.new }
+        ensures { PlaysLine D.seen self.old (line.Step who.now now) false result self.new }
     {
         let actor = match actor_for(&mut self.table, who) {
             Ok(actor) => actor,
@@ -151,7 +167,7 @@ impl<D: Disk + Drop> Desk<D> {
 
     /// `run ACTOR [READING]`
     pub fn run(&mut self, who: &ScriptActor, now: u64) -> Result<(), Stop>
-        ensures { PlaysLine D.seen self.old (line.Run who.now now) result self.new }
+        ensures { PlaysLine D.seen self.old (line.Run who.now now) false result self.new }
     {
         let actor = match actor_for(&mut self.table, who) {
             Ok(actor) => actor,
@@ -188,7 +204,7 @@ impl<D: RiggedDisk + Drop> Desk<D> {
     /// `fail STRIPE KIND`
     fn plan(&mut self, stripe: u64, kind: Fail) -> Result<(), Stop>
         requires { stripe < 8 }
-        ensures { PlaysLine D.Disk.seen self.old (line.Fail stripe kind) result self.new }
+        ensures { PlaysLine D.Disk.seen self.old (line.Fail stripe kind) false result self.new }
     {
         self.world.plan(stripe as u8, kind);
         Ok(())
@@ -197,7 +213,7 @@ impl<D: RiggedDisk + Drop> Desk<D> {
     /// One line is done.
     pub fn play(&mut self, line: Line) -> Result<(), Stop>
         requires { IsPlanned line }
-        ensures { PlaysLine D.Disk.seen self.old line result self.new }
+        ensures { PlaysLine D.Disk.seen self.old line false result self.new }
     {
         match line {
             Line::Nothing => Ok(()),

@@ -1,4 +1,5 @@
-ghost use Rattle.std.specs.Prelude.{◌≡◌, ◌<◌, ◌≤◌, ◌-◌, ◌^◌, ◌⊎◌};
+ghost use Rattle.std.specs.Prelude.{◌≡◌, ◌<◌, ◌≤◌, ◌-◌, ◌^◌, ◌⊎◌, List, ℕ};
+ghost use Rattle.qs_script.specs.Lines.{IsLineFault, Reads};
 ghost use Rattle.qs_bytes.specs.declared.status.Status.TheVariants as S;
 ghost use Rattle.qs_outside.specs.Faults.{Rose};
 ghost use Rattle.qs_replay.specs.Scripts.{Finishes, PlaysText, Replays, Turns, status_of};
@@ -29,14 +30,28 @@ pub enum Turn {
     WriteFault,
 }
 
+/// A text that isn't read as a line: it spells none, or a WRITE whose bytes found no memory.
+fn play_fault<D: RiggedDisk + Drop>(desk: &mut Desk<D>, fault: &LineFault) -> Result<(), Stop>
+    ensures { (text : List ℕ) → IsLineFault (Reads text) fault.now → PlaysText D.Disk.seen desk.old text result desk.new }
+{
+    match fault {
+        LineFault::OutOfForm => Err(Stop::BadLine),
+        LineFault::NoBody {
+            session,
+            cookie,
+            offset,
+            length,
+        } => desk.write_lost(*session, *cookie, *offset, *length),
+    }
+}
+
 /// The line that a text spells is done.
 fn play_text<D: RiggedDisk + Drop>(desk: &mut Desk<D>, text: &[u8]) -> Result<(), Stop>
     ensures { PlaysText D.Disk.seen desk.old text.now result desk.new }
 {
     match read_line(desk.alloc, text) {
         Ok(line) => desk.play(line),
-        Err(LineFault::OutOfForm) => Err(Stop::BadLine),
-        Err(LineFault::Memory) => Err(Stop::Memory),
+        Err(fault) => play_fault(desk, &fault),
     }
 }
 

@@ -1,10 +1,12 @@
 -- The words that spell the data of a WRITE.
-use Rattle.std.proofs.Common.{◌≡◌, ℕ, ◌<◌, List, [], ◌∷◌, ◌++◌, Ok, take, drop, length, sym, ap, ◌∙◌, subst, arith, length-append}
-use Rattle.std.specs.Prelude.{codes, slice_index, Result, Err, IfOk}
-use Rattle.qs_script.specs.declared.line.LineFault.{LineFault}
+use Rattle.std.proofs.Common.{◌≡◌, ℕ, ◌<◌, ◌≤◌, List, [], ◌∷◌, ◌++◌, Ok, take, drop, length, refl, sym, ap, ◌∙◌, subst, arith, length-append}
+use Rattle.std.specs.Prelude.{codes, slice_index, Result, Err, IfOk, IfErr, MatchResult}
+use Rattle.qs_script.specs.declared.data.DataFault.{DataFault}
+use Rattle.qs_script.specs.declared.data.DataFault.TheVariants.{OutOfForm, Memory}
 use Rattle.hex.specs.Hex.{decode_of, decode_sized, is_hex_digit}
-use Rattle.hex.proofs.HexLemmas.{decode_of-ok, decode_sized-twice}
-use Rattle.qs_script.specs.Spelled.{Repeats, SpellsData, nothing, repeated, pairs}
+use Rattle.hex.specs.declared.error.FromHexError.{FromHexError}
+use Rattle.hex.proofs.HexLemmas.{decode_of-ok, decode_sized-ok, decode_sized-twice}
+use Rattle.qs_script.specs.Spelled.{IsDataFault, Repeats, SpellsData, nothing, repeated, pairs}
 
 -- a star behind two bytes parts a word
 pub star_word : (word : List ℕ) → 2 < length word → slice_index word 2 ≡ 42 → word ≡ take 2 word ++ 42 ∷ drop 3 word
@@ -64,11 +66,46 @@ spelled_empty bytes (nothing e b) = cc
 spelled_empty bytes (repeated pair digits e r) = let lengths = ap length e in omega (arith, length-append pair (42 ∷ digits))
 spelled_empty bytes (pairs some e) = omega arith
 
-pub ok_star : (word : List ℕ) (result : Result (List ℕ) LineFault) → 2 < length word → slice_index word 2 ≡ 42 →
+pub ok_star : (word : List ℕ) (result : Result (List ℕ) DataFault) → 2 < length word → slice_index word 2 ≡ 42 →
     IfOk result (Repeats (take 2 word) (drop 3 word)) → IfOk result (SpellsData word)
 ok_star word (Ok bytes) long star is = repeated (take 2 word) (drop 3 word) (star_word word long star) is
 ok_star word (Err fault) long star is = tt
 
+pub fault_star : (word : List ℕ) (result : Result (List ℕ) DataFault) → 2 < length word → slice_index word 2 ≡ 42 →
+    IfErr result (IsDataFault (Repeats (take 2 word) (drop 3 word))) → IfErr result (IsDataFault (SpellsData word))
+fault_star word (Ok bytes) long star is = tt
+fault_star word (Err OutOfForm) long star is = λ bytes spelled. is bytes (spelled_star word long star bytes spelled)
+fault_star word (Err (Memory size)) long star is = (is.0, (repeated (take 2 word) (drop 3 word) (star_word word long star) is.1.0, is.1.1))
+
+pub fault_pairs : (word : List ℕ) (result : Result (List ℕ) DataFault) → 1 ≤ length word → (word ≡ codes "-" → ⊥) →
+    (2 < length word → slice_index word 2 ≡ 42 → ⊥) → IfErr result (IsDataFault (λ bytes. decode_of word ≡ Ok bytes)) →
+    IfErr result (IsDataFault (SpellsData word))
+fault_pairs word (Ok bytes) some not_minus not_star is = tt
+fault_pairs word (Err OutOfForm) some not_minus not_star is = λ bytes spelled. is bytes (spelled_pairs word not_minus not_star bytes spelled)
+fault_pairs word (Err (Memory size)) some not_minus not_star is = (is.0, (pairs some is.1.0, is.1.1))
+
 -- what spells one byte is decoded into room for one
 pub decodes_one : (pair digits bytes : List ℕ) (is : Repeats pair digits bytes) → decode_sized pair 1 ≡ Ok (is.byte ∷ [])
 decodes_one pair digits bytes is = decode_sized-twice pair 1 (pair_is_two pair is.byte is.one) ∙ is.one
+
+-- what a slice's decoding wrote is what the text decodes to
+written : (decoded : Result (List ℕ) FromHexError) (result : Result Unit FromHexError) (out : List ℕ) →
+    MatchResult decoded (λ bytes. (result ≡ Ok tt) × (out ≡ bytes)) (λ e. result ≡ Err e) → result ≡ Ok tt → decoded ≡ Ok out
+written (Ok bytes) result out is ok = ap (λ (b : List ℕ). Ok b) (sym is.1)
+written (Err e) result out is ok = absurd (cc (sym is ∙ ok))
+
+one_of : (out : List ℕ) → length out ≡ 1 → out ≡ slice_index out 0 ∷ []
+one_of [] e = absurd (omega arith)
+one_of (x ∷ []) e = refl
+one_of (x ∷ y ∷ out) e = absurd (omega arith)
+
+-- what was decoded into room for one byte spells that byte
+pub spells_one : (pair out : List ℕ) (result : Result Unit FromHexError) →
+    MatchResult (decode_sized pair 1) (λ bytes. (result ≡ Ok tt) × (out ≡ bytes)) (λ e. result ≡ Err e) → result ≡ Ok tt →
+    decode_of pair ≡ Ok (slice_index out 0 ∷ [])
+spells_one pair out result is ok =
+    let sized = written (decode_sized pair 1) result out is ok in
+    let long = decode_sized-ok pair 1 out sized in
+    let whole = sym (decode_sized-twice pair 1 long) ∙ sized in
+    let twice = (decode_of-ok pair out whole).2 in
+    whole ∙ ap (λ (b : List ℕ). Ok b) (one_of out (omega arith))

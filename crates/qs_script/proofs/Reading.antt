@@ -1,10 +1,12 @@
 -- What the words of a line tell of it.
 use Rattle.std.proofs.Common.{◌≡◌, ℕ, ◌<◌, ◌⊎◌, Bool, true, false, cond, arith, List, [], ◌∷◌, get_or, length, refl, sym, ap, subst, inl, inr}
-use Rattle.std.specs.Prelude.{◌==◌, Result, Ok, Err, IfOk}
+use Rattle.std.specs.Prelude.{◌==◌, Option, Some, None, Result, Ok, Err, IfOk, IfErr, IsNone}
 use Rattle.qs_script.specs.declared.line.LineFault.{LineFault}
+use Rattle.qs_script.specs.declared.line.LineFault.TheVariants as fault
 use Rattle.std.specs.List.{onto_first}
+use Rattle.std.specs.Option.{ok_or}
 use Rattle.qs_script.specs.SessionNames.{IsSessionName}
-use Rattle.qs_script.specs.Lines.{Asks, Drives, IsPlace, IsQuiet, Place, Reads, WordsSpell, words_of}
+use Rattle.qs_script.specs.Lines.{Asks, Drives, IsLineFault, IsPlace, IsQuiet, Place, Reads, WordsSpell, words_of}
 use Rattle.qs_script.specs.Spelled.{SpellsActor, SpellsData, SpellsNumber, greatest}
 use Rattle.qs_script.specs.Verbs.{verb_word}
 use Rattle.qs_script.specs.declared.actor.ScriptActor.{ScriptActor}
@@ -53,7 +55,8 @@ no_verb first rest bad read is =
     bad begun.verb_is (cc)
 
 -- words that drive an actor
-pub drives_bare : (v : Verb) (first word : List ℕ) (who : ScriptActor) → first ≡ verb_word v → SpellsActor word who → Drives (verb_word v) (first ∷ word ∷ []) who 0
+pub drives_bare : (v : Verb) (first word : List ℕ) (who : ScriptActor) → first ≡ verb_word v → SpellsActor word who →
+    Drives (verb_word v) (first ∷ word ∷ []) who 0
 drives_bare v first word who e is = record {
   who = word;
   actor_is = is;
@@ -173,6 +176,22 @@ ok_of text words (Ok read) e is =
     let spells : List (List ℕ) → Type 0 = λ ws. WordsSpell ws read in
     of_words text read (subst spells (sym e) is)
 ok_of text words (Err fault) e is = tt
+
+-- why the words aren't read, the text isn't
+pub fault_of : (text : List ℕ) (words : List (List ℕ)) (result : Result Line LineFault) → words_of text ≡ words → (IsQuiet text → ⊥) →
+    IfErr result (IsLineFault (WordsSpell words)) → IfErr result (IsLineFault (Reads text))
+fault_of text words (Ok read) e loud is = tt
+fault_of text words (Err fault.OutOfForm) e loud is = λ read. out_of text words read e loud (is read)
+fault_of text words (Err (fault.NoBody s c offset size)) e loud is =
+    let write : Line = line.Write s c offset is.0 in
+    let spells : List (List ℕ) → Type 0 = λ ws. WordsSpell ws write in
+    (is.0, (of_words text write (subst spells (sym e) is.1.0), is.1.1))
+
+-- words that spell no line are out of form
+pub none_fault : (words : List (List ℕ)) (read : Option Line) → (IsNone read → (line : Line) → WordsSpell words line → ⊥) →
+    IfErr (ok_or read fault.OutOfForm) (IsLineFault (WordsSpell words))
+none_fault words None is = is refl
+none_fault words (Some read) is = tt
 
 -- the words of a request
 pub asks_of : (v : Verb) (first session cookie offset last s : List ℕ) (c o : ℕ) → first ≡ verb_word v →

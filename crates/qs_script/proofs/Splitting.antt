@@ -1,9 +1,12 @@
 -- Words, and the first place of a byte.
-use Rattle.std.proofs.Common.{◌≡◌, ℕ, ◌+◌, ◌<◌, ◌≤◌, zero, suc, List, [], ◌∷◌, ◌++◌, length, get_or, take, drop, length-take, refl, sym, ap, ◌∙◌, subst, arith, eq-eqb}
+use Rattle.std.proofs.Common.{◌≡◌, ℕ, ◌+◌, ◌<◌, ◌≤◌, zero, suc, Bool, true, false, cond, List, [], ◌∷◌, ◌++◌}
+use Rattle.std.proofs.Common.{length, get_or, take, drop, length-take, refl, sym, ap, ◌∙◌, subst, arith, eq-eqb}
 use Rattle.std.proofs.lemmas.Bool.{ne_eqb}
+use Rattle.std.proofs.lemmas.List.Elements.{All-cons, All-nil}
 use Rattle.std.proofs.lemmas.List.{get_or-take, length-append, take_more}
 use Rattle.std.proofs.Math.ListN.{get_or-append}
 use Rattle.std.proofs.Math.Seq.{get_or-append_seam, take-append_seam}
+use Rattle.std.specs.Prelude.{◌==◌, All}
 use Rattle.std.specs.List.{onto_first}
 use Rattle.qs_script.specs.Finds.{HasNo, IsFirst}
 use Rattle.qs_script.specs.Lines.{words_of}
@@ -33,6 +36,31 @@ split_first (x ∷ xs) (suc at) is =
     } in
     rw e (ap (onto_first x) (split_first xs at inner))
 
+none_in : (byte : ℕ) → HasNo byte []
+none_in byte = λ k inside. absurd (omega arith)
+
+none_onto : (byte x : ℕ) (xs : List ℕ) → (x ≡ byte → ⊥) → HasNo byte xs → HasNo byte (x ∷ xs)
+none_onto byte x xs other absent = λ k. elim k as (λ (k : ℕ). k < length (x ∷ xs) → get_or (x ∷ xs) k 0 ≡ byte → ⊥) [
+  | zero ↦ λ inside. other
+  | suc j ↦ λ inside. absent j (omega arith)
+]
+
+onto_lacks : (byte x : ℕ) (words : List (List ℕ)) → (x ≡ byte → ⊥) → All (HasNo byte) words → All (HasNo byte) (onto_first x words)
+onto_lacks byte x [] other lack = All-cons (HasNo byte) (x ∷ []) [] (none_onto byte x [] other (none_in byte)) lack
+onto_lacks byte x (word ∷ words) other lack =
+    let rest : All (HasNo byte) words = λ k d inside. lack (suc k) d (omega arith) in
+    All-cons (HasNo byte) (x ∷ word) words (none_onto byte x word other (lack 0 [] (omega arith))) rest
+
+-- a byte that a text lacks stands in none of its words
+pub words_lack : (byte : ℕ) (text : List ℕ) → HasNo byte text → All (HasNo byte) (words_of text)
+words_lack byte [] absent = All-cons (HasNo byte) [] [] (none_in byte) (All-nil (HasNo byte))
+words_lack byte (x ∷ xs) absent =
+    let rest = words_lack byte xs (λ k inside. absent (suc k) (omega arith)) in
+    elim (x == 32) as (λ (b : Bool). All (HasNo byte) (cond b ([] ∷ words_of xs) (onto_first x (words_of xs)))) [
+      | true ↦ All-cons (HasNo byte) [] (words_of xs) (none_in byte) rest
+      | false ↦ onto_lacks byte x (words_of xs) (absent 0 (omega arith)) rest
+    ]
+
 -- the front of a piece up to its first LF, and the LF
 pub line_end : (piece : List ℕ) (count at : ℕ) → IsFirst 10 (take count piece) at → at < count → at < length piece →
     take (at + 1) piece ≡ take at piece ++ 10 ∷ []
@@ -57,7 +85,8 @@ name_no_dot (x ∷ xs) is = λ k. elim k as (λ (k : ℕ). k < length (x ∷ xs)
 -- the first dot behind a session's name is right behind it
 pub dot_at : (word s digits : List ℕ) (at : ℕ) → IsFirst 46 word at → HasNo 46 s → word ≡ s ++ 46 ∷ digits → at ≡ length s
 dot_at word s digits at is absent whole =
-    let not_before : at < length s → ⊥ = λ h. absent at h (sym (get_or-append s (46 ∷ digits) 0 at h) ∙ ap (λ (w : List ℕ). get_or w at 0) (sym whole) ∙ is.here) in
+    let not_before : at < length s → ⊥ =
+    λ h. absent at h (sym (get_or-append s (46 ∷ digits) 0 at h) ∙ ap (λ (w : List ℕ). get_or w at 0) (sym whole) ∙ is.here) in
     let not_behind : length s < at → ⊥ = λ h. is.before (length s) h (ap (λ (w : List ℕ). get_or w (length s) 0) whole ∙ get_or-append_seam s 46 digits 0) in
     omega arith
 

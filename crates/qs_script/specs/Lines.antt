@@ -8,6 +8,8 @@ use Rattle.qs_script.specs.Spelled.{SpellsNumber, SpellsActor, SpellsData, fail_
 use Rattle.qs_script.specs.declared.actor.ScriptActor.{ScriptActor}
 use Rattle.qs_script.specs.declared.line.Line.{Line}
 use Rattle.qs_script.specs.declared.line.Line.TheVariants as line
+use Rattle.qs_script.specs.declared.line.LineFault.{LineFault}
+use Rattle.qs_script.specs.declared.line.LineFault.TheVariants as fault
 
 -- the parts of a text between single spaces
 abbrev pub words_of : List ℕ → List (List ℕ)
@@ -59,3 +61,8 @@ WordsSpell words (line.Fail stripe kind) = (digits : List ℕ) × ((words ≡ co
 abbrev pub Reads : List ℕ → Line → Type 0
 Reads text line.Nothing = IsQuiet text
 Reads text other = WordsSpell (words_of text) other
+
+-- why a text isn't read as a line: it spells none, or a WRITE of so many bytes, which found no memory
+abbrev pub IsLineFault : (Line → Type 0) → LineFault → Type 0
+IsLineFault spells fault.OutOfForm = (read : Line) → ¬ spells read
+IsLineFault spells (fault.NoBody s c offset size) = (bytes : List ℕ) × (spells (line.Write s c offset bytes) × (length bytes ≡ size))

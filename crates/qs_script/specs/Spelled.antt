@@ -8,6 +8,8 @@ use Rattle.qs_outside.specs.declared.rigged_disk.Fail.TheVariants.{Load, StoreOl
 use Rattle.qs_script.specs.SessionNames.{IsSessionName}
 use Rattle.qs_script.specs.declared.actor.ScriptActor.{ScriptActor}
 use Rattle.qs_script.specs.declared.actor.ScriptActor.TheVariants.{Session, Request}
+use Rattle.qs_script.specs.declared.data.DataFault.{DataFault}
+use Rattle.qs_script.specs.declared.data.DataFault.TheVariants.{OutOfForm, Memory}
 
 -- decimal digits, the first of which is `0` only where it is alone
 pub record IsPlain (word : List ℕ) : Type 0 where
@@ -48,6 +50,11 @@ pub data SpellsData (word bytes : List ℕ) : Type 0 where
   nothing : word ≡ codes "-" → bytes ≡ [] → SpellsData word bytes
   repeated : (pair digits : List ℕ) → word ≡ pair ++ 42 ∷ digits → Repeats pair digits bytes → SpellsData word bytes
   pairs : 1 ≤ length word → decode_of word ≡ Ok bytes → SpellsData word bytes
+
+-- why a word gives no data: it spells none, or so many bytes, which found no memory
+abbrev pub IsDataFault : (List ℕ → Type 0) → DataFault → Type 0
+IsDataFault spells OutOfForm = (bytes : List ℕ) → ¬ spells bytes
+IsDataFault spells (Memory size) = (bytes : List ℕ) × (spells bytes × (length bytes ≡ size))
 
 -- the failures that can be planned
 abbrev pub fail_word : Fail → List ℕ

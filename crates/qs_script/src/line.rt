@@ -48,11 +48,16 @@ pub enum Line {
     },
 }
 
-/// Why a text is no line.
+/// Why a text isn't read as a line.
 #[derive(Clone, Copy, Debug, PartialEq, Eq)]
 pub enum LineFault {
     /// It spells none.
     OutOfForm,
-    /// Memory was refused.
-    Memory,
+    /// It spells a WRITE of so many bytes, for which memory was refused.
+    NoBody {
+        session: SessionName,
+        cookie: u64,
+        offset: u64,
+        length: u64,
+    },
 }

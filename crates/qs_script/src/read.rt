@@ -1,14 +1,13 @@
-ghost use Rattle.std.specs.Prelude.{◌≡◌, ◌↔◌, Err, IfOk, IsNone, IsTrue, IfSome, [], ◌∷◌};
-ghost use Rattle.qs_script.specs.Lines.{IsPlace, IsQuiet, Place, Reads, WordsSpell, words_left, words_of};
+ghost use Rattle.std.specs.Prelude.{◌≡◌, ◌↔◌, IfErr, IfOk, IsNone, IsTrue, IfSome, [], ◌∷◌};
+ghost use Rattle.qs_script.specs.Lines.{IsLineFault, IsPlace, IsQuiet, Place, Reads, WordsSpell, words_left, words_of};
 ghost use Rattle.qs_outside.specs.declared.rigged_disk.Fail.{Fail as Failure};
 ghost use Rattle.qs_script.specs.Spelled.{fail_word};
 ghost use Rattle.qs_script.specs.Verbs.{verb_word};
 ghost use Rattle.qs_script.specs.declared.read.Verb.{Verb as AVerb};
 ghost use Rattle.qs_script.specs.declared.line.Line.{Line as ALine};
-ghost use Rattle.qs_script.specs.declared.line.LineFault.TheVariants.{OutOfForm};
 
 use crate::actor::actor_of;
-use crate::data::data_of;
+use crate::data::{DataFault, data_of};
 use crate::find::first_of;
 use crate::line::{Line, LineFault};
 use crate::number::number;
@@ -23,7 +22,7 @@ const GREATEST_LENGTH: u64 = 0xffff_ffff;
 /// The line that a text spells, which has no LF. OutOfForm exactly where it spells none.
 pub fn read_line(alloc: Global, text: &[u8]) -> Result<Line, LineFault>
     ensures ok { IfOk result (Reads text.now) }
-    ensures out { result ≡ Err OutOfForm → (line : ALine) → ¬ Reads text.now line }
+    ensures fault { IfErr result (IsLineFault (Reads text.now)) }
 {
     if is_quiet(text) {
         return Ok(Line::Nothing);
@@ -182,37 +181,63 @@ fn five_words(
     last: &[u8],
 ) -> Result<Line, LineFault>
     ensures ok { IfOk result (WordsSpell (verb.now ∷ session.now ∷ cookie.now ∷ offset.now ∷ last.now ∷ [])) }
-    ensures out { result ≡ Err OutOfForm → (line : ALine) →
-        ¬ WordsSpell (verb.now ∷ session.now ∷ cookie.now ∷ offset.now ∷ last.now ∷ []) line }
+    ensures fault { IfErr result (IsLineFault (WordsSpell (verb.now ∷ session.now ∷ cookie.now ∷ offset.now ∷ last.now ∷ []))) }
 {
     let Some(verb) = verb_of(verb) else {
         return Err(LineFault::OutOfForm);
     };
-    let Some((session, cookie, offset)) = place_of(session, cookie, offset) else {
-        return Err(LineFault::OutOfForm);
-    };
     match verb {
-        Verb::Read => match number(last, GREATEST_LENGTH) {
-            Some(length) => Ok(Line::Read {
-                session,
-                cookie,
-                offset,
-                length,
-            }),
-            None => Err(LineFault::OutOfForm),
-        },
-        Verb::Write => match data_of(alloc, last) {
-            Ok(body) => Ok(Line::Write {
-                session,
-                cookie,
-                offset,
-                body,
-            }),
-            Err(fault) => Err(fault),
-        },
+        Verb::Read => read_request(session, cookie, offset, last).ok_or(LineFault::OutOfForm),
+        Verb::Write => write_request(alloc, session, cookie, offset, last),
         Verb::Session | Verb::End | Verb::Step | Verb::Run | Verb::Fail => {
             Err(LineFault::OutOfForm)
         }
+    }
+}
+
+/// A READ, whose last word is its length.
+fn read_request(session: &[u8], cookie: &[u8], offset: &[u8], last: &[u8]) -> Option<Line>
+    ensures some { IfSome result (WordsSpell (verb_word Verb.Read ∷ session.now ∷ cookie.now ∷ offset.now ∷ last.now ∷ [])) }
+    ensures none { IsNone result → (line : ALine) →
+        ¬ WordsSpell (verb_word Verb.Read ∷ session.now ∷ cookie.now ∷ offset.now ∷ last.now ∷ []) line }
+{
+    let (session, cookie, offset) = place_of(session, cookie, offset)?;
+    Some(Line::Read {
+        session,
+        cookie,
+        offset,
+        length: number(last, GREATEST_LENGTH)?,
+    })
+}
+
+/// A WRITE, whose last word is its data.
+fn write_request(
+    alloc: Global,
+    session: &[u8],
+    cookie: &[u8],
+    offset: &[u8],
+    last: &[u8],
+) -> Result<Line, LineFault>
+    ensures ok { IfOk result (WordsSpell (verb_word Verb.Write ∷ session.now ∷ cookie.now ∷ offset.now ∷ last.now ∷ [])) }
+    ensures fault { IfErr result (IsLineFault (WordsSpell (verb_word Verb.Write ∷ session.now ∷ cookie.now ∷ offset.now ∷ last.now ∷ []))) }
+{
+    let Some((session, cookie, offset)) = place_of(session, cookie, offset) else {
+        return Err(LineFault::OutOfForm);
+    };
+    match data_of(alloc, last) {
+        Ok(body) => Ok(Line::Write {
+            session,
+            cookie,
+            offset,
+            body,
+        }),
+        Err(DataFault::OutOfForm) => Err(LineFault::OutOfForm),
+        Err(DataFault::Memory(length)) => Err(LineFault::NoBody {
+            session,
+            cookie,
+            offset,
+            length,
+        }),
     }
 }
 

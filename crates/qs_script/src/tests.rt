@@ -90,7 +90,7 @@ fn told(alloc: Global, text: &[u8]) -> Result<Bytes, Memory> {
     match read_line(alloc, text) {
         Ok(line) => tell_line(alloc, &mut out, &line)?,
         Err(LineFault::OutOfForm) => out.append(b"out of form")?,
-        Err(LineFault::Memory) => return Err(Memory),
+        Err(LineFault::NoBody { .. }) => return Err(Memory),
     }
     Ok(out)
 }
@@ -144,6 +144,7 @@ fn what_is_out_of_form_is_refused(rt: HostRuntime) {
         b"read A 1 00 512",
         b"write A 1 0 ",
         b"write A 1 0 abc",
+        b"write A 1 0 6d6g",
         b"write A 1 0 2*2",
         b"write A 1 0 22*33554433",
         b"write A 1 0 22 fua",
@@ -153,6 +154,28 @@ fn what_is_out_of_form_is_refused(rt: HostRuntime) {
     ] {
         assert!(rt; matches!(read_line(rt.alloc(), text), Err(LineFault::OutOfForm)));
     }
+}
+
+/// With `--fail-alloc` a WRITE's bytes find no memory, which is told with the request.
+#[test]
+fn requests_without_memory_are_told(rt: HostRuntime) -> Result<(), Fail> {
+    let session = SessionName::of(b"A").ok_or("no name")?;
+    for (text, length) in [
+        (b"write A 1 510 6d6D4a".as_slice(), 3),
+        (b"write A 1 510 61*9", 9),
+    ] {
+        let lacking = LineFault::NoBody {
+            session,
+            cookie: 1,
+            offset: 510,
+            length,
+        };
+        match read_line(rt.alloc(), text) {
+            Ok(line) => assert!(rt; matches!(&line, Line::Write { .. })),
+            Err(fault) => assert_eq!(rt; fault, lacking),
+        }
+    }
+    Ok(())
 }
 
 #[test]

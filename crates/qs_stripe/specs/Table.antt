@@ -7,6 +7,7 @@ use Rattle.qs_part.specs.declared.stripe.StripeReply.{StripeReply}
 use Rattle.qs_part.specs.declared.stripe.StripeReply.TheVariants.{Filled, Fault, HeldBy, Taken, Done, Freed, NotHeld}
 use Rattle.qs_outside.specs.Faults.{Rose}
 use Rattle.qs_outside.specs.Blocks.{Seen, Fixed, Same, Stored, StoredOrNot, MayLeave, stripe_of, load_spent, store_spent}
+use Rattle.qs_outside.specs.Rigged.{AsPlanned, MayLoad, MayStore}
 use Rattle.qs_stripe.specs.declared.geometry.Geometry.{Geometry}
 use Rattle.qs_stripe.specs.declared.holds.Ends.{Ends}
 use Rattle.qs_stripe.specs.Holds.{holds_of, IsHeld, IsFree, IsFreeFor, Takes, LetsGo}
@@ -59,10 +60,11 @@ pub record Reads (old new : Seen) : Type 0 where
   pub full : new.full ≡ old.full
   pub later : old.faults ≤ new.faults
 
--- the bytes that the disk has in a block, where it tells them
+-- the bytes that the disk has in a block, where it tells them; no load was planned to fail
 pub record IsContent (disk : Seen) (b : ℕ) (bytes : List ℕ) : Type 0 where
   pub whole : length bytes ≡ disk.align
   pub now : IsTrue disk.tells → bytes ≡ disk.now b
+  pub works : MayLoad disk
 
 -- the disk refused to read, and the buffer comes back
 pub record Refuses (old new : Seen) (back : List ℕ) : Type 0 where
@@ -78,13 +80,16 @@ pub record Writes (b : ℕ) (bytes : List ℕ) (old new : Seen) : Type 0 where
   pub planned : new.planned ≡ store_spent old.planned
   pub later : old.faults ≤ new.faults
 
--- it was written
-abbrev pub IsStored : ℕ → List ℕ → Seen → Seen → Type 0
-IsStored b bytes old new = IsTrue old.tells → Stored b bytes old.now new.now
+-- it was written; no store was planned to fail
+pub record IsStored (b : ℕ) (bytes : List ℕ) (old new : Seen) : Type 0 where
+  pub now : IsTrue old.tells → Stored b bytes old.now new.now
+  pub works : MayStore old
 
--- the disk refused: its count of faults rose, and the block has the old content or the new
+-- The disk refused: its count of faults rose, and the block has the old content or the new. Where that was
+-- planned, and the disk isn't full, it has what the plan says.
 pub record MayBeStored (b : ℕ) (bytes : List ℕ) (old new : Seen) : Type 0 where
   pub now : IsTrue old.tells → StoredOrNot b bytes old.now new.now
+  pub as_planned : AsPlanned b bytes old new
   pub rose : Rose old.faults new.faults
 
 -- a stripe answers an operation, and what it is then

@@ -12,7 +12,8 @@ use Rattle.qs_model.specs.Requests.{Client, Pads, Req, Stage, Ready, verdict}
 use Rattle.qs_model.specs.Worlds.{Tracker, Image, World}
 use Rattle.qs_model.specs.Acts.{Act, Answers, Waits, Enters, Routes, Shuts, Lists, Starts, Loads, LoadFails, Holds, HoldFails, Stores, StoreFails, Frees, Ends, Did}
 use Rattle.qs_model.specs.Guards.{MayDo}
-use Rattle.qs_model.specs.Steps.{moved, tracked, imaged, happens}
+use Rattle.qs_outside.specs.declared.rigged_disk.Plans.{Plans}
+use Rattle.qs_model.specs.Steps.{moved, tracked, imaged, spent, happens}
 use Rattle.qs_model.specs.Events.{note_of, row_outcome, moved_out}
 use Rattle.qs_request.specs.declared.todo.PartReply.{PartReply}
 use Rattle.qs_request.specs.Rows.{IsRow}
@@ -21,9 +22,9 @@ use Rattle.qs_request.specs.Value.{IsReady}
 use Rattle.qs_request.proofs.Rows.{row_leads}
 use Rattle.qs_world.specs.declared.live.Live.{Live}
 use Rattle.qs_world.specs.Cores.{StepsRequest}
-use Rattle.qs_world.specs.Events.{Does, HasCause}
+use Rattle.qs_world.specs.Events.{Does, HasCause, IsInside, IsRowAsPlanned}
 use Rattle.qs_world.specs.Follows.{Follows, IsElement, moved_to, next_of}
-use Rattle.qs_world.specs.Images.{StandsImage, stripe_at, all_tell}
+use Rattle.qs_world.specs.Images.{StandsImage, StandsPlans, stripe_at, all_tell}
 use Rattle.qs_world.specs.Keyed.{AreDistinct}
 use Rattle.qs_world.specs.Sound.{IsSound, IsIdle, IsStripe}
 use Rattle.qs_world.specs.Stands.{Stands}
@@ -204,9 +205,11 @@ pub did_answers : {D : Type 0} (seen : D → Seen) (old new : WorldValue D) (at 
     ((t : Tracker) → StandsTracker old.tracker t → StandsTracker new.tracker (tracked old.shape.align t (req l).client act)) →
     ((i : Image) → StandsImage (stripe_at (stripes_of seen old)) (all_tell (stripes_of seen old)) i →
     StandsImage (stripe_at (stripes_of seen new)) (all_tell (stripes_of seen old)) (imaged old.shape.align i (req l).client act)) →
+    ((p : ℕ → Plans) → StandsPlans (stripe_at (stripes_of seen old)) p → StandsPlans (stripe_at (stripes_of seen new)) (spent old.shape.align p (req l).client act)) →
+    IsRowAsPlanned (stripe_at (stripes_of seen old)) act → IsInside old.shape (Did l.number (req l) act) →
     Follows (waiting l) reply note at (slice_set old.requests at (waiting l)) outcome new.requests → HasCause seen old outcome new →
     StepsRequest seen old l.number outcome new
-did_answers seen old new at l act reply note outcome sound e going is noted others may tracks images follows cause =
+did_answers seen old new at l act reply note outcome sound e going is noted others may tracks images plans as_planned inside follows cause =
     let align : l.request.shape.align ≡ old.shape.align = ap (λ (s : _). s.align) (idle_at old at l sound.requests e).shape_is in
     let goes = finishes old.shape.align (req l).client (req l).dropped (req l).pads act reply note going is noted in
     let list : Listed old l act outcome new.requests =
@@ -214,12 +217,14 @@ did_answers seen old new at l act reply note outcome sound e going is noted othe
     (subst (λ (a : ℕ). GoesOn old.shape.align (req l).client (req l).dropped (req l).pads act note (followed a (req l) reply)
     ⊎ IsAnswered old.shape.align (req l).client (req l).dropped (req l).pads act note (followed a (req l) reply)) (sym align) goes) follows in
     let does : Does seen old (Did l.number (req l) act) new =
-    did_does seen old new l.number (req l) act (found old at l sound.numbers e) others.leaves may tracks images list.model in
+    did_does seen old new l.number (req l) act (found old at l sound.numbers e) others.leaves may tracks images plans list.model in
     record {
       element = Did l.number (req l) act;
       answers_event = λ now. refl;
       outcome_is = list.outcome_is;
       does = does;
+      as_planned = as_planned;
+      inside = inside;
       shape_kept = others.leaves.shape;
       cause = cause;
       sound = stays_sound seen old new l.number (req l) act sound others list.idle list.apart does;

@@ -15,7 +15,7 @@ use Rattle.qs_model.proofs.Basics.{put_here, put_other, put_cases, same_or}
 use Rattle.qs_graph.specs.Exports.{made}
 use Rattle.qs_graph.specs.Table.{GraphValue, answers, route_of}
 use Rattle.qs_world.specs.Events.{Does, HasRequest as HasRequestHere}
-use Rattle.qs_world.specs.Images.{StandsImage, stripe_at, all_tell}
+use Rattle.qs_world.specs.Images.{StandsImage, StandsPlans, stripe_at, all_tell}
 use Rattle.qs_world.specs.Stands.{Stands, IsAt, IsAmong}
 use Rattle.qs_world.specs.Trackers.{StandsTracker}
 use Rattle.qs_world.specs.Values.{WorldValue, request_at, session_at, stripes_of}
@@ -46,6 +46,10 @@ kept_image : {D : Type 0} (seen : D → Seen) (old new : WorldValue D) (m : Worl
     StandsImage (stripe_at (stripes_of seen new)) m.tells m.image
 kept_image seen old new m keeps stands = rw keeps.stripes stands
 
+kept_plans : {D : Type 0} (seen : D → Seen) (old new : WorldValue D) (m : World) → Keeps old new → StandsPlans (stripe_at (stripes_of seen old)) m.plans →
+    StandsPlans (stripe_at (stripes_of seen new)) m.plans
+kept_plans seen old new m keeps stands = rw keeps.stripes stands
+
 kept_tells : {D : Type 0} (seen : D → Seen) (old new : WorldValue D) (m : World) → Keeps old new → m.tells ≡ all_tell (stripes_of seen old) →
     m.tells ≡ all_tell (stripes_of seen new)
 kept_tells seen old new m keeps tells = rw keeps.stripes tells
@@ -70,6 +74,7 @@ attached_does seen old new s name info keeps next requests away row sessions m s
             (λ is. inr (subst (λ (d : ℕ). IsAmong t (m.graph.clients d)) is h)) (λ other. h));
         tracker = kept_tracker old new m keeps stands.tracker;
         image = kept_image seen old new m keeps stands.image;
+        plans = kept_plans seen old new m keeps stands.plans;
       },
     )
 
@@ -106,6 +111,7 @@ left_does seen old new s e keeps next graph live sessions requests m stands =
             (λ d at. stands.clients s d (subst (λ (x : Session). IsAt x d) (sym is) at)) (λ t d n h. h);
         tracker = kept_tracker old new m keeps stands.tracker;
         image = kept_image seen old new m keeps stands.image;
+        plans = kept_plans seen old new m keeps stands.plans;
       },
     )
 
@@ -147,6 +153,7 @@ detached_does seen old new s e keeps next requests leaving none row sessions m s
             (λ same. among_without t s (m.graph.clients e) n (subst (λ (x : ℕ). IsAmong t (m.graph.clients x)) same h)) (λ other. h));
         tracker = kept_tracker old new m keeps stands.tracker;
         image = kept_image seen old new m keeps stands.image;
+        plans = kept_plans seen old new m keeps stands.plans;
       },
     )
 
@@ -159,8 +166,9 @@ not_attached_does seen old new s e graph leaving none row same =
 pub asked_does : {D : Type 0} (seen : D → Seen) (old new : WorldValue D) (c : Client) → Keeps old new → new.next ≡ old.next + 1 → new.graph ≡ old.graph →
     new.sessions ≡ old.sessions → old.next < 2 ^ 64 - 1 → session_at old.sessions c.session ≡ Live c.export → c.route ≡ no_route →
     (c.ask.length ≡ 0 → c.buffered ≡ true) → (writes c ≡ true → c.buffered ≡ true → length c.body ≡ c.ask.length) →
+    (writes c ≡ true → c.buffered ≡ false → (c.body ≡ []) ⊎ (length c.body ≡ c.ask.length)) → (writes c ≡ false → c.body ≡ []) →
     ((r : ℕ) → request_at new.requests r ≡ put (request_at old.requests) old.next (Some (asked c)) r) → Does seen old (Asked old.next c) new
-asked_does seen old new c keeps next graph sessions room live unrouted buffered body requests m stands = (
+asked_does seen old new c keeps next graph sessions room live unrouted buffered body refused other requests m stands = (
   record {
     next = sym stands.next;
     room = room;
@@ -168,6 +176,8 @@ asked_does seen old new c keeps next graph sessions room live unrouted buffered 
     unrouted = unrouted;
     buffered = buffered;
     body = body;
+    refused = refused;
+    other = other;
   },
   record {
     tells = kept_tells seen old new m keeps stands.tells;
@@ -178,6 +188,7 @@ asked_does seen old new c keeps next graph sessions room live unrouted buffered 
     clients = stands.clients;
     tracker = kept_tracker old new m keeps stands.tracker;
     image = kept_image seen old new m keeps stands.image;
+    plans = kept_plans seen old new m keeps stands.plans;
   },
 )
 
@@ -198,5 +209,6 @@ exported_does seen old new id name node writable share e keeps next requests ses
         clients = stands.clients;
         tracker = kept_tracker old new m keeps stands.tracker;
         image = kept_image seen old new m keeps stands.image;
+        plans = kept_plans seen old new m keeps stands.plans;
       },
     )

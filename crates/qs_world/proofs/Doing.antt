@@ -7,10 +7,11 @@ use Rattle.qs_model.specs.Requests.{Req}
 use Rattle.qs_model.specs.Worlds.{Tracker, Image, World}
 use Rattle.qs_model.specs.Acts.{Act, Did}
 use Rattle.qs_model.specs.Guards.{MayDo}
-use Rattle.qs_model.specs.Steps.{moved, tracked, imaged}
+use Rattle.qs_outside.specs.declared.rigged_disk.Plans.{Plans}
+use Rattle.qs_model.specs.Steps.{moved, tracked, imaged, spent}
 use Rattle.qs_model.proofs.Basics.{put_here, put_other, same_or}
 use Rattle.qs_world.specs.Events.{Does}
-use Rattle.qs_world.specs.Images.{StandsImage, stripe_at, all_tell}
+use Rattle.qs_world.specs.Images.{StandsImage, StandsPlans, stripe_at, all_tell}
 use Rattle.qs_world.specs.Stands.{Stands}
 use Rattle.qs_world.specs.Trackers.{StandsTracker}
 use Rattle.qs_world.specs.Values.{WorldValue, request_at, stripes_of}
@@ -36,9 +37,10 @@ pub did_does : {D : Type 0} (seen : D → Seen) (old new : WorldValue D) (r : �
     ((t : Tracker) → StandsTracker old.tracker t → StandsTracker new.tracker (tracked old.shape.align t q.client act)) →
     ((i : Image) → StandsImage (stripe_at (stripes_of seen old)) (all_tell (stripes_of seen old)) i →
     StandsImage (stripe_at (stripes_of seen new)) (all_tell (stripes_of seen old)) (imaged old.shape.align i q.client act)) →
+    ((p : ℕ → Plans) → StandsPlans (stripe_at (stripes_of seen old)) p → StandsPlans (stripe_at (stripes_of seen new)) (spent old.shape.align p q.client act)) →
     ((j : ℕ) → request_at new.requests j ≡ put (request_at old.requests) r (moved old.shape.align q.client q.dropped q.pads act) j) →
     Does seen old (Did r q act) new
-did_does seen old new r q act is leaves may tracks images requests m stands = (
+did_does seen old new r q act is leaves may tracks images plans requests m stands = (
   (stands.request r ∙ is, may m stands),
   record {
     tells = stands.tells ∙ sym leaves.tells;
@@ -50,5 +52,6 @@ did_does seen old new r q act is leaves may tracks images requests m stands = (
     tracker = tracks m.tracker stands.tracker;
     image = subst (λ (t : Bool). StandsImage (stripe_at (stripes_of seen new)) t (imaged old.shape.align m.image q.client act)) (sym stands.tells)
         (images m.image (subst (λ (t : Bool). StandsImage (stripe_at (stripes_of seen old)) t m.image) stands.tells stands.image));
+    plans = plans m.plans stands.plans;
   },
 )

@@ -13,7 +13,7 @@ use Rattle.qs_part.specs.declared.graph.GraphReply.TheVariants.{Detached as Gone
 use Rattle.qs_part.specs.declared.tracker.TrackerReply.TheVariants.{Ended}
 use Rattle.qs_model.specs.Requests.{Client, Stage, Req, abandon, verdict}
 use Rattle.qs_model.specs.Worlds.{Session, Away, Live as LiveAt, Leaving}
-use Rattle.qs_model.specs.Acts.{Act, Answers, Waits, Enters, Routes, Shuts, Lists, Starts, Loads, LoadFails, Holds, HoldFails, Stores, StoreFails, Frees, Ends, Element, Attached, NoExport, Crowded, Left, Detached, NotAttached, Asked, Did, Exported, Crashed}
+use Rattle.qs_model.specs.Acts.{Act, Answers, Waits, Enters, Routes, Shuts, Lists, Starts, Loads, LoadFails, Holds, HoldFails, Stores, StoreFails, Frees, Ends, Element, Attached, NoExport, Crowded, Left, Detached, NotAttached, Asked, Did, Exported, Planned, Crashed}
 use Rattle.qs_model.specs.Steps.{leaves, happens}
 use Rattle.qs_model.specs.Events.{IsEvent, outcome_of, row_outcome, moved_out, note_of, tracker_note, graph_note}
 use Rattle.qs_model.proofs.Basics.{same_or, put_here, put_other}
@@ -32,7 +32,7 @@ use Rattle.qs_world.proofs.PartSteps.{same_stripes}
 use Rattle.qs_world.specs.declared.live.Live.{Live}
 use Rattle.qs_world.specs.declared.live.Member.{Member}
 use Rattle.qs_world.specs.Cores.{Handles, StepsRequest}
-use Rattle.qs_world.specs.Events.{Does, Steps, StepsTo, HasCause, IsNotNext, TakesMemory}
+use Rattle.qs_world.specs.Events.{Does, IsAsPlanned, IsInside, Steps, StepsTo, HasCause, IsNotNext, TakesMemory}
 use Rattle.qs_world.specs.Follows.{IsElement, abandoned_of, is_of}
 use Rattle.qs_world.specs.Keyed.{find_by, HasKey, AreDistinct}
 use Rattle.qs_world.specs.Sound.{IsSound, IsIdle}
@@ -89,6 +89,10 @@ told A (Exported e x) out is = absurd (never is)
   where
     never : None ≡ Some out → ⊥
     never e = cc
+told A (Planned j fail) out is = absurd (never is)
+  where
+    never : None ≡ Some out → ⊥
+    never e = cc
 told A (Crashed left) out is = absurd (never is)
   where
     never : None ≡ Some out → ⊥
@@ -102,12 +106,12 @@ steps_to seen old event _ new is step = step
 
 -- an event that comes
 pub handled : {D : Type 0} (seen : D → Seen) (old new : WorldValue D) (event : Event) (out : Outcome) (e : Element) → IsEvent event e →
-    outcome_of old.shape.align e ≡ Some out → (IsNotNext old event → ⊥) → Does seen old e new → new.shape ≡ old.shape → HasCause seen old out new → IsSound seen new →
+    outcome_of old.shape.align e ≡ Some out → (IsNotNext old event → ⊥) → Does seen old e new → IsAsPlanned seen old e → IsInside old.shape e → new.shape ≡ old.shape → HasCause seen old out new → IsSound seen new →
     Handles seen old event out new
-handled seen old new event out e answers outcome next does shape cause sound =
+handled seen old new event out e answers outcome next does as_planned inside shape cause sound =
     let is : IsTold out = told old.shape.align e out outcome in
     record {
-      step = steps_to seen old event out new is (record { element = e; answers_event = answers; outcome_is = outcome; does = does; shape_kept = shape });
+      step = steps_to seen old event out new is (record { element = e; answers_event = answers; outcome_is = outcome; does = does; as_planned = as_planned; inside = inside; shape_kept = shape });
       next = (λ f. absurd (subst IsTold f is), λ h. absurd (next h));
       cause = cause;
       sound = sound;
@@ -158,7 +162,7 @@ pub request_handled : {D : Type 0} (seen : D → Seen) (old new : WorldValue D) 
     StepsRequest seen old l.number out new → Handles seen old (Step (ARequest number) now) out new
 request_handled seen old new number now l out stands is step =
     handled seen old new (Step (ARequest number) now) out step.element
-    (subst (λ (n : ℕ). IsEvent (Step (ARequest n) now) step.element) is (step.answers_event now)) step.outcome_is (λ h. stands h) step.does step.shape_kept step.cause step.sound
+    (subst (λ (n : ℕ). IsEvent (Step (ARequest n) now) step.element) is (step.answers_event now)) step.outcome_is (λ h. stands h) step.does step.as_planned step.inside step.shape_kept step.cause step.sound
 
 -- the sessions, one of which changed
 put_or : (f : ℕ → Option Session) (k : ℕ) (v : Option Session) (j : ℕ) → session_or (put f k v j) ≡ put (λ i. session_or (f i)) k (session_or v) j
@@ -363,7 +367,7 @@ attached_handled {D = D} seen old new s name info sound none row size is =
     let sessions : new.sessions ≡ old.sessions ++ m ∷ [] = ap (λ (w : WorldValue D). w.sessions) is in
     let does : Does seen old (Attached s name info) new = attached_does seen old new s name info keeps next requests away row
     (λ j. ap (λ (ms : List Member). session_at ms j) sessions ∙ session_more old.sessions m never j) in
-    handled seen old new (Attach s name) (AttachedOut info) (Attached s name info) (refl, refl) refl (λ h. h away) does keeps.shape tt
+    handled seen old new (Attach s name) (AttachedOut info) (Attached s name info) (refl, refl) refl (λ h. h away) does tt tt keeps.shape tt
     (renewed seen old new (Attached s name info) sound (record {
       shape = keeps.shape;
       tracker = keeps.tracker;
@@ -382,7 +386,7 @@ no_export_handled {D = D} seen old new s name graph sound none row is =
     let away = member_away old.sessions s none in
     let same : new ≡ old = is ∙ ap (λ (v : GraphValue). record old { graph = v }) row.1 in
     handled seen old new (Attach s name) NoExportOut (NoExport s name) (refl, refl) refl (λ h. h away)
-    (no_export_does seen old new s name graph away row same) (ap (λ (w : WorldValue D). w.shape) same) tt (subst (IsSound seen) (sym same) sound)
+    (no_export_does seen old new s name graph away row same) tt tt (ap (λ (w : WorldValue D). w.shape) same) tt (subst (IsSound seen) (sym same) sound)
 
 pub crowded_handled : {D : Type 0} (seen : D → Seen) (old new : WorldValue D) (s : ℕ) (name : List ℕ) (reply : GraphReply) (graph : GraphValue) → IsSound seen old →
     position (λ m. m.session == s) old.sessions ≡ None → graph_answers old.graph (AttachOp name) reply graph → (reply ≡ NoExportReply → ⊥) →
@@ -393,7 +397,7 @@ crowded_handled {D = D} seen old new s name reply graph sound none row not_none 
     let told_row : graph_answers old.graph (AttachOp name) CrowdedReply graph = subst (λ (r : GraphReply). graph_answers old.graph (AttachOp name) r graph) crowded row in
     let same : new ≡ old = is ∙ ap (λ (v : GraphValue). record old { graph = v }) told_row.1 in
     handled seen old new (Attach s name) CrowdedOut (Crowded s name) (refl, refl) refl (λ h. h away)
-    (crowded_does seen old new s name graph away told_row same) (ap (λ (w : WorldValue D). w.shape) same) tt (subst (IsSound seen) (sym same) sound)
+    (crowded_does seen old new s name graph away told_row same) tt tt (ap (λ (w : WorldValue D). w.shape) same) tt (subst (IsSound seen) (sym same) sound)
 
 pub left_handled : {D : Type 0} (seen : D → Seen) (old new : WorldValue D) (at : ℕ) (m : Member) → IsSound seen old → IsElement old.sessions at m → m.left ≡ false →
     new ≡ record old { requests = map (abandoned_of m.session) old.requests; sessions = slice_set old.sessions at (record m { left = true }) } →
@@ -408,7 +412,7 @@ left_handled {D = D} seen old new at m sound e here is =
     let does : Does seen old (Left m.session m.e) new = left_does seen old new m.session m.e keeps next graph live
     (λ j. ap (λ (ms : List Member). session_at ms j) sessions ∙ session_set old.sessions at (record m { left = true }) m sound.sessions e refl j)
     (λ r. ap (λ (ls : List Live). request_at ls r) requests ∙ request_left m.session old.requests r) in
-    handled seen old new (Leave m.session) LeftOut (Left m.session m.e) refl refl (λ h. h m.e live) does keeps.shape tt
+    handled seen old new (Leave m.session) LeftOut (Left m.session m.e) refl refl (λ h. h m.e live) does tt tt keeps.shape tt
     (renewed seen old new (Left m.session m.e) sound (record {
       shape = keeps.shape;
       tracker = keeps.tracker;
@@ -472,7 +476,7 @@ detached_handled {D = D} seen old new at now m sound el left none row size is =
     let sessions : new.sessions ≡ remove old.sessions at = ap (λ (w : WorldValue D). w.sessions) is in
     let does : Does seen old (Detached m.session m.e) new = detached_does seen old new m.session m.e keeps next requests leaving (none_has_request m.session old.requests none) row
     (λ j. ap (λ (ms : List Member). session_at ms j) sessions ∙ session_gone old.sessions at m sound.sessions el j) in
-    handled seen old new (Step (ASession m.session) now) (Moved (detach_note Gone)) (Detached m.session m.e) refl refl (is_next seen old at now m sound el left none) does keeps.shape
+    handled seen old new (Step (ASession m.session) now) (Moved (detach_note Gone)) (Detached m.session m.e) refl refl (is_next seen old at now m sound el left none) does tt tt keeps.shape
     (λ b f. absurd (no_block b f))
     (renewed seen old new (Detached m.session m.e) sound (record {
       shape = keeps.shape;
@@ -499,7 +503,7 @@ not_attached_handled {D = D} seen old new at now m reply graph sound el left non
     handled seen old new (Step (ASession m.session) now) (Moved (detach_note reply)) (NotAttached m.session m.e) refl
     (ap (λ (r : GraphReply). Some (Moved (detach_note r))) (sym gone)) (is_next seen old at now m sound el left none)
     (not_attached_does seen old new m.session m.e graph leaving (none_has_request m.session old.requests none) told_row same)
-    (ap (λ (w : WorldValue D). w.shape) same) (λ b f. absurd (no_block b f)) (subst (IsSound seen) (sym same) sound)
+    tt tt (ap (λ (w : WorldValue D). w.shape) same) (λ b f. absurd (no_block b f)) (subst (IsSound seen) (sym same) sound)
   where
     no_block : (b : ℕ) → None ≡ Some b → ⊥
     no_block b f = cc

@@ -4,6 +4,7 @@ use Rattle.std.specs.Prelude.{Some, None, IsTrue}
 use Rattle.std.specs.List.{AllByRecursion}
 use Rattle.std.proofs.lemmas.List.{length-map}
 use Rattle.qs_outside.specs.Blocks.{Seen}
+use Rattle.qs_outside.specs.Rigged.{plans_of}
 use Rattle.qs_part.specs.declared.stripe.Side.{Side}
 use Rattle.qs_image.specs.Image.{disk, align_of, size_of, block_now}
 use Rattle.qs_image.specs.Opening.{IsImage, IsAlike}
@@ -26,7 +27,7 @@ use Rattle.qs_tracker.specs.Table.{fresh as fresh_tracker}
 use Rattle.qs_tracker.proofs.Seats.{nobody as no_seat}
 use Rattle.qs_world.specs.Graphs.{export_of}
 use Rattle.qs_world.specs.Images.{stripe_at, all_tell}
-use Rattle.qs_world.specs.Openings.{Exports, HasNoExport, IsOpened}
+use Rattle.qs_world.specs.Openings.{Exports, HasNoExport, IsOpened, planned_of}
 use Rattle.qs_world.specs.Sound.{IsSound, IsStripe}
 use Rattle.qs_world.specs.Stands.{Stands}
 use Rattle.qs_world.specs.Trackers.{seat_of}
@@ -46,7 +47,7 @@ pub record IsFresh {D : Type 0} (seen : D → Seen) (disks : List D) (file : Lis
   pub free : AllByRecursion (λ s. Opened (stripe_value seen s)) w.stripes
 
 -- a stripe's disk is the disk of its number
-disk_of : {D : Type 0} (seen : D → Seen) (ss : List (StripeState D)) (j : ℕ) →
+pub disk_of : {D : Type 0} (seen : D → Seen) (ss : List (StripeState D)) (j : ℕ) →
     (stripe_at (map (stripe_value seen) ss) j).disk ≡ disk (map seen (map (λ s. s.disk) ss)) j
 disk_of seen [] zero = refl
 disk_of seen [] (suc j) = refl
@@ -70,7 +71,7 @@ none_hold h e = cc
 -- the state of the model, whatever a crash may leave
 abbrev pub made_state : {D : Type 0} → (D → Seen) → List D → WorldValue D → (ℕ → List (List ℕ)) → World
 made_state seen disks w past =
-    record (opening (all_tell (stripes_of seen w)) (block_now (map seen disks))) { image = record (settled (block_now (map seen disks))) { past = past } }
+    record (opening (all_tell (stripes_of seen w)) (planned_of (map seen disks)) (block_now (map seen disks))) { image = record (settled (block_now (map seen disks))) { past = past } }
 
 disk_here : {D : Type 0} (seen : D → Seen) (disks : List D) (w : WorldValue D) (j : ℕ) → map (λ s. s.disk) w.stripes ≡ disks →
     (stripe_at (stripes_of seen w) j).disk ≡ disk (map seen disks) j
@@ -98,6 +99,7 @@ fresh_stands seen disks file read_only w past f pasts = record {
     );
     here = λ j k side b e. absurd (none_some b (sym (hold_of seen w.stripes j k side f.free) ∙ e));
   };
+  plans = λ j. sym (ap (λ (d : Seen). plans_of d.planned) (disk_here seen disks w j f.stripes));
 }
 
 many : {D : Type 0} (seen : D → Seen) (disks : List D) (w : WorldValue D) → length (map seen disks) ≡ 8 → map (λ s. s.disk) w.stripes ≡ disks → length w.stripes ≡ 8

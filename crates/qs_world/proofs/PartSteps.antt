@@ -1,5 +1,5 @@
 -- One operation of a request on each part is a step of the core.
-use Rattle.std.proofs.Common.{◌≡◌, ℕ, zero, suc, ◌<◌, inl, inr, List, [], ◌∷◌, ◌++◌, length, map, Bool, true, false, ◌&&◌, refl, sym, ◌∙◌, ap, subst, arith}
+use Rattle.std.proofs.Common.{◌≡◌, ℕ, ◌+◌, ◌*◌, zero, suc, ◌<◌, ◌≤◌, ◌⊎◌, inl, inr, List, [], ◌∷◌, ◌++◌, length, map, Bool, true, false, ◌&&◌, refl, sym, ◌∙◌, ap, subst, arith}
 use Rattle.std.specs.Prelude.{Some, None, IsTrue}
 use Rattle.std.specs.List.{slice_set}
 use Rattle.std.proofs.lemmas.List.{get_or-set_same, get_or-set_other, length-set, length-map, map-set}
@@ -67,6 +67,9 @@ no_cause seen old new l reply note at requests (Moved n) none follows = λ b is 
     never b e = cc
 no_cause seen old new l reply note at requests _ none follows = tt
 
+no_block : (b : ℕ) → None ≡ Some b → ⊥
+no_block b e = cc
+
 -- one entry more of the tracker's history
 pub history_more : (v w : TrackerValue) (op : TrackerOp) (reply : TrackerReply) → HasHistory v → Fits op → answers v op reply w → HasHistory w
 history_more v w op reply h fits row =
@@ -98,7 +101,8 @@ tracker_steps seen old new at l op reply outcome sound e wants fits row shape ne
       history = history_more old.tracker new.tracker op reply sound.tracker fits row;
     })
     (λ m stands. r.guard m stands.tracker) r.tracks
-    (λ i stands. rw (r.images i, stripes) stands) follows
+    (λ i stands. rw (r.images i, stripes) stands) (λ p stands. rw (r.plans p, stripes) stands) (r.as_planned (stripe_at (stripes_of seen old)))
+    (λ b is. absurd (no_block b (sym r.off ∙ is))) follows
     (no_cause seen old new (waiting l) (ByTracker reply) (tracker_note (tracker_kind op) reply) at (slice_set old.requests at (waiting l)) outcome refl follows)
 
 pub graph_steps : {D : Type 0} (seen : D → Seen) (old new : WorldValue D) (at : ℕ) (l : Live) (op : GraphOp) (reply : GraphReply) (outcome : Outcome) →
@@ -119,7 +123,8 @@ graph_steps seen old new at l op reply outcome sound e wants row shape next sess
     })
     (λ m stands. r.guard m stands.graph)
     (λ t stands. rw (r.tracks t, tracker) stands)
-    (λ i stands. rw (r.images i, stripes) stands) follows
+    (λ i stands. rw (r.images i, stripes) stands) (λ p stands. rw (r.plans p, stripes) stands) (r.as_planned (stripe_at (stripes_of seen old)))
+    (λ b is. absurd (no_block b (sym r.off ∙ is))) follows
     (no_cause seen old new (waiting l) (ByGraph reply) (route_note reply) at (slice_set old.requests at (waiting l)) outcome refl follows)
 
 -- where all disks tell their content, each does
@@ -180,6 +185,17 @@ stripe_is shape z (LoadOp b k buf) fits = fits.0.stripe
 stripe_is shape z (HoldOp b k end buf) fits = fits.0.stripe
 stripe_is shape z (StoreOp b k buf) fits = fits.0.stripe
 stripe_is shape z (FreeOp b k) fits = fits.0.stripe
+
+pub block_inside : (shape : Shape) (z : ℕ) (op : StripeOp) → FitsStripe shape z op → (block_of op + 1) * shape.align ≤ shape.size
+block_inside shape z (LoadOp b k buf) fits = fits.0.inside
+block_inside shape z (HoldOp b k end buf) fits = fits.0.inside
+block_inside shape z (StoreOp b k buf) fits = fits.0.inside
+block_inside shape z (FreeOp b k) fits = fits.0.inside
+
+-- a block has bytes
+some_bytes : (align : ℕ) → (align ≡ 512) ⊎ (align ≡ 4096) → 0 < align
+some_bytes align (inl e) = omega arith
+some_bytes align (inr e) = omega arith
 
 -- the core's stripes behind an operation of one
 pub record StripeChanged {D : Type 0} (seen : D → Seen) (old new : WorldValue D) (z : ℕ) (s t : StripeState D) : Type 0 where
@@ -266,9 +282,10 @@ stripe_steps seen old new at l z op reply s t outcome sound e wants fits below w
       stripes = λ j h. changed_stripes seen old new z s t c shape same j (sound.stripes j h);
       history = rw tracker sound.tracker;
     })
-    (λ m stands. r.guard m stands.tells stands.image)
+    (λ m stands. r.guard m stands.tells stands.image stands.plans)
     (λ k stands. rw (r.tracks k, tracker) stands)
-    r.images follows
+    r.images r.plans r.as_planned
+    (λ b on. (some_bytes old.shape.align sound.shape.align, subst (λ (x : ℕ). (x + 1) * old.shape.align ≤ old.shape.size) (sym (r.on b on)) (block_inside old.shape z op fits))) follows
     (stripe_cause seen old new (waiting l) (ByStripe reply) (stripe_kind op) (block_of op) reply at (slice_set old.requests at (waiting l)) outcome
     (λ fault. subst (λ (j : ℕ). Rose (stripe_at (stripes_of seen old) j).disk.faults (stripe_at (stripes_of seen new) j).disk.faults)
     (stripe_is old.shape z op fits)

@@ -1,4 +1,4 @@
--- A planned failure changes nothing that the model sees.
+-- A planned failure is a step of the model.
 use Rattle.std.proofs.Common.{◌≡◌, ◌↔◌, ℕ, ◌<◌, length, get_or, Bool, refl, sym, ◌∙◌, ap, subst, arith}
 use Rattle.std.specs.Prelude.{Some}
 use Rattle.std.specs.List.{slice_set}
@@ -6,17 +6,20 @@ use Rattle.std.proofs.lemmas.List.{length-set}
 use Rattle.qs_outside.specs.Blocks.{Seen}
 use Rattle.qs_outside.specs.declared.rigged_disk.Fail.{Fail}
 use Rattle.qs_outside.specs.Rigged.{planned_too, plans_of}
-use Rattle.qs_model.specs.Worlds.{Image, World, stripe_of}
+use Rattle.qs_model.specs.Acts.{Planned as PlannedStep}
+use Rattle.qs_model.specs.Steps.{happens}
+use Rattle.qs_model.specs.Worlds.{Image, stripe_of}
 use Rattle.qs_stripe.specs.Holds.{holds_of}
 use Rattle.qs_stripe.specs.Table.{StripeState, StripeValue, value_of as stripe_value}
 use Rattle.qs_world.specs.Images.{StandsImage, Changed, stripe_at, all_tell}
+use Rattle.qs_world.specs.Events.{Does}
 use Rattle.qs_world.specs.Openings.{Planned}
 use Rattle.qs_world.specs.Sound.{IsSound}
-use Rattle.qs_world.specs.Stands.{Stands}
 use Rattle.qs_world.specs.Values.{WorldValue, stripes_of}
 use Rattle.qs_world.proofs.Indexing.{stripe_here}
 use Rattle.qs_world.proofs.PartSteps.{StripeChanged, changed_of, changed_values, changed_stripes, many_values, all_tell_set}
 use Rattle.qs_world.proofs.StripeRows.{changed}
+use Rattle.qs_world.proofs.PlanRows.{plans_planned}
 
 -- the blocks' contents and holds are as they were
 kept_image : (z : ℕ) (v : StripeValue) (s t : ℕ → StripeValue) (tells : Bool) (i : Image) → Changed z v s t → ((b : ℕ) → v.disk.now b ≡ (s z).disk.now b) →
@@ -50,23 +53,28 @@ planned_all {D = D} seen old z s t fail sound below at places disk =
     ∙ all_tell_set (stripes_of seen old) z (stripe_value seen t) (many_values seen old z inside)
     (ap (λ (d : Seen). d.tells) disk ∙ sym (ap (λ (v : StripeValue). v.disk.tells) here)) in
     let holds : (stripe_value seen t).hold ≡ (stripe_at (stripes_of seen old) z).hold = ap holds_of places ∙ sym (ap (λ (v : StripeValue). v.hold) here) in
-    let stands : (m : World) → Stands seen old m → Stands seen new m = λ m st. record {
-      tells = st.tells ∙ sym tells;
-      next = st.next;
-      request = st.request;
-      session = st.session;
-      graph = st.graph;
-      clients = st.clients;
-      tracker = st.tracker;
-      image = kept_image z (stripe_value seen t) (stripe_at (stripes_of seen old)) (stripe_at (stripes_of seen new)) m.tells m.image change
-          (λ b. ap (λ (d : Seen). d.now b) disk ∙ sym (ap (λ (v : StripeValue). v.disk.now b) here))
-          (λ b. ap (λ (d : Seen). d.past b) disk ∙ sym (ap (λ (v : StripeValue). v.disk.past b) here)) holds st.image;
-    } in (
+    let does : Does seen old (PlannedStep z fail) new = λ m st. (
+      below,
+      record {
+        tells = st.tells ∙ sym tells;
+        next = st.next;
+        request = st.request;
+        session = st.session;
+        graph = st.graph;
+        clients = st.clients;
+        tracker = st.tracker;
+        image = kept_image z (stripe_value seen t) (stripe_at (stripes_of seen old)) (stripe_at (stripes_of seen new)) m.tells m.image change
+            (λ b. ap (λ (d : Seen). d.now b) disk ∙ sym (ap (λ (v : StripeValue). v.disk.now b) here))
+            (λ b. ap (λ (d : Seen). d.past b) disk ∙ sym (ap (λ (v : StripeValue). v.disk.past b) here)) holds st.image;
+        plans = plans_planned z (stripe_value seen t) (stripe_at (stripes_of seen old)) (stripe_at (stripes_of seen new)) m.plans fail change st.plans
+            (ap (λ (d : Seen). d.planned) disk ∙ ap (λ (v : StripeValue). Some (planned_too fail (plans_of v.disk.planned))) (sym here));
+      },
+    ) in (
       record {
         rest = refl;
         planned = ap (λ (v : StripeValue). v.disk) change.this ∙ disk ∙ ap (λ (v : StripeValue). with_plan v.disk fail) (sym here);
         others = change.others;
-        stands = stands;
+        does = does;
       },
       record {
         shape = sound.shape;
@@ -79,6 +87,6 @@ planned_all {D = D} seen old z s t fail sound below at places disk =
         requests = sound.requests;
         numbers = sound.numbers;
         sessions = sound.sessions;
-        model = (sound.model.0, stands sound.model.0 sound.model.1);
+        model = (happens old.shape.align sound.model.0 (PlannedStep z fail), (does sound.model.0 sound.model.1).1);
       },
     )

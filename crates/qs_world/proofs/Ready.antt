@@ -1,5 +1,5 @@
 -- A request that has its answer gives it at its next step.
-use Rattle.std.proofs.Common.{◌≡◌, ℕ, List, Bool, refl, ap}
+use Rattle.std.proofs.Common.{◌≡◌, ℕ, List, Bool, refl, sym, ap, ◌∙◌}
 use Rattle.std.specs.Prelude.{Some, None}
 use Rattle.std.specs.List.{remove}
 use Rattle.qs_bytes.specs.declared.ask.Verdict.{Verdict}
@@ -11,18 +11,21 @@ use Rattle.qs_part.specs.declared.tracker.TrackerOp.TheVariants.{Enter as EnterO
 use Rattle.qs_bytes.specs.Spans.{aligned_out}
 use Rattle.qs_model.specs.Requests.{Client, Pads, Stage, ToRoute, ToList, ToStart, ToLoad, ToHold, ToStore, ToFree, ToEnd, Ready, Entering, In, edge, span_of, serial}
 use Rattle.qs_model.specs.Worlds.{stripe_of, Tracker, Image, World}
-use Rattle.qs_model.specs.Acts.{Act, Answers, Did}
+use Rattle.qs_model.specs.Acts.{block_of, Act, Answers, Did}
 use Rattle.qs_model.specs.Guards.{MayDo}
-use Rattle.qs_model.specs.Steps.{moved, tracked, imaged}
+use Rattle.qs_outside.specs.declared.rigged_disk.Plans.{Plans}
+use Rattle.qs_model.specs.Steps.{moved, tracked, imaged, spent}
+use Rattle.qs_stripe.specs.Table.{StripeValue}
 use Rattle.qs_model.specs.Events.{row_outcome}
 use Rattle.qs_request.specs.declared.todo.Todo.TheVariants.{Tracker as OnTracker, Graph as OnGraph, Stripe as OnStripe, Answer}
 use Rattle.qs_request.specs.Table.{WantsAt}
 use Rattle.qs_world.specs.declared.live.Live.{Live}
 use Rattle.qs_world.specs.Cores.{StepsRequest}
-use Rattle.qs_world.specs.Events.{Does}
+use Rattle.qs_world.specs.Events.{Does, IsRowAsPlanned}
+use Rattle.qs_world.specs.Images.{stripe_at}
 use Rattle.qs_world.specs.Follows.{IsElement}
 use Rattle.qs_world.specs.Sound.{IsSound}
-use Rattle.qs_world.specs.Values.{WorldValue}
+use Rattle.qs_world.specs.Values.{WorldValue, stripes_of}
 use Rattle.qs_world.proofs.Answering.{Others, Listed, req, was_answered, found, stays_sound}
 use Rattle.qs_world.proofs.Doing.{did_does}
 
@@ -34,6 +37,9 @@ pub record AnswerRow (A : ℕ) (c : Client) (d : Bool) (p : Pads) (stage : Stage
   pub guard : (w : World) → MayDo A w c p act
   pub tracks : (t : Tracker) → tracked A t c act ≡ t
   pub images : (i : Image) → imaged A i c act ≡ i
+  pub plans : (q : ℕ → Plans) → spent A q c act ≡ q
+  pub as_planned : (s : ℕ → StripeValue) → IsRowAsPlanned s act
+  pub off : block_of A c act ≡ None
 
 pub answer_row : (A : ℕ) (c : Client) (d : Bool) (p : Pads) (stage : Stage) (v : Verdict) → WantsAt A c p stage (Answer v) → AnswerRow A c d p stage v
 answer_row A c d p (Ready u) v w = record {
@@ -43,6 +49,9 @@ answer_row A c d p (Ready u) v w = record {
   guard = λ m. tt;
   tracks = λ t. refl;
   images = λ i. refl;
+  plans = λ q. refl;
+  as_planned = λ s. tt;
+  off = refl;
 }
   where
     same : (x y : Verdict) → Answer y ≡ Answer x → x ≡ y
@@ -73,12 +82,15 @@ answer_steps {D = D} seen old at l v requests sound e wants is =
     } in
     let does : Does seen old (Did l.number (req l) r.act) new =
     did_does seen old new l.number (req l) r.act (found old at l sound.numbers e) others.leaves (λ m stands. r.guard m)
-    (λ t stands. rw (r.tracks t) stands) (λ i stands. rw (r.images i) stands) list.model in
+    (λ t stands. rw (r.tracks t) stands) (λ i stands. rw (r.images i) stands)
+    (λ q stands. rw (r.plans q) stands) list.model in
     record {
       element = Did l.number (req l) r.act;
       answers_event = λ now. refl;
       outcome_is = list.outcome_is;
       does = does;
+      as_planned = r.as_planned (stripe_at (stripes_of seen old));
+      inside = λ b is. let no : None ≡ Some b = sym r.off ∙ is in absurd (cc);
       shape_kept = refl;
       cause = tt;
       sound = stays_sound seen old new l.number (req l) r.act sound others list.idle list.apart does;

@@ -15,9 +15,11 @@ use Rattle.qs_part.specs.declared.tracker.TrackerReply.{TrackerReply}
 use Rattle.qs_part.specs.declared.tracker.TrackerReply.TheVariants.{Entered, Quiesced as QuiescedReply, Full as FullReply, Listed, Strange as StrangeReply, Started, NotYet as NotYetReply, Ended}
 use Rattle.qs_model.specs.Requests.{Client, Pads, Stage, ToRoute, ToList, ToStart, ToLoad, ToHold, ToStore, ToFree, ToEnd, Ready, Entering, In, edge, span_of, serial}
 use Rattle.qs_model.specs.Worlds.{Tracker, Image, World, stripe_of}
-use Rattle.qs_model.specs.Acts.{Act, Waits, Enters, Routes, Shuts, Lists, Starts, Loads, LoadFails, Holds, HoldFails, Stores, StoreFails, Frees, Ends, Quiesced, Full, NotYet, HeldBy, Taken, Strange, NotHeld}
+use Rattle.qs_model.specs.Acts.{block_of as act_block, Act, Waits, Enters, Routes, Shuts, Lists, Starts, Loads, LoadFails, Holds, HoldFails, Stores, StoreFails, Frees, Ends, Quiesced, Full, NotYet, HeldBy, Taken, Strange, NotHeld}
 use Rattle.qs_model.specs.Guards.{MayDo}
-use Rattle.qs_model.specs.Steps.{tracked, imaged}
+use Rattle.qs_model.specs.Steps.{tracked, imaged, spent}
+use Rattle.qs_outside.specs.Blocks.{Seen}
+use Rattle.qs_outside.specs.declared.rigged_disk.Plans.{Plans}
 use Rattle.qs_model.specs.Events.{note_of}
 use Rattle.qs_bytes.specs.Spans.{aligned_out}
 use Rattle.qs_part.specs.declared.graph.GraphOp.{GraphOp}
@@ -33,13 +35,15 @@ use Rattle.qs_request.specs.declared.todo.Todo.TheVariants.{Tracker as OnTracker
 use Rattle.qs_request.specs.Table.{WantsAt}
 use Rattle.qs_tracker.proofs.Sound.{Sound}
 use Rattle.qs_world.specs.Graphs.{StandsGraph}
-use Rattle.qs_world.specs.Images.{StandsImage, Changed}
+use Rattle.qs_world.specs.Events.{IsRowAsPlanned}
+use Rattle.qs_world.specs.Images.{StandsImage, StandsPlans, Changed}
 use Rattle.qs_part.specs.declared.event.OpKind.TheVariants.{List as ListKind}
 use Rattle.qs_world.specs.Notes.{tracker_note, tracker_kind, route_note, stripe_note, stripe_kind, block_of}
 use Rattle.qs_world.specs.Trackers.{StandsTracker, tracker_of, listing_of}
 use Rattle.qs_world.proofs.TrackerRows.{entered, full, listed_row, list_strange, started_row, wait_row, start_strange, ended_row, end_strange, started_listing, can_start, nowhere}
 use Rattle.qs_world.proofs.GraphRows.{routed_row, shut_row}
-use Rattle.qs_world.proofs.StripeRows.{reads_stands, takes_stands, frees_stands, written_stands, told_past, can_read, can_hold, can_free, held_at, same_stands, holder_is, alone, not_held, can_store, may_keep, took, took_now}
+use Rattle.qs_world.proofs.StripeRows.{reads_stands, takes_stands, frees_stands, written_stands, told_past, can_read, can_hold, can_free, held_at, same_stands, holder_is, alone, not_held, can_store, may_keep, took, took_now, took_as_planned}
+use Rattle.qs_world.proofs.PlanRows.{plans_same, plans_load, plans_store}
 
 -- an answer of the tracker, as a row: what the tracker was and is
 pub record TrackerRow (A : ℕ) (c : Client) (p : Pads) (stage : Stage) (op : TrackerOp) (reply : TrackerReply) (old new : TrackerValue) : Type 0 where
@@ -49,6 +53,9 @@ pub record TrackerRow (A : ℕ) (c : Client) (p : Pads) (stage : Stage) (op : Tr
   pub guard : (w : World) → StandsTracker old w.tracker → MayDo A w c p act
   pub tracks : (t : Tracker) → StandsTracker old t → StandsTracker new (tracked A t c act)
   pub images : (i : Image) → imaged A i c act ≡ i
+  pub plans : (p : ℕ → Plans) → spent A p c act ≡ p
+  pub as_planned : (s : ℕ → StripeValue) → IsRowAsPlanned s act
+  pub off : act_block A c act ≡ None
 
 enter_row : (A : ℕ) (c : Client) (p : Pads) (reply : TrackerReply) (v : TrackerValue) → Sound v → May v EnterOp reply →
     TrackerRow A c p Entering EnterOp reply v (after v EnterOp reply)
@@ -59,6 +66,9 @@ enter_row A c p (Entered k) v sound may = record {
   guard = λ w stands. (entered v w.tracker k sound stands may).0;
   tracks = λ t stands. (entered v t k sound stands may).1;
   images = λ i. refl;
+  plans = λ p. refl;
+  as_planned = λ s. tt;
+  off = refl;
 }
 enter_row A c p QuiescedReply v sound may = record {
   act = Waits Quiesced;
@@ -67,6 +77,9 @@ enter_row A c p QuiescedReply v sound may = record {
   guard = λ w stands. stands.quiesced ∙ may;
   tracks = λ t stands. stands;
   images = λ i. refl;
+  plans = λ p. refl;
+  as_planned = λ s. tt;
+  off = refl;
 }
 enter_row A c p FullReply v sound may = record {
   act = Waits Full;
@@ -75,6 +88,9 @@ enter_row A c p FullReply v sound may = record {
   guard = λ w stands. full v w.tracker sound stands may;
   tracks = λ t stands. stands;
   images = λ i. refl;
+  plans = λ p. refl;
+  as_planned = λ s. tt;
+  off = refl;
 }
 enter_row A c p _ v sound may = absurd may
 
@@ -88,6 +104,9 @@ list_row A c p k (Listed n) v sound may = record {
   guard = λ w stands. let r = listed_row v w.tracker k n (aligned_out (span_of c) A) (serial A c) sound stands may in (r.0, r.1);
   tracks = λ t stands. (listed_row v t k n (aligned_out (span_of c) A) (serial A c) sound stands may).3;
   images = λ i. refl;
+  plans = λ p. refl;
+  as_planned = λ s. tt;
+  off = refl;
 }
 list_row A c p k StrangeReply v sound may = record {
   act = Waits Strange;
@@ -96,6 +115,9 @@ list_row A c p k StrangeReply v sound may = record {
   guard = λ w stands. list_strange v w.tracker k (aligned_out (span_of c) A) (serial A c) stands may;
   tracks = λ t stands. stands;
   images = λ i. refl;
+  plans = λ p. refl;
+  as_planned = λ s. tt;
+  off = refl;
 }
 list_row A c p k _ v sound may = absurd may
 
@@ -110,6 +132,9 @@ start_row A c p k Started v sound may =
       guard = λ w stands. can_start v w.tracker k l.0 stands l.1.0 l.1.1;
       tracks = λ t stands. started_row v t k l.0 stands l.1.0;
       images = λ i. refl;
+      plans = λ p. refl;
+      as_planned = λ s. tt;
+      off = refl;
     }
 start_row A c p k (NotYetReply n) v sound may = record {
   act = Waits (NotYet n);
@@ -118,6 +143,9 @@ start_row A c p k (NotYetReply n) v sound may = record {
   guard = λ w stands. wait_row v w.tracker k n stands may;
   tracks = λ t stands. stands;
   images = λ i. refl;
+  plans = λ p. refl;
+  as_planned = λ s. tt;
+  off = refl;
 }
 start_row A c p k StrangeReply v sound may = record {
   act = Waits Strange;
@@ -126,6 +154,9 @@ start_row A c p k StrangeReply v sound may = record {
   guard = λ w stands. start_strange v w.tracker k stands may;
   tracks = λ t stands. stands;
   images = λ i. refl;
+  plans = λ p. refl;
+  as_planned = λ s. tt;
+  off = refl;
 }
 start_row A c p k reply v sound may =
     absurd (nowhere (λ s. MayStart v.seats s reply) (λ h. h) (λ h. h) (λ l h. h) (seat_at v.seats k) may)
@@ -139,6 +170,9 @@ end_row A c p k answer Ended v sound may = record {
   guard = λ w stands. (ended_row v w.tracker k stands may).0;
   tracks = λ t stands. (ended_row v t k stands may).1;
   images = λ i. refl;
+  plans = λ p. refl;
+  as_planned = λ s. tt;
+  off = refl;
 }
 end_row A c p k answer StrangeReply v sound may = record {
   act = Waits Strange;
@@ -147,6 +181,9 @@ end_row A c p k answer StrangeReply v sound may = record {
   guard = λ w stands. end_strange v w.tracker k stands may;
   tracks = λ t stands. stands;
   images = λ i. refl;
+  plans = λ p. refl;
+  as_planned = λ s. tt;
+  off = refl;
 }
 end_row A c p k answer _ v sound may = absurd may
 
@@ -184,6 +221,9 @@ pub record GraphRow (A : ℕ) (c : Client) (p : Pads) (stage : Stage) (reply : G
   pub guard : (w : World) → StandsGraph v w.graph → MayDo A w c p act
   pub tracks : (t : Tracker) → tracked A t c act ≡ t
   pub images : (i : Image) → imaged A i c act ≡ i
+  pub plans : (p : ℕ → Plans) → spent A p c act ≡ p
+  pub as_planned : (s : ℕ → StripeValue) → IsRowAsPlanned s act
+  pub off : act_block A c act ≡ None
 
 route_row : (A : ℕ) (c : Client) (p : Pads) (k : ℕ) (reply : GraphReply) (v : GraphValue) → MayGraph v (RouteOp c.export) reply →
     GraphRow A c p (In k ToRoute) reply v
@@ -194,6 +234,9 @@ route_row A c p k (Routed way) v may = record {
   guard = λ w stands. routed_row v w.graph c.export way stands may;
   tracks = λ t. refl;
   images = λ i. refl;
+  plans = λ p. refl;
+  as_planned = λ s. tt;
+  off = refl;
 }
 route_row A c p k Shutting v may = record {
   act = Shuts;
@@ -202,6 +245,9 @@ route_row A c p k Shutting v may = record {
   guard = λ w stands. shut_row v w.graph c.export stands may;
   tracks = λ t. refl;
   images = λ i. refl;
+  plans = λ p. refl;
+  as_planned = λ s. tt;
+  off = refl;
 }
 route_row A c p k _ v may = absurd may
 
@@ -234,9 +280,12 @@ pub record StripeRow (A : ℕ) (c : Client) (p : Pads) (stage : Stage) (op : Str
   pub act : Act stage
   pub is_row : IsRow (ByStripe reply) act
   pub note : note_of A c act ≡ Some (stripe_note (stripe_kind op) (block_of op) reply)
-  pub guard : (w : World) → w.tells ≡ tells → StandsImage s w.tells w.image → MayDo A w c p act
+  pub guard : (w : World) → w.tells ≡ tells → StandsImage s w.tells w.image → StandsPlans s w.plans → MayDo A w c p act
   pub images : (i : Image) → StandsImage s tells i → StandsImage t tells (imaged A i c act)
   pub tracks : (r : Tracker) → tracked A r c act ≡ r
+  pub plans : (q : ℕ → Plans) → StandsPlans s q → StandsPlans t (spent A q c act)
+  pub as_planned : IsRowAsPlanned s act
+  pub on : (d : ℕ) → act_block A c act ≡ Some d → d ≡ block_of op
 
 -- a stripe of the right shape did an operation on one of its blocks, and the others did nothing
 pub record Steps (A z : ℕ) (op : StripeOp) (reply : StripeReply) (tells : Bool) (s t : ℕ → StripeValue) : Type 0 where
@@ -255,17 +304,23 @@ load_row A c p k b got buf (Filled bytes) tells s t step = record {
   act = Loads bytes;
   is_row = refl;
   note = refl;
-  guard = λ w same stands. can_read A b bytes s w stands (told_for tells w (s (stripe_of b)).disk.tells same step.told) step.align step.row.1;
+  guard = λ w same stands plans. can_read A b bytes s w stands plans (told_for tells w (s (stripe_of b)).disk.tells same step.told) step.align step.row.1;
   images = λ i stands. reads_stands (stripe_of b) step.new s t tells i step.change stands step.told step.row.0 step.row.2;
   tracks = λ r. refl;
+  plans = λ q stands. plans_load b step.new s t q step.change stands step.row.0.planned;
+  as_planned = tt;
+  on = λ d is. cc;
 }
 load_row A c p k b got buf (Fault (Some back)) tells s t step = record {
   act = LoadFails;
   is_row = tt;
   note = refl;
-  guard = λ w same stands. tt;
+  guard = λ w same stands plans. tt;
   images = λ i stands. reads_stands (stripe_of b) step.new s t tells i step.change stands step.told step.row.0 step.row.2;
   tracks = λ r. refl;
+  plans = λ q stands. plans_load b step.new s t q step.change stands step.row.0.planned;
+  as_planned = tt;
+  on = λ d is. cc;
 }
 load_row A c p k b got buf (Fault None) tells s t step = absurd step.row
 load_row A c p k b got buf _ tells s t step = absurd step.row
@@ -281,41 +336,53 @@ hold_row A c p k side buf (HeldByReply j back) tells s t step = record {
   act = Waits (HeldBy j);
   is_row = refl;
   note = refl;
-  guard = λ w same stands. holder_is j (edge A c side) s w.tells w.image stands step.row.0;
+  guard = λ w same stands plans. holder_is j (edge A c side) s w.tells w.image stands step.row.0;
   images = λ i stands. still (stripe_of (edge A c side)) step.new s t tells i step.change step.row.2 stands;
   tracks = λ r. refl;
+  plans = λ q stands. plans_same (stripe_of (edge A c side)) step.new s t q step.change stands (ap (λ (v : StripeValue). v.disk.planned) step.row.2);
+  as_planned = tt;
+  on = λ d is. cc;
 }
 hold_row A c p k side buf (TakenReply b back) tells s t step = record {
   act = Waits (Taken b);
   is_row = refl;
   note = refl;
-  guard = λ w same stands. (
+  guard = λ w same stands plans. (
     (can_free (edge A c side) s w.tells w.image stands step.row.0),
     stands.here (stripe_of (edge A c side)) k side b step.row.1,
     held_at k b side s w.tells w.image stands (stands.here (stripe_of (edge A c side)) k side b step.row.1) step.row.1,
   );
   images = λ i stands. still (stripe_of (edge A c side)) step.new s t tells i step.change step.row.3 stands;
   tracks = λ r. refl;
+  plans = λ q stands. plans_same (stripe_of (edge A c side)) step.new s t q step.change stands (ap (λ (v : StripeValue). v.disk.planned) step.row.3);
+  as_planned = tt;
+  on = λ d is. cc;
 }
 hold_row A c p k side buf (Filled bytes) tells s t step = record {
   act = Holds bytes;
   is_row = refl;
   note = refl;
-  guard = λ w same stands. (
+  guard = λ w same stands plans. (
     can_hold k (edge A c side) side s w.tells w.image stands step.row.0 step.row.1,
-    can_read A (edge A c side) bytes s w stands (told_for tells w (s (stripe_of (edge A c side))).disk.tells same step.told) step.align step.row.3,
+    can_read A (edge A c side) bytes s w stands plans (told_for tells w (s (stripe_of (edge A c side))).disk.tells same step.told) step.align step.row.3,
   );
   images = λ i stands. takes_stands (stripe_of (edge A c side)) k (edge A c side) side step.new s t tells i refl step.change stands step.told
       step.row.2 step.row.4 step.row.0 step.row.1;
   tracks = λ r. refl;
+  plans = λ q stands. plans_load (edge A c side) step.new s t q step.change stands step.row.2.planned;
+  as_planned = tt;
+  on = λ d is. cc;
 }
 hold_row A c p k side buf (Fault (Some back)) tells s t step = record {
   act = HoldFails;
   is_row = tt;
   note = refl;
-  guard = λ w same stands. can_hold k (edge A c side) side s w.tells w.image stands step.row.0 step.row.1;
+  guard = λ w same stands plans. can_hold k (edge A c side) side s w.tells w.image stands step.row.0 step.row.1;
   images = λ i stands. reads_stands (stripe_of (edge A c side)) step.new s t tells i step.change stands step.told step.row.2 step.row.4;
   tracks = λ r. refl;
+  plans = λ q stands. plans_load (edge A c side) step.new s t q step.change stands step.row.2.planned;
+  as_planned = tt;
+  on = λ d is. cc;
 }
 hold_row A c p k side buf (Fault None) tells s t step = absurd step.row
 hold_row A c p k side buf _ tells s t step = absurd step.row
@@ -327,41 +394,51 @@ store_row A c p k b buf (HeldByReply j back) tells s t whole merged step = recor
   act = Waits (HeldBy j);
   is_row = refl;
   note = refl;
-  guard = λ w same stands. let h = holder_is j b s w.tells w.image stands step.row.0 in (h.0, (h.1.0, h.1.1, step.row.1));
+  guard = λ w same stands plans. let h = holder_is j b s w.tells w.image stands step.row.0 in (h.0, (h.1.0, h.1.1, step.row.1));
   images = λ i stands. still (stripe_of b) step.new s t tells i step.change step.row.3 stands;
   tracks = λ r. refl;
+  plans = λ q stands. plans_same (stripe_of b) step.new s t q step.change stands (ap (λ (v : StripeValue). v.disk.planned) step.row.3);
+  as_planned = tt;
+  on = λ d is. cc;
 }
 store_row A c p k b buf (Done back) tells s t whole merged step = record {
   act = Stores buf (told_past tells step.new b);
   is_row = step.row.3;
   note = refl;
-  guard = λ w same stands. guarded w same stands;
+  guard = λ w same stands plans. guarded w same stands plans;
   images = λ i stands. written_stands (stripe_of b) k b buf buf step.new s t tells i refl step.change stands step.told step.row.1
-      (λ tell. let is = step.row.2 (step.told tell) in (is.here, is.others)) step.row.4 step.row.0;
+      (λ tell. let is = step.row.2.now (step.told tell) in (is.here, is.others)) step.row.4 step.row.0;
   tracks = λ r. refl;
+  plans = λ q stands. plans_store b step.new s t q step.change stands step.row.1.planned;
+  as_planned = tt;
+  on = λ d is. cc;
 }
   where
-    guarded : (w : World) → w.tells ≡ tells → StandsImage s w.tells w.image → MayDo A w c p (Stores {k = k} {b = b} buf (told_past tells step.new b))
-    guarded w same stands =
+    guarded : (w : World) → w.tells ≡ tells → StandsImage s w.tells w.image → StandsPlans s w.plans → MayDo A w c p (Stores {k = k} {b = b} buf (told_past tells step.new b))
+    guarded w same stands plans =
         let told = told_for tells w (s (stripe_of b)).disk.tells same step.told in
         subst (λ (d : Bool). MayDo A w c p (Stores {k = k} {b = b} buf (told_past d step.new b))) same (
           can_store A k b c p buf step.new s w.tells w.image stands told step.row.0 whole merged step.row.1,
-          may_keep b buf buf step.new s w stands told step.row.1 (λ tell. (step.row.2 (told tell)).here),
+          may_keep b buf buf step.new s w stands told step.row.1 (λ tell. (step.row.2.now (told tell)).here),
+          ap (λ (x : Plans). x.store) (plans (stripe_of b)) ∙ step.row.2.works,
         )
 store_row A c p k b buf (Fault (Some back)) tells s t whole merged step = record {
   act = StoreFails buf (took tells b buf (s (stripe_of b)).disk step.new.disk step.told step.row.2) (told_past tells step.new b);
   is_row = ap Some step.row.3;
   note = refl;
-  guard = λ w same stands. guarded w same stands;
+  guard = λ w same stands plans. guarded w same stands plans;
   images = λ i stands. written_stands (stripe_of b) k b buf (cond (took tells b buf (s (stripe_of b)).disk step.new.disk step.told step.row.2) buf (i.now b))
       step.new s t tells i refl step.change stands step.told step.row.1
       (took_now tells b buf (i.now b) (s (stripe_of b)).disk step.new.disk step.told step.row.2 (λ tell. stands.now tell b)) step.row.4 step.row.0;
   tracks = λ r. refl;
+  plans = λ q stands. plans_store b step.new s t q step.change stands step.row.1.planned;
+  as_planned = took_as_planned tells b buf (s (stripe_of b)).disk step.new.disk step.told step.row.2;
+  on = λ d is. cc;
 }
   where
-    guarded : (w : World) → w.tells ≡ tells → StandsImage s w.tells w.image →
+    guarded : (w : World) → w.tells ≡ tells → StandsImage s w.tells w.image → StandsPlans s w.plans →
         MayDo A w c p (StoreFails {k = k} {b = b} buf (took tells b buf (s (stripe_of b)).disk step.new.disk step.told step.row.2) (told_past tells step.new b))
-    guarded w same stands =
+    guarded w same stands plans =
         let told = told_for tells w (s (stripe_of b)).disk.tells same step.told in
         subst (λ (d : Bool). MayDo A w c p (StoreFails {k = k} {b = b} buf (took tells b buf (s (stripe_of b)).disk step.new.disk step.told step.row.2) (told_past d step.new b))) same (
           can_store A k b c p buf step.new s w.tells w.image stands told step.row.0 whole merged step.row.1,
@@ -379,18 +456,24 @@ free_row A c p k side Freed tells s t step = record {
   act = Frees;
   is_row = tt;
   note = refl;
-  guard = λ w same stands. holder_is k (edge A c side) s w.tells w.image stands step.row.0;
+  guard = λ w same stands plans. holder_is k (edge A c side) s w.tells w.image stands step.row.0;
   images = λ i stands. frees_stands (stripe_of (edge A c side)) k (edge A c side) step.new s t tells i refl step.change stands step.row.1 step.row.2
       (alone k (edge A c side) s tells i stands step.row.0);
   tracks = λ r. refl;
+  plans = λ q stands. plans_same (stripe_of (edge A c side)) step.new s t q step.change stands (ap (λ (d : Seen). d.planned) step.row.1);
+  as_planned = tt;
+  on = λ d is. cc;
 }
 free_row A c p k side NotHeldReply tells s t step = record {
   act = Waits NotHeld;
   is_row = tt;
   note = refl;
-  guard = λ w same stands. not_held k (edge A c side) s w.tells w.image stands step.row.0;
+  guard = λ w same stands plans. not_held k (edge A c side) s w.tells w.image stands step.row.0;
   images = λ i stands. still (stripe_of (edge A c side)) step.new s t tells i step.change step.row.1 stands;
   tracks = λ r. refl;
+  plans = λ q stands. plans_same (stripe_of (edge A c side)) step.new s t q step.change stands (ap (λ (v : StripeValue). v.disk.planned) step.row.1);
+  as_planned = tt;
+  on = λ d is. cc;
 }
 free_row A c p k side _ tells s t step = absurd step.row
 

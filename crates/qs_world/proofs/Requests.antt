@@ -8,6 +8,7 @@ use Rattle.qs_bytes.specs.declared.ask.Kind.TheVariants.{Read, Write, Zero, Trim
 use Rattle.qs_outside.specs.Blocks.{Seen}
 use Rattle.qs_part.specs.declared.event.Event.TheVariants.{Ask as AskEvent}
 use Rattle.qs_part.specs.declared.event.Outcome.TheVariants.{Made}
+use Rattle.qs_model.proofs.Basics.{either}
 use Rattle.qs_model.specs.Requests.{Client, asked, is_write}
 use Rattle.qs_model.specs.Worlds.{Live as LiveAt}
 use Rattle.qs_model.specs.Acts.{Asked}
@@ -33,9 +34,14 @@ never_next w [] all h = h
 never_next w (l ∷ ls) all (inl e) = omega (arith, all.0.below, e)
 never_next w (l ∷ ls) all (inr h) = never_next w ls all.1 h
 
+-- no bytes
+bare_bytes : (k : Kind) → bytes_of k [] ≡ []
+bare_bytes Write = refl
+bare_bytes _ = refl
+
 -- a request that has no body of its own wants none, or memory was refused
 lacks : (ask : Ask) (session e : ℕ) (blocks : Option Blocks) → HasNone (client_for session ask e None blocks)
-lacks ask session e blocks = go (ask.length == 0) refl
+lacks ask session e blocks = record { wanted = go (ask.length == 0) refl; empty = bare_bytes ask.kind }
   where
     go : (b : Bool) → (ask.length == 0) ≡ b → (ask.length ≡ 0) ⊎ ((b || (is_some {T = List ℕ} None && is_some blocks)) ≡ false)
     go true is = inl (grind (arith, is))
@@ -55,7 +61,7 @@ brings session e ask None blocks = lacks ask session e blocks
 brings session e ask (Some body) blocks = go (length body == ask.length) refl
   where
     go : (b : Bool) → (length body == ask.length) ≡ b → Brings (Some body) (client_for session ask e (cond b (Some body) None) blocks)
-    go true is = inl (λ writing. write_bytes ask.kind body writing)
+    go true is = inl (grind (arith, is), λ writing. write_bytes ask.kind body writing)
     go false is = inr (λ same. no (sym (eq-eqb (length body) ask.length same) ∙ is), lacks ask session e blocks)
       where
         no : true ≡ false → ⊥
@@ -64,6 +70,11 @@ brings session e ask (Some body) blocks = go (length body == ask.length) refl
 -- a request of no length has all that it wants
 buffered : (ask : Ask) (body : Option (List ℕ)) (blocks : Option Blocks) → ask.length ≡ 0 → has_buffers ask body blocks ≡ true
 buffered ask body blocks none = ap (λ (b : Bool). b || (is_some body && is_some blocks)) (eq-eqb ask.length 0 none)
+
+-- no other request has bytes
+other_bytes : (k : Kind) (bytes : List ℕ) → is_write k ≡ false → bytes_of k bytes ≡ []
+other_bytes Write bytes e = absurd (cc)
+other_bytes _ bytes e = refl
 
 -- a WRITE that has its buffers has its bytes
 whole_body : (ask : Ask) (body : Option (List ℕ)) (blocks : Option Blocks) → is_write ask.kind ≡ true → has_buffers ask (fitted body ask.length) blocks ≡ true →
@@ -87,6 +98,20 @@ whole_body ask (Some body) blocks writing has = go (length body == ask.length) r
     go true is f = sym (ap length (write_bytes ask.kind body writing)) ∙ grind (arith, is)
     go false is f = sym (ap length (write_bytes ask.kind [] writing)) ∙ sym (some (ask.length == 0) refl f)
 
+-- one that was refused them has its bytes all the same, or none
+refused_body : (ask : Ask) (body : Option (List ℕ)) (blocks : Option Blocks) →
+    (bytes_of ask.kind (given_bytes (fitted body ask.length)) ≡ []) ⊎ (length (bytes_of ask.kind (given_bytes (fitted body ask.length))) ≡ ask.length)
+refused_body ask None blocks = inl (bare_bytes ask.kind)
+refused_body ask (Some body) blocks = go (length body == ask.length) refl
+  where
+    go : (b : Bool) → (length body == ask.length) ≡ b →
+        (bytes_of ask.kind (given_bytes (cond b (Some body) None)) ≡ []) ⊎ (length (bytes_of ask.kind (given_bytes (cond b (Some body) None))) ≡ ask.length)
+    go true is = elim (either (is_write ask.kind)) [
+      | inl writing ↦ inr (sym (ap length (write_bytes ask.kind body writing)) ∙ grind (arith, is))
+      | inr reading ↦ inl (other_bytes ask.kind body reading)
+    ]
+    go false is = inl (bare_bytes ask.kind)
+
 -- the request as it is made
 abbrev pub made_request : {D : Type 0} → WorldValue D → Client → RequestValue
 made_request w c = record { request = asked c; shape = w.shape; waits = false; answered = false }
@@ -109,10 +134,10 @@ asked_handled {D = D} seen old new at m ask body blocks sound el here room is =
     let never : HasKey (λ l. l.number) old.requests old.next → ⊥ = never_next old old.requests sound.requests in
     let does : Does seen old (Asked old.next c) new =
     asked_does seen old new c keeps next graph sessions room live refl (λ none. buffered ask (fitted body ask.length) blocks none)
-    (λ writing has. whole_body ask body blocks writing has)
+    (λ writing has. whole_body ask body blocks writing has) (λ writing bare. refused_body ask body blocks) (λ reading. other_bytes ask.kind (given_bytes (fitted body ask.length)) reading)
     (λ r. ap (λ (ls : List Live). request_at ls r) requests ∙ find_more (λ l. l.number) (λ l. l.request.request) old.requests (made_live old c) never r) in
     handled seen old new (AskEvent m.session ask body) (Made old.next) (Asked old.next c) (refl, refl, brings m.session m.e ask body blocks) refl
-    (λ h. not_now h live) does keeps.shape tt
+    (λ h. not_now h live) does tt tt keeps.shape tt
     (renewed seen old new (Asked old.next c) sound (record {
       shape = keeps.shape;
       tracker = keeps.tracker;

@@ -3,6 +3,8 @@ use Rattle.std.proofs.Common.{◌≡◌, ◌≢◌, ◌↔◌, ℕ, ◌<◌, ◌
 use Rattle.std.specs.Prelude.{Option, Some, None, IsTrue, get_or, Contains}
 use Rattle.std.specs.List.{AllByRecursion}
 use Rattle.qs_outside.specs.Blocks.{Seen, StoredOrNot}
+use Rattle.qs_outside.specs.declared.rigged_disk.Plans.{Plans}
+use Rattle.qs_outside.specs.Rigged.{LeftAsPlanned, plans_of}
 use Rattle.qs_part.specs.declared.stripe.Side.{Side}
 use Rattle.qs_part.specs.declared.stripe.Side.TheVariants.{Head, Tail}
 use Rattle.qs_model.specs.Puts.{put}
@@ -13,7 +15,7 @@ use Rattle.qs_model.specs.Steps.{written}
 use Rattle.qs_model.proofs.Basics.{put_here, put_other, put_tells, same_or}
 use Rattle.qs_stripe.specs.Holds.{IsHeld, IsFree, IsFreeFor, Takes, LetsGo}
 use Rattle.qs_stripe.specs.Table.{StripeValue, Reads, Writes, IsContent, MayBeStored}
-use Rattle.qs_world.specs.Images.{StandsImage, Changed}
+use Rattle.qs_world.specs.Images.{StandsImage, StandsPlans, Changed}
 
 abbrev Holders : Type 0
 Holders = ℕ → Side → Option ℕ
@@ -296,11 +298,12 @@ written_stands z k b bytes now v s t tells i at change stands told writes nows g
     chosen false no_ = absurd (never no_)
 
 -- a block's bytes were read
-pub can_read : (A b : ℕ) (got : List ℕ) (s : ℕ → StripeValue) (w : World) → StandsImage s w.tells w.image →
+pub can_read : (A b : ℕ) (got : List ℕ) (s : ℕ → StripeValue) (w : World) → StandsImage s w.tells w.image → StandsPlans s w.plans →
     (IsTrue w.tells → IsTrue (s (stripe_of b)).disk.tells) → (s (stripe_of b)).disk.align ≡ A → IsContent (s (stripe_of b)).disk b got → CanRead A w b got
-can_read A b got s w stands told align is = record {
+can_read A b got s w stands plans told align is = record {
   whole = is.whole ∙ align;
   now = λ tell. is.now (told tell) ∙ sym (stands.now tell b);
+  planned = ap (λ (p : Plans). p.load) (plans (stripe_of b)) ∙ is.works;
 }
 
 -- nobody holds the block
@@ -394,27 +397,62 @@ may_keep b bytes now v s w stands told writes is tell had = go w.tells tell
         never : IsTrue false → ⊥
         never e = cc
 
--- whether a refused store took, where it is told
-pub took : (tells : Bool) (b : ℕ) (bytes : List ℕ) (old new : Seen) → (IsTrue tells → IsTrue old.tells) → MayBeStored b bytes old new → Bool
-took true b bytes old new told may =
+-- what a plan says of a refused store, on a disk that isn't full, else this
+abbrev planned_or : Option Bool → Option Bool → Bool → Bool
+planned_or (Some false) (Some writes) other = writes
+planned_or (Some false) None other = other
+planned_or (Some true) plan other = other
+planned_or None plan other = other
+
+-- what a refused store left, where it is told
+decided : (tells : Bool) (b : ℕ) (bytes : List ℕ) (old new : Seen) → (IsTrue tells → IsTrue old.tells) → MayBeStored b bytes old new → Bool
+decided true b bytes old new told may =
     elim (may.now (told refl)) [
       | inl same ↦ false
       | inr stored ↦ true
     ]
-took false b bytes old new told may = false
+decided false b bytes old new told may = false
+
+decided_now : (tells : Bool) (b : ℕ) (bytes now : List ℕ) (old new : Seen) (told : IsTrue tells → IsTrue old.tells) (may : MayBeStored b bytes old new) →
+    (IsTrue tells → now ≡ old.now b) →
+    IsTrue tells → (new.now b ≡ cond (decided tells b bytes old new told may) bytes now) × ((c : ℕ) → c ≢ b → new.now c ≡ old.now c)
+unfolding decided
+decided_now true b bytes now old new told may same yes_ = go (may.now (told refl))
+  where
+    go : (d : StoredOrNot b bytes old.now new.now) →
+        (new.now b ≡ cond (elim d [ inl s ↦ false | inr s ↦ true ]) bytes now) × ((c : ℕ) → c ≢ b → new.now c ≡ old.now c)
+    go (inl still) = (still b ∙ sym (same refl), λ c n. still c)
+    go (inr stored) = (stored.here, λ c n. stored.others c n)
+decided_now false b bytes now old new told may same no_ = absurd (never no_)
+  where
+    never : IsTrue false → ⊥
+    never e = cc
+
+-- whether a refused store took: as its plan says, else as it is told
+pub took : (tells : Bool) (b : ℕ) (bytes : List ℕ) (old new : Seen) → (IsTrue tells → IsTrue old.tells) → MayBeStored b bytes old new → Bool
+took tells b bytes old new told may = planned_or old.full (plans_of old.planned).store (decided tells b bytes old new told may)
 
 -- and what the block has then
 pub took_now : (tells : Bool) (b : ℕ) (bytes now : List ℕ) (old new : Seen) (told : IsTrue tells → IsTrue old.tells) (may : MayBeStored b bytes old new) →
     (IsTrue tells → now ≡ old.now b) →
     IsTrue tells → (new.now b ≡ cond (took tells b bytes old new told may) bytes now) × ((c : ℕ) → c ≢ b → new.now c ≡ old.now c)
 unfolding took
-took_now true b bytes now old new told may same yes_ = go (may.now (told refl))
+took_now tells b bytes now old new told may same tell = go old.full (plans_of old.planned).store refl refl
   where
-    go : (d : StoredOrNot b bytes old.now new.now) →
-        (new.now b ≡ cond (elim d [ inl s ↦ false | inr s ↦ true ]) bytes now) × ((c : ℕ) → c ≢ b → new.now c ≡ old.now c)
-    go (inl still) = (still b ∙ sym (same refl), λ c n. still c)
-    go (inr stored) = (stored.here, λ c n. stored.others c n)
-took_now false b bytes now old new told may same no_ = absurd (never no_)
-  where
-    never : IsTrue false → ⊥
-    never e = cc
+    left : (writes : Bool) → LeftAsPlanned writes b bytes old new → (new.now b ≡ cond writes bytes now) × ((c : ℕ) → c ≢ b → new.now c ≡ old.now c)
+    left false still = (still b ∙ sym (same tell), λ c n. still c)
+    left true stored = (stored.here, λ c n. stored.others c n)
+
+    go : (full plan : Option Bool) → old.full ≡ full → (plans_of old.planned).store ≡ plan →
+        (new.now b ≡ cond (planned_or full plan (decided tells b bytes old new told may)) bytes now) × ((c : ℕ) → c ≢ b → new.now c ≡ old.now c)
+    go (Some false) (Some writes) is_full is = left writes (may.as_planned writes (told tell) is_full is)
+    go (Some false) None is_full is = decided_now tells b bytes now old new told may same tell
+    go (Some true) plan is_full is = decided_now tells b bytes now old new told may same tell
+    go None plan is_full is = decided_now tells b bytes now old new told may same tell
+
+pub took_as_planned : (tells : Bool) (b : ℕ) (bytes : List ℕ) (old new : Seen) (told : IsTrue tells → IsTrue old.tells) (may : MayBeStored b bytes old new) →
+    (writes : Bool) → old.full ≡ Some false → (plans_of old.planned).store ≡ Some writes → took tells b bytes old new told may ≡ writes
+unfolding took
+took_as_planned tells b bytes old new told may writes full plan =
+    ap (λ (f : Option Bool). planned_or f (plans_of old.planned).store (decided tells b bytes old new told may)) full
+    ∙ ap (λ (p : Option Bool). planned_or (Some false) p (decided tells b bytes old new told may)) plan

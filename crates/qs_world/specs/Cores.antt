@@ -9,7 +9,7 @@ use Rattle.qs_part.specs.declared.event.Outcome.TheVariants.{NotNext}
 use Rattle.qs_model.specs.Acts.{Element}
 use Rattle.qs_model.specs.Events.{IsEvent, outcome_of}
 use Rattle.qs_world.specs.declared.inner.Core.{Core}
-use Rattle.qs_world.specs.Events.{Does, HasCause, IsNotNext, StepsTo}
+use Rattle.qs_world.specs.Events.{Does, HasCause, IsAsPlanned, IsInside, IsNotNext, StepsTo}
 use Rattle.qs_world.specs.Sound.{IsSound}
 use Rattle.qs_world.specs.Values.{WorldValue}
 
@@ -30,6 +30,8 @@ pub record StepsRequest {D : Type 0} (seen : D → Seen) (old : WorldValue D) (r
   pub answers_event : (now : ℕ) → IsEvent (Step (ARequest r) now) element
   pub outcome_is : outcome_of old.shape.align element ≡ Some outcome
   pub does : Does seen old element new
+  pub as_planned : IsAsPlanned seen old element
+  pub inside : IsInside old.shape element
   pub shape_kept : new.shape ≡ old.shape
   pub cause : HasCause seen old outcome new
   pub sound : IsSound seen new

@@ -1,7 +1,8 @@
 -- What an event does to the core, and when it can't come.
-use Rattle.std.specs.Prelude.{◌≡◌, ◌≢◌, ℕ, ◌-◌, ◌^◌, ◌≤◌, ◌⊎◌, Some, None}
+use Rattle.std.specs.Prelude.{◌≡◌, ◌≢◌, ℕ, ◌+◌, ◌*◌, ◌-◌, ◌^◌, ◌<◌, ◌≤◌, ◌⊎◌, Bool, false, Some, None}
 use Rattle.qs_outside.specs.Blocks.{Seen}
 use Rattle.qs_outside.specs.Faults.{Rose}
+use Rattle.qs_outside.specs.Rigged.{plans_of}
 use Rattle.qs_part.specs.declared.event.Actor.TheVariants.{Session as ASession, Request as ARequest}
 use Rattle.qs_part.specs.declared.event.Event.{Event}
 use Rattle.qs_part.specs.declared.event.Event.TheVariants.{Attach, Leave, Ask, Step}
@@ -9,12 +10,14 @@ use Rattle.qs_part.specs.declared.event.Outcome.{Outcome}
 use Rattle.qs_part.specs.declared.event.Outcome.TheVariants.{NotNext, Memory, Moved}
 use Rattle.qs_part.specs.declared.event.NoteReply.TheVariants.{Stripe}
 use Rattle.qs_part.specs.declared.event.StripeNote.TheVariants.{Fault}
-use Rattle.qs_model.specs.Requests.{Req}
+use Rattle.qs_model.specs.Requests.{Req, Stage}
 use Rattle.qs_model.specs.Worlds.{World, Away, Live, Leaving, stripe_of}
-use Rattle.qs_model.specs.Acts.{Element}
+use Rattle.qs_model.specs.Acts.{Act, StoreFails, Element, Did, block_of}
 use Rattle.qs_model.specs.Guards.{May}
 use Rattle.qs_model.specs.Steps.{happens}
 use Rattle.qs_model.specs.Events.{IsEvent, outcome_of}
+use Rattle.qs_request.specs.declared.shape.Shape.{Shape}
+use Rattle.qs_stripe.specs.Table.{StripeValue}
 use Rattle.qs_world.specs.Images.{stripe_at}
 use Rattle.qs_world.specs.Values.{WorldValue, request_at, session_at, stripes_of}
 use Rattle.qs_world.specs.Stands.{Stands}
@@ -24,12 +27,29 @@ use Rattle.qs_world.specs.Stands.{Stands}
 abbrev pub Does : {D : Type 0} → (D → Seen) → WorldValue D → Element → WorldValue D → Type 0
 Does seen old e new = (m : World) → Stands seen old m → May old.shape.align m e × Stands seen new (happens old.shape.align m e)
 
+-- a store that was planned to fail, on a disk that isn't full, left its block as the plan says
+abbrev pub IsRowAsPlanned : (ℕ → StripeValue) → {stage : Stage} → Act stage → Type 0
+IsRowAsPlanned stripe (StoreFails {b = b} bytes took past) = (writes : Bool) → (stripe (stripe_of b)).disk.full ≡ Some false →
+    (plans_of (stripe (stripe_of b)).disk.planned).store ≡ Some writes → took ≡ writes
+IsRowAsPlanned stripe _ = Unit {0}
+
+abbrev pub IsAsPlanned : {D : Type 0} → (D → Seen) → WorldValue D → Element → Type 0
+IsAsPlanned seen w (Did r q act) = IsRowAsPlanned (stripe_at (stripes_of seen w)) act
+IsAsPlanned seen w _ = Unit {0}
+
+-- an operation on a block stands inside the image
+abbrev pub IsInside : Shape → Element → Type 0
+IsInside shape (Did r q act) = (b : ℕ) → block_of shape.align q.client act ≡ Some b → (0 < shape.align) × ((b + 1) * shape.align ≤ shape.size)
+IsInside shape _ = Unit {0}
+
 -- a step of the model that answers the event by this outcome
 pub record Steps {D : Type 0} (seen : D → Seen) (old : WorldValue D) (event : Event) (outcome : Outcome) (new : WorldValue D) : Type 0 where
   pub element : Element
   pub answers_event : IsEvent event element
   pub outcome_is : outcome_of old.shape.align element ≡ Some outcome
   pub does : Does seen old element new
+  pub as_planned : IsAsPlanned seen old element
+  pub inside : IsInside old.shape element
   pub shape_kept : new.shape ≡ old.shape
 
 -- memory is wanted by an Attach and an Ask alone

@@ -2,6 +2,8 @@
 use Rattle.std.specs.Prelude.{◌≡◌, ◌≢◌, ◌↔◌, ℕ, Bool, true, ◌&&◌, List, [], ◌∷◌, Some, None, IsTrue, slice_index_or}
 use Rattle.qs_part.specs.declared.stripe.Side.{Side}
 use Rattle.qs_image.specs.Image.{no_disk}
+use Rattle.qs_outside.specs.declared.rigged_disk.Plans.{Plans}
+use Rattle.qs_outside.specs.Rigged.{plans_of}
 use Rattle.qs_model.specs.Worlds.{Hold, Image, stripe_of}
 use Rattle.qs_stripe.specs.Table.{StripeValue}
 
@@ -24,6 +26,10 @@ pub record StandsImage (stripe : ℕ → StripeValue) (tells : Bool) (i : Image)
   pub past : IsTrue tells → (b : ℕ) → i.past b ≡ (stripe (stripe_of b)).disk.past b
   pub held : (b : ℕ) (h : Hold) → (i.holder b ≡ Some h) ↔ ((stripe (stripe_of b)).hold h.place h.side ≡ Some b)
   pub here : (j k : ℕ) (side : Side) (b : ℕ) → (stripe j).hold k side ≡ Some b → stripe_of b ≡ j
+
+-- the failures that are planned are those of the stripes' disks
+abbrev pub StandsPlans : (ℕ → StripeValue) → (ℕ → Plans) → Type 0
+StandsPlans stripe plans = (j : ℕ) → plans j ≡ plans_of (stripe j).disk.planned
 
 -- one stripe is now so, and every other is as it was
 pub record Changed (j : ℕ) (v : StripeValue) (old new : ℕ → StripeValue) : Type 0 where

@@ -281,6 +281,46 @@ fn a_refused_disk_and_refused_asks(rt: HostRuntime) -> Result<(), Failure> {
 }
 
 #[test]
+fn a_refused_store_leaves_what_was_planned(rt: HostRuntime) -> Result<(), Failure> {
+    let mut world = world(rt.alloc())?;
+    let script = [
+        (Act::Attach(1), Said::Attached(4096, true)),
+        (Act::Plan(0, Fail::StoreOld), Said::Planned),
+        (Act::Write(1, 0, 512, 0x11), Said::Made(0)),
+        (Act::Step(0), Said::Enter(0)),
+        (Act::Step(0), Said::Route(0, 4096)),
+        (Act::Step(0), Said::Listed(0)),
+        (Act::Step(0), Said::Started),
+        (Act::Step(0), Said::Fault(0)),
+        (Act::Step(0), Said::Refused(Errno::Io)),
+        (Act::Read(1, 0, 512), Said::Made(1)),
+        (Act::Step(1), Said::Enter(0)),
+        (Act::Step(1), Said::Route(0, 4096)),
+        (Act::Step(1), Said::Listed(1)),
+        (Act::Step(1), Said::Started),
+        (Act::Step(1), Said::Filled(0)),
+        (Act::Step(1), Said::Got(512, 0, 0)),
+        (Act::Plan(0, Fail::StoreNew), Said::Planned),
+        (Act::Write(1, 0, 512, 0x22), Said::Made(2)),
+        (Act::Step(2), Said::Enter(0)),
+        (Act::Step(2), Said::Route(0, 4096)),
+        (Act::Step(2), Said::Listed(2)),
+        (Act::Step(2), Said::Started),
+        (Act::Step(2), Said::Fault(0)),
+        (Act::Step(2), Said::Refused(Errno::Io)),
+        (Act::Plan(1, Fail::Load), Said::Planned),
+        (Act::Read(1, 0, 512), Said::Made(3)),
+        (Act::Step(3), Said::Enter(0)),
+        (Act::Step(3), Said::Route(0, 4096)),
+        (Act::Step(3), Said::Listed(3)),
+        (Act::Step(3), Said::Started),
+        (Act::Step(3), Said::Filled(0)),
+        (Act::Step(3), Said::Got(512, 0x22, 0x22)),
+    ];
+    play(&rt, rt.alloc(), &mut world, &script)
+}
+
+#[test]
 fn a_session_leaves_and_is_detached(rt: HostRuntime) -> Result<(), Failure> {
     let mut world = world(rt.alloc())?;
     let script = [

@@ -104,11 +104,12 @@ impl<D: Disk + Drop> World<D> {
     /// An event happens: a step of the model (clause `step`), or nothing. NotNext comes exactly where
     /// the event can't come now (clause `next`), Memory only for an Attach or an Ask; then all is as
     /// before. A fault of a disk has a raised count (clause `cause`). The core always stands for a state
-    /// of the model (clause `model`).
+    /// of the model, before and after (clauses `before` and `model`).
     pub fn step(&mut self, event: Event) -> Outcome
         ensures step { StepsTo D.seen self.old event result self.new }
         ensures next { (result ≡ NotNext) ↔ IsNotNext self.old event }
         ensures cause { HasCause D.seen self.old result self.new }
+        ensures before { (m : Model_) × Stands D.seen self.old m }
         ensures model { (m : Model_) × Stands D.seen self.new m }
     {
         self.core.step(event)

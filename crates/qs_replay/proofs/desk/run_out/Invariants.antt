@@ -1,11 +1,17 @@
--- All calls before the last one go on.
-use Rattle.std.proofs.Common.{List, [], ◌∷◌, ◌++◌}
+-- All calls before the last one go on, and behind one that goes on the next can come.
+use Rattle.std.proofs.Common.{◌≡◌, suc, List, [], ◌∷◌, ◌++◌, cond, true}
 use Rattle.std.specs.Prelude.{All}
 use Rattle.qs_part.specs.declared.event.Event.TheVariants.{Step as AStep}
-use Rattle.qs_replay.specs.Calls.{Call, Plays}
-use Rattle.qs_replay.specs.Effects.{GoesOn}
+use Rattle.qs_world.specs.Events.{IsNotNext}
+use Rattle.qs_replay.specs.Calls.{Call, Happened, Plays}
+use Rattle.qs_replay.specs.Effects.{GoesOn, goes_on}
+use Rattle.qs_replay.specs.Ranks.{rank_at}
 use Rattle.qs_replay.proofs.desk.run_out.Given as goal
 
-abbrev pub invariant-loop : goal.invariant-loop
-invariant-loop g l = (front : List Call) × (All (GoesOn (AStep l.actor l.now)) front ×
-    Plays g.D.Disk.seen l.fn.world (front ++ record { event = AStep l.actor l.now; outcome = l.outcome } ∷ []) l.world)
+abbrev pub invariant-steps : goal.invariant-steps
+invariant-steps g l = (front : List Call) × (All (GoesOn (AStep l.actor l.now)) front ×
+    Plays g.D.Disk.seen l.fn.world (front ++ Happened (AStep l.actor l.now) l.outcome ∷ []) l.world ×
+    (goes_on l.outcome ≡ true → IsNotNext l.world (AStep l.actor l.now) → ⊥))
+
+abbrev pub decreases-steps : goal.decreases-steps
+decreases-steps g l = cond (goes_on l.outcome) (suc (rank_at l.world (AStep l.actor l.now))) 0

@@ -19,7 +19,7 @@ loop-n-preserved g c = record {
 pub returns-in_default-clause-replays : goal.returns-in_default-clause-replays
 returns-in_default-clause-replays g c =
     finished g.D.Disk.seen _ _ c.args.budget (status_of c.take_turn.result (c.loop-n.n + 1)) c.finish.result _ c.finish.new.out
-    (closes g.D.Disk.seen _ _ _ c.loop-n.n c.args.budget c.take_turn.result c.loop-n.invariant.so_far c.take_turn.ensures.turns c.in_default.not-Goes)
+    (closes g.D.Disk.seen _ _ _ c.loop-n.n c.args.budget c.take_turn.result (omega (arith, c.loop-n-test.true)) c.loop-n.invariant.so_far c.take_turn.ensures.turns c.in_default.not-Goes)
     (rw c.ending.ensures at c.finish.ensures.finishes)
 
 pub returns-in_default-clause-read : goal.returns-in_default-clause-read

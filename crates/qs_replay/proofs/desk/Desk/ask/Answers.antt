@@ -6,24 +6,24 @@ use Rattle.qs_replay.proofs.Playing.{asks_event, asks_first, asks_once, asks_pla
 use Rattle.qs_replay.proofs.desk.Desk.ask.Goals as goal
 
 pub returns-in-Err-happen : goal.returns-in-Err-happen
-returns-in-Err-happen g c = λ l is.
+returns-in-Err-happen g c = λ l lost is.
     stopped_event g.D.Disk.seen c.args.self.now l c.in-Err-happen.stop _
-    (event.Ask c.in-Ok.number c.args.ask c.args.body) c.number.new.self
-    (asks_event c.args.self.now.table c.number.new.self l c.in-Ok.number c.args.session c.args.ask c.args.body is c.in-Ok.ensures.ok)
+    (event.Ask c.in-Ok.number c.args.ask c.args.body) c.number.new.self lost
+    (asks_event c.args.self.now.table c.number.new.self l lost c.in-Ok.number c.args.session c.args.ask c.args.body is c.in-Ok.ensures.ok)
     c.in-Err-happen.ensures.err refl
     (λ e. c.in-Err-happen.ensures.next (cc)) (λ e. c.in-Err-happen.ensures.form (cc))
-    (asks_once c.args.self.now.table c.number.new.self l c.in-Ok.number c.args.session c.args.ask c.args.body is c.in-Ok.ensures.ok
+    (asks_once c.args.self.now.table c.number.new.self l lost c.in-Ok.number c.args.session c.args.ask c.args.body is c.in-Ok.ensures.ok
     (unused c.number.new.self.requests c.in-Ok.number c.args.ask.cookie c.request.result c.request.ensures c.in-None.is))
 
 pub returns-in-Ok-make : goal.returns-in-Ok-make
-returns-in-Ok-make g c = λ l is.
-    asks_played g.D.Disk.seen c.args.self.now l _ c.in-Ok.number c.in-Ok-Made.request c.number.new.self c.args.session c.args.ask c.args.body is
+returns-in-Ok-make g c = λ l lost is.
+    asks_played g.D.Disk.seen c.args.self.now l lost _ c.in-Ok.number c.in-Ok-Made.request c.number.new.self c.args.session c.args.ask c.args.body is
     c.in-Ok.ensures.ok (unused c.number.new.self.requests c.in-Ok.number c.args.ask.cookie c.request.result c.request.ensures c.in-None.is)
     (rw c.in-Ok-Made.field-0-is at c.in-Ok-Made.ensures.ok) c.in-Ok-make.ensures.ok refl
 
 pub returns-in-Err-make : goal.returns-in-Err-make
-returns-in-Err-make g c = λ l is.
-    stopped_cut g.D.Disk.seen c.args.self.now l (record { world = c.happen.new.world; table = c.make.new.self; out = c.args.self.now.out; alloc = c.args.self.now.alloc }) _ (event.Ask c.in-Ok.number c.args.ask c.args.body) c.number.new.self
-    (asks_event c.args.self.now.table c.number.new.self l c.in-Ok.number c.args.session c.args.ask c.args.body is c.in-Ok.ensures.ok)
-    (asks_first l c.args.session c.args.ask c.args.body (event.Ask c.in-Ok.number c.args.ask c.args.body) (Made c.in-Ok-Made.request) is)
+returns-in-Err-make g c = λ l lost is.
+    stopped_cut g.D.Disk.seen c.args.self.now l (record { world = c.happen.new.world; table = c.make.new.self; out = c.args.self.now.out; alloc = c.args.self.now.alloc }) _ (event.Ask c.in-Ok.number c.args.ask c.args.body) c.number.new.self lost
+    (asks_event c.args.self.now.table c.number.new.self l lost c.in-Ok.number c.args.session c.args.ask c.args.body is c.in-Ok.ensures.ok)
+    (asks_first l lost c.args.session c.args.ask c.args.body (event.Ask c.in-Ok.number c.args.ask c.args.body) (Made c.in-Ok-Made.request) is)
     (rw c.in-Ok-Made.field-0-is at c.in-Ok-Made.ensures.ok) refl

@@ -1,0 +1,26 @@
+-- States that are alike are one state, but for what a crash may leave of its blocks and which stripes are clean.
+use Rattle.std.proofs.Common.{◌≡◌, ℕ, Bool, List}
+use Rattle.qs_model.specs.Worlds.{Tracker, World}
+use Rattle.qs_model.specs.Guards.{SameTracker}
+use Rattle.qs_model.specs.Determined.{Alike}
+
+-- the same state, but for what a crash may leave and which stripes are clean
+abbrev pub with_past : World → (ℕ → List (List ℕ)) → (ℕ → Bool) → World
+with_past w past clean = record w { image = record w.image { past = past; clean = clean } }
+
+-- trackers that are the same, place for place, are one
+pub same_tracker : (old new : Tracker) → SameTracker old new → new ≡ old
+same_tracker old new same = λ i. record { quiesced = same.quiesced i; number = same.number i; seat = λ k. same.seat k i }
+
+-- and so are states that are alike, but for that
+pub alike_is : (w v : World) → Alike w v → v ≡ with_past w v.image.past v.image.clean
+alike_is w v alike = λ i. record {
+  tells = alike.tells i;
+  next = alike.next i;
+  req = λ r. alike.req r i;
+  session = λ s. alike.session s i;
+  graph = record { export = λ e. alike.export e i; clients = λ e. alike.clients e i };
+  tracker = same_tracker w.tracker v.tracker alike.tracker i;
+  image = record { now = λ b. alike.now b i; past = v.image.past; holder = λ b. alike.holder b i; clean = v.image.clean };
+  plans = λ j. alike.plans j i;
+}

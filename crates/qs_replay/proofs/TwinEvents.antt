@@ -1,0 +1,87 @@
+-- The event of a line, and the names after it, in one way.
+use Rattle.std.proofs.Common.{◌≡◌, ℕ, ◌<◌, inl, inr, List, [], ◌∷◌, length, Bool, true, false, nat_lt, cond, refl, sym, subst, ap, ◌∙◌, arith, true≢false}
+use Rattle.std.specs.Prelude.{Option, Some, None, replicate}
+use Rattle.qs_bytes.specs.declared.ask.Ask.{Ask}
+use Rattle.qs_outside.specs.Blocks.{Seen}
+use Rattle.qs_part.specs.declared.event.Actor.{Actor}
+use Rattle.qs_part.specs.declared.event.Event.{Event}
+use Rattle.qs_part.specs.declared.event.Event.TheVariants as event
+use Rattle.qs_part.specs.declared.event.Outcome.{Outcome}
+use Rattle.qs_part.specs.declared.event.Outcome.TheVariants as outcome
+use Rattle.qs_script.specs.declared.actor.ScriptActor.{ScriptActor}
+use Rattle.qs_script.specs.declared.actor.ScriptActor.TheVariants as who
+use Rattle.qs_model.specs.Acts.{Element, Asked}
+use Rattle.qs_model.specs.Events.{IsEvent, outcome_of}
+use Rattle.qs_model.specs.Requests.{form_error}
+use Rattle.qs_model.specs.Steps.{happens}
+use Rattle.qs_model.specs.Worlds.{World}
+use Rattle.qs_model.proofs.Basics.{either}
+use Rattle.qs_world.specs.Stands.{Stands}
+use Rattle.qs_world.specs.Values.{WorldValue}
+use Rattle.qs_replay.specs.declared.table.Made.{Made}
+use Rattle.qs_replay.specs.Calls.{HasBuffers}
+use Rattle.qs_replay.specs.Effects.{IsActor, IsRoom, Notes, bytes_or, longest_request, read_ask, write_ask}
+use Rattle.qs_replay.specs.Tables.{Gives, Names, request_of}
+use Rattle.qs_replay.proofs.Playing.{gives_number}
+use Rattle.qs_replay.proofs.Twins.{asked_buffers}
+
+-- a name has one number
+pub gives_one : (t a b : Names) (s : List ℕ) (n m : ℕ) → Gives t s n a → Gives t s m b → (m ≡ n) × (b ≡ a)
+gives_one t a b s n m (inl p) (inl q) = (gives_number t b a s m n (inl q) (inl p), q.1 ∙ sym p.1)
+gives_one t a b s n m (inl p) (inr q) = absurd (q.0 n p.0.inside p.0.here)
+gives_one t a b s n m (inr p) (inl q) = absurd (p.0 m q.0.inside q.0.here)
+gives_one t a b s n m (inr p) (inr q) = (q.1 ∙ sym p.1, q.2 ∙ sym p.2)
+
+-- an actor is one
+pub actor_one : (t a b : Names) (w : ScriptActor) (x y : Actor) → IsActor t w x a → IsActor t w y b → (y ≡ x) × (b ≡ a)
+actor_one t a b (who.Session s) x y is at =
+    let one = gives_one t a b s is.0 at.0 is.1.0 at.1.0 in (at.1.1 ∙ ap (λ (n : ℕ). Actor.Session n) one.0 ∙ sym is.1.1, one.1)
+actor_one t a b (who.Request s c) x y is at =
+    let one = gives_one t a b s is.0 at.0 is.2.0 at.2.0 in
+    let same : at.1 ≡ is.1 = found_one (request_of a.requests is.0 c) is.1 at.1 is.2.1
+    (subst (λ (n : ℕ). request_of a.requests n c ≡ Some at.1) one.0 (subst (λ (u : Names). request_of u.requests at.0 c ≡ Some at.1) one.1 at.2.1)) in
+    (at.2.2 ∙ ap (λ (m : Made). Actor.Request m.number) same ∙ sym is.2.2, one.1)
+  where
+    found_one : (o : Option Made) (m k : Made) → o ≡ Some m → o ≡ Some k → k ≡ m
+    found_one o m k p q = cc
+
+-- the buffer that a READ brings where no memory is refused
+abbrev pub room_of : ℕ → Option (List ℕ)
+room_of n = cond (nat_lt longest_request n) None (Some (replicate n 0))
+
+-- a READ brings it
+pub read_body : {D : Type 0} (seen : D → Seen) (A n cookie offset long : ℕ) (body : Option (List ℕ)) (e : Element) (o : Outcome) (m : World) (v : WorldValue D) → IsRoom body long →
+    IsEvent (event.Ask n (read_ask cookie offset long) body) e → outcome_of A e ≡ Some o → HasBuffers o v → Stands seen v (happens A m e) → body ≡ room_of long
+read_body seen A n cookie offset long None (Asked s c) o m v room is told buffers stands = elim (either (nat_lt longest_request long)) [
+  | inl big ↦ sym (ap (λ (b : Bool). cond b None (Some (replicate long 0))) big)
+  | inr fits ↦ absurd (elim is.2.wanted [
+    | inl empty ↦ let none : long ≡ 0 = ap (λ (a : Ask). a.length) is.1 ∙ empty in omega (arith, none, room)
+    | inr refused ↦ true≢false (sym (asked_buffers seen A s c o m v told buffers stands (ap form_error (sym is.1) ∙ fits)) ∙ refused)
+  ])
+]
+read_body seen A n cookie offset long (Some bytes) (Asked s c) o m v room is told buffers stands = elim (either (nat_lt longest_request long)) [
+  | inl big ↦ let above : longest_request < long = grind (arith, big) in absurd (omega (arith, above, room.1))
+  | inr fits ↦ ap Some room.0 ∙ sym (ap (λ (b : Bool). cond b None (Some (replicate long 0))) fits)
+]
+read_body seen A n cookie offset long body _ o m v room is told buffers stands = absurd is
+
+-- a WRITE brings its bytes
+pub write_body : {D : Type 0} (seen : D → Seen) (A n cookie offset : ℕ) (bytes : List ℕ) (lost : Bool) (e : Element) (o : Outcome) (m : World) (v : WorldValue D) →
+    IsEvent (event.Ask n (write_ask cookie offset bytes) (bytes_or lost bytes)) e → outcome_of A e ≡ Some o → HasBuffers o v → Stands seen v (happens A m e) →
+    bytes_or lost bytes ≡ Some bytes
+write_body seen A n cookie offset [] true e o m v is told buffers stands = refl
+write_body seen A n cookie offset [] false e o m v is told buffers stands = refl
+write_body seen A n cookie offset (b ∷ bytes) true (Asked s c) o m v is told buffers stands = absurd (elim is.2.wanted [
+  | inl empty ↦ let none : length (b ∷ bytes) ≡ 0 = ap (λ (a : Ask). a.length) is.1 ∙ empty in omega (arith, none)
+  | inr refused ↦ true≢false (sym (asked_buffers seen A s c o m v told buffers stands (ap form_error (sym is.1))) ∙ refused)
+])
+write_body seen A n cookie offset (b ∷ bytes) true _ o m v is told buffers stands = absurd is
+write_body seen A n cookie offset (b ∷ bytes) false e o m v is told buffers stands = refl
+
+-- the names after an event
+pub notes_one : (made : Event) (o : Outcome) (t a b : Names) → Notes made o t a → Notes made o t b → b ≡ a
+notes_one (event.Ask n ask body) (outcome.Made r) t a b p q = q.1 ∙ sym p.1
+notes_one (event.Ask n ask body) _ t a b p q = absurd p
+notes_one (event.Attach n e) o t a b p q = q ∙ sym p
+notes_one (event.Leave n) o t a b p q = q ∙ sym p
+notes_one (event.Step a1 now) o t a b p q = q ∙ sym p

@@ -1,0 +1,14 @@
+-- A write without its bytes was done.
+use Rattle.std.proofs.Common.{subst}
+use Rattle.std.specs.Prelude.{true}
+use Rattle.qs_script.specs.Lines.{IsLineFault, Reads}
+use Rattle.qs_script.specs.declared.line.Line.TheVariants as line
+use Rattle.qs_script.specs.declared.line.LineFault.{LineFault}
+use Rattle.qs_replay.proofs.Replaying.{plays_text_of}
+use Rattle.qs_replay.proofs.replay.play_fault.Goals as goal
+
+pub returns-in-NoBody : goal.returns-in-NoBody
+returns-in-NoBody g c = λ text is.
+    let lost = subst (λ (f : LineFault). IsLineFault (Reads text) f) c.in-NoBody.is is in
+    plays_text_of g.D.Disk.seen c.args.desk.now text (line.Write c.in-NoBody.session c.in-NoBody.cookie c.in-NoBody.offset lost.0) true c.write_lost.result
+    c.write_lost.new.self lost.1.0 (c.write_lost.ensures lost.0 lost.1.1)
