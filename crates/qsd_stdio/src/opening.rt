@@ -1,8 +1,7 @@
 ghost use Rattle.std.specs.Prelude.{IsOk};
 ghost use Rattle.qs_stdio.specs.Words.{IsCommand};
 
-use crate::file_disk::FileDisk;
-use crate::start_fault::StartFault;
+use qs_host::{FileDisk, StartFault};
 use qs_stdio::stdio_words;
 use std::alloc::Global;
 use std::fs::{File, OpenOptions};

@@ -1,5 +1,5 @@
 ghost use Rattle.std.specs.Prelude.{◌≡◌};
-ghost use Rattle.qsd_stdio.specs.Exits.{end_exit, status_exit};
+ghost use Rattle.qs_host.specs.Exits.{end_exit, status_exit};
 
 use qs_bytes::{SessionEnd, Status};
 

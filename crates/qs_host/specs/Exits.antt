@@ -1,4 +1,4 @@
--- The exit statuses of the program.
+-- The exit statuses of programs.
 use Rattle.std.specs.Prelude.{ℕ, Bool, true, false, if◌then◌else◌}
 use Rattle.std.specs.declared.io.ErrorKind.{ErrorKind}
 use Rattle.std.specs.declared.io.ErrorKind.TheVariants.{OutOfMemory}
@@ -6,8 +6,8 @@ use Rattle.qs_bytes.specs.declared.status.SessionEnd.{SessionEnd}
 use Rattle.qs_bytes.specs.declared.status.SessionEnd.TheVariants as end
 use Rattle.qs_bytes.specs.declared.status.Status.{Status}
 use Rattle.qs_bytes.specs.declared.status.Status.TheVariants as status
-use Rattle.qsd_stdio.specs.declared.start_fault.StartFault.{StartFault}
-use Rattle.qsd_stdio.specs.declared.start_fault.StartFault.TheVariants.{Memory, NotText, NotOpened}
+use Rattle.qs_host.specs.declared.start_fault.StartFault.{StartFault}
+use Rattle.qs_host.specs.declared.start_fault.StartFault.TheVariants.{Memory, NotText, NotOpened}
 
 -- the number that a session's end ends the program with
 abbrev pub end_exit : SessionEnd → ℕ

@@ -1,3 +1,5 @@
+ghost use Rattle.std.specs.Prelude.{◌≡◌};
+
 use crate::faults::Faults;
 use qs_outside::{Disk, Failed};
 use std::fs::File;
@@ -15,7 +17,11 @@ pub struct FileDisk {
 
 impl FileDisk {
     /// The stripe of a file of this length, in bytes, with blocks of `align` bytes.
-    pub fn new(file: File, stripe: u8, align: u32, length: u64) -> Self {
+    pub fn new(file: File, stripe: u8, align: u32, length: u64) -> Self
+        ensures stripe { result.stripe ≡ stripe }
+        ensures align { result.align ≡ align }
+        ensures length { result.length ≡ length }
+    {
         FileDisk {
             file,
             stripe,

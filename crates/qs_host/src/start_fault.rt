@@ -1,6 +1,6 @@
 ghost use Rattle.std.specs.Prelude.{◌≡◌};
 ghost use Rattle.std.specs.IoError.{error_kind};
-ghost use Rattle.qsd_stdio.specs.Exits.{fault_exit, is_out_of_memory, word_fault};
+ghost use Rattle.qs_host.specs.Exits.{fault_exit, is_out_of_memory, word_fault};
 
 use std::alloc::{AllocError, AllocFailed};
 use std::io;
@@ -50,7 +50,7 @@ pub fn fault_of_words(error: io::Error) -> StartFault
 impl From<io::Error> for StartFault {
     ghost use Rattle.std.specs.Prelude.{◌≡◌};
     ghost use Rattle.std.specs.IoError.{error_kind};
-    ghost use Rattle.qsd_stdio.specs.Exits.{file_fault};
+    ghost use Rattle.qs_host.specs.Exits.{file_fault};
 
     ghost from_gives = { λ error fault. fault ≡ file_fault (error_kind error) };
 
@@ -65,7 +65,7 @@ impl From<io::Error> for StartFault {
 
 impl From<AllocError> for StartFault {
     ghost use Rattle.std.specs.Prelude.{◌≡◌};
-    ghost use Rattle.qsd_stdio.specs.declared.start_fault.StartFault.TheVariants.{Memory};
+    ghost use Rattle.qs_host.specs.declared.start_fault.StartFault.TheVariants.{Memory};
 
     ghost from_gives = { λ _ fault. fault ≡ Memory };
 
@@ -76,7 +76,7 @@ impl From<AllocError> for StartFault {
 
 impl<T: Drop> From<AllocFailed<T>> for StartFault {
     ghost use Rattle.std.specs.Prelude.{◌≡◌};
-    ghost use Rattle.qsd_stdio.specs.declared.start_fault.StartFault.TheVariants.{Memory};
+    ghost use Rattle.qs_host.specs.declared.start_fault.StartFault.TheVariants.{Memory};
 
     ghost from_gives = { λ _ fault. fault ≡ Memory };
 
