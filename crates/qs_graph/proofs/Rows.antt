@@ -1,6 +1,6 @@
 -- What the table's rows say of each place, for the crate above.
 use Rattle.std.proofs.Common.{◌≡◌, ◌≢◌, ℕ, ◌<◌, ◌≤◌, List, [], ◌∷◌, length, Bool, true, false, refl, sym, ◌∙◌, ap, subst, arith, inl, inr, ◌⊎◌}
-use Rattle.std.specs.Prelude.{nat_lt, Option, Some, None, position, option_map, ◌||◌, cond}
+use Rattle.std.specs.Prelude.{nat_lt, Option, Some, None, position, ◌||◌, cond}
 use Rattle.std.specs.List.{position_or_len}
 use Rattle.std.specs.Str.{bytes_eq}
 use Rattle.std.proofs.lemmas.Bool.Decides.{nat_tests}
@@ -13,9 +13,9 @@ use Rattle.qs_part.specs.declared.graph.GraphOp.TheVariants.{ExportAdd, Attach, 
 use Rattle.qs_part.specs.declared.graph.GraphReply.{GraphReply}
 use Rattle.qs_part.specs.declared.graph.GraphReply.TheVariants.{Added, Attached, Detached}
 use Rattle.qs_graph.specs.declared.export.Export.{Export}
-use Rattle.qs_graph.specs.Exports.{clients_of, counted, export_at, found_at, has_alike, has_name, is_standing, is_vacant}
+use Rattle.qs_graph.specs.Exports.{clients_of, export_at, found_at, has_alike, has_name, is_standing, is_vacant}
 use Rattle.qs_graph.specs.Table.{GraphValue, IsShared, after, placed}
-use Rattle.qs_graph.proofs.Standing.{at_set, none_not, same_export}
+use Rattle.qs_graph.proofs.Standing.{none_not, same_export}
 
 -- a test that passes nowhere fails at each place
 pub fails_at : (p : Option Export → Bool) (places : List (Option Export)) → p None ≡ false → position p places ≡ None →
@@ -132,38 +132,6 @@ placed_here v e p inside = get_or-set_same v.places e p None inside
 
 pub placed_other : (v : GraphValue) (e : ℕ) (p : Option Export) (d : ℕ) → d ≢ e → export_at (placed v e p).places d ≡ export_at v.places d
 placed_other v e p d apart = get_or-set_other v.places e d p None apart
-
--- another number of clients changes nothing else of any export
-pub counted_same : {B : Type 0} (f : Export → B) → ((x : Export) (n : ℕ) → f (record x { clients = n }) ≡ f x) → (v : GraphValue) (k n d : ℕ) →
-    option_map f (export_at (placed v k (counted (export_at v.places k) n)).places d) ≡ option_map f (export_at v.places d)
-counted_same {B = B} f keeps v k n d =
-    at_set (λ (p : Option Export). option_map f p ≡ option_map f (export_at v.places d)) v.places k (counted (export_at v.places k) n) d refl
-    (λ same. here (export_at v.places k) ∙ ap (λ (e : ℕ). option_map f (export_at v.places e)) (sym same))
-  where
-    here : (p : Option Export) → option_map f (counted p n) ≡ option_map f p
-    here None = refl
-    here (Some x) = ap (λ (b : B). Some b) (keeps x n)
-
--- a place where an export stands is one of the places
-pub stands_inside : (places : List (Option Export)) (e : ℕ) (x : Export) → export_at places e ≡ Some x → e < length places
-stands_inside places e x at = go (nat_lt e (length places)) refl
-  where
-    go : (b : Bool) → nat_lt e (length places) ≡ b → e < length places
-    go true h = grind (arith, nat_tests)
-    go false h =
-        let past : length places ≤ e = grind (arith, nat_tests) in
-        absurd (none_not x (sym (get_or_past places e None past) ∙ at))
-
--- the export at this place has so many clients, and every other as many as before
-pub counted_clients : (v : GraphValue) (k n : ℕ) (x : Export) → export_at v.places k ≡ Some x →
-    clients_of (export_at (placed v k (counted (export_at v.places k) n)).places k) ≡ n
-counted_clients v k n x at =
-    ap clients_of (placed_here v k (counted (export_at v.places k) n) (stands_inside v.places k x at))
-    ∙ ap (λ (p : Option Export). clients_of (counted p n)) at
-
-pub counted_others : (v : GraphValue) (k n d : ℕ) → d ≢ k →
-    clients_of (export_at (placed v k (counted (export_at v.places k) n)).places d) ≡ clients_of (export_at v.places d)
-counted_others v k n d apart = ap clients_of (placed_other v k (counted (export_at v.places k) n) d apart)
 
 -- an export with a client stands
 pub counted_stands : (places : List (Option Export)) (e : ℕ) → 0 < clients_of (export_at places e) → (x : Export) × (export_at places e ≡ Some x)

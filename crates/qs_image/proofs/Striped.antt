@@ -72,20 +72,6 @@ same_disks_trans a b c ab bc = record {
 pub still_tell : (old new : List Seen) → SameDisks old new → AllTell old → AllTell new
 still_tell old new same tell k below = rw (same.tells k) (tell k below)
 
--- they are an image as before
-pub still_image : (old new : List Seen) → SameDisks old new → IsImage old → IsImage new
-still_image old new same is = (
-  (
-    same.count ∙ is.0.0,
-    λ k below. record {
-      align = same.align k ∙ (is.0.1 k below).align ∙ sym (same.align 0);
-      size = same.size k ∙ (is.0.1 k below).size ∙ sym (same.size 0);
-      stripe = same.stripe k ∙ (is.0.1 k below).stripe;
-    },
-  ),
-  rw (same.align 0, same.size 0) is.1,
-)
-
 -- an image of the same alignment and size
 pub image_at : (old new : List Seen) (blocks : ℕ → List ℕ) → SameDisks old new →
     image (align_of new) (size_of new) blocks ≡ image (align_of old) (size_of old) blocks
@@ -98,10 +84,6 @@ pub some_rose : (disks : List Seen) (k : ℕ) (called : Seen) → k < 8 → k < 
     SomeRose disks (set disks k called)
 some_rose disks k called below inside rose =
     (k, (below, rw (get_or-set_same disks k called no_disk inside) rose))
-
--- a rise within a run is a rise of the run
-pub rose_before : (a b c : List Seen) → SomeRose a b → SameDisks b c → SomeRose a c
-rose_before a b c rose same = (rose.0, (rose.1.0, omega (arith, rose.1.1, same.later rose.0)))
 
 pub rose_after : (a b c : List Seen) → SameDisks a b → SomeRose b c → SomeRose a c
 rose_after a b c same rose = (rose.0, (rose.1.0, omega (arith, rose.1.1, same.later rose.0)))

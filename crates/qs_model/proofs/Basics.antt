@@ -51,13 +51,6 @@ blocks_le m n A h = grind (arith, h)
 pub blocks_lt : (m n A : ℕ) → m < n → m * A + A ≤ n * A
 blocks_lt m n A h = let g : (m + 1) * A ≤ n * A = blocks_le (m + 1) n A (omega arith) in omega arith
 
--- a place is in one block
-pub block_unique : (m n x A : ℕ) → m * A ≤ x → x < m * A + A → n * A ≤ x → x < n * A + A → m ≡ n
-block_unique m n x A a b c d =
-    let f : n < m → ⊥ = λ l. let h : n * A + A ≤ m * A = blocks_lt n m A l in omega arith in
-    let g : m < n → ⊥ = λ l. let h : m * A + A ≤ n * A = blocks_lt m n A l in omega arith in
-    omega arith
-
 pub block_low : (x A : ℕ) → 0 < A → x / A * A ≤ x
 block_low x A h = omega arith
 

@@ -1,5 +1,5 @@
 -- Lines that are cut out of what is read.
-use Rattle.std.proofs.Common.{◌≡◌, ℕ, zero, suc, ◌+◌, ◌-◌, ◌≤◌, take, drop, length-drop, List, [], ◌∷◌, ◌++◌, length, sym, subst, ap, ◌∙◌, arith, append_assoc}
+use Rattle.std.proofs.Common.{◌≡◌, ℕ, zero, suc, ◌+◌, ◌-◌, take, drop, length-drop, List, [], ◌∷◌, ◌++◌, length, sym, subst, ap, ◌∙◌, arith, append_assoc}
 use Rattle.std.specs.Io.KnownBytes.{Appends, Consumes}
 use Rattle.qs_script.specs.Cuts.{longest}
 use Rattle.qs_script.specs.Finds.{HasNo}
@@ -91,9 +91,6 @@ gives_write a b c out done n gives wrote =
     gives_on a b c out (drop done out) (drop (done + n) out) [] [] gives
     (gives_front b c (drop done out) (drop (done + n) out) n (subst (λ (l : List ℕ). Appends b c (take n l)) (take_rest out done) wrote)
     (sym (drop-drop n done out)))
-
-pub gives_all : (a b : Option (List ℕ)) (out : List ℕ) (done : ℕ) → Gives a out [] b (drop done out) → length out ≤ done → Gives a out [] b []
-gives_all a b out done gives all = subst (λ (l : List ℕ). Gives a out [] b l) (drop_all done out all) gives
 
 -- what waited was written before, and again
 pub flushed_on : (a b c : Option (List ℕ)) (out out1 out2 : List ℕ) → Gives a out [] b out1 → Flushes {E = Failed} b out1 (Ok tt) c →

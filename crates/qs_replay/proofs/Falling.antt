@@ -20,15 +20,11 @@ use Rattle.qs_model.specs.Steps.{moved, happens}
 use Rattle.qs_model.specs.Events.{IsEvent, outcome_of, row_outcome, wait_note, moved_out}
 use Rattle.qs_model.proofs.Basics.{blocks_le, choose, put_here}
 use Rattle.qs_model.proofs.Holders.{some_none}
-use Rattle.qs_world.specs.Events.{IsInside, IsNotNext, Steps, TakesMemory}
+use Rattle.qs_world.specs.Events.{IsInside, IsNotNext, Steps}
 use Rattle.qs_world.specs.Stands.{Stands}
 use Rattle.qs_world.specs.Values.{WorldValue, request_at}
 use Rattle.qs_replay.specs.Effects.{goes_on}
 use Rattle.qs_replay.specs.Ranks.{rank_of, rank_or, rank_at}
-
--- the step takes no memory
-pub never_memory : (a : Actor) (now : ℕ) → TakesMemory (StepEvent a now) → ⊥
-never_memory a now takes = takes
 
 -- where the operation of each stage leads
 

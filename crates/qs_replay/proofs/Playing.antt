@@ -77,20 +77,6 @@ asks_first (line.Step a now) lost session ask body made o is = absurd is
 asks_first (line.Run a now) lost session ask body made o is = absurd is
 asks_first (line.Fail j k) lost session ask body made o is = absurd is
 
--- a cookie that was used is used again
-pub asks_again : (t t' : Names) (l : Line) (lost : Bool) (n : ℕ) (session : List ℕ) (ask : Ask) (body : Option (List ℕ)) → IsAsked l lost session ask body →
-    Gives t session n t' → IsUsed t'.requests n ask.cookie → UsesAgain t l
-asks_again t t' (line.Read s c offset long) lost n session ask body is gives used =
-    (n, t', (subst (λ (x : List ℕ). Gives t x n t') (sym is.0) gives, subst (λ (a : Ask). IsUsed t'.requests n a.cookie) is.1 used))
-asks_again t t' (line.Write s c offset bytes) lost n session ask body is gives used =
-    (n, t', (subst (λ (x : List ℕ). Gives t x n t') (sym is.0) gives, subst (λ (a : Ask). IsUsed t'.requests n a.cookie) is.1 used))
-asks_again t t' line.Nothing lost n session ask body is gives used = absurd is
-asks_again t t' (line.Session s e) lost n session ask body is gives used = absurd is
-asks_again t t' (line.End s) lost n session ask body is gives used = absurd is
-asks_again t t' (line.Step a now) lost n session ask body is gives used = absurd is
-asks_again t t' (line.Run a now) lost n session ask body is gives used = absurd is
-asks_again t t' (line.Fail j k) lost n session ask body is gives used = absurd is
-
 compare_cases : (n m : ℕ) → (n < m) ⊎ ((n ≡ m) ⊎ (m < n))
 compare_cases zero zero = inr (inl refl)
 compare_cases zero (suc m) = inl (omega arith)

@@ -1,9 +1,9 @@
 -- The blocks that a request reaches lie inside the image.
-use Rattle.std.proofs.Common.{◌≡◌, ℕ, zero, suc, ◌+◌, ◌*◌, ◌/◌, ◌%◌, min, ◌<◌, ◌≤◌, inl, inr, sym, subst, arith}
+use Rattle.std.proofs.Common.{◌≡◌, ℕ, ◌+◌, ◌*◌, ◌/◌, ◌%◌, ◌<◌, ◌≤◌, inl, inr, sym, subst, arith}
 use Rattle.qs_part.specs.declared.stripe.Side.{Side}
 use Rattle.qs_part.specs.declared.stripe.Side.TheVariants.{Head, Tail}
 use Rattle.qs_model.specs.Requests.{edge, span_of}
-use Rattle.qs_model.proofs.Basics.{blocks_le, blocks_lt, block_at}
+use Rattle.qs_model.proofs.Basics.{blocks_le, block_at}
 use Rattle.qs_model.proofs.Geometry.{Reaches, head_high, tail_low, head_reached}
 use Rattle.qs_request.specs.declared.shape.Shape.{Shape}
 use Rattle.qs_request.specs.declared.machine.Machine.{Machine}
@@ -82,15 +82,6 @@ multiple s n is =
       | inl e ↦ rw e (omega arith)
       | inr e ↦ rw e (omega arith)
     ]
-
--- rounding up stays inside whole blocks
-pub rounded_inside : (A q hi d r : ℕ) → d * A + r ≡ hi → r < A → hi ≤ q * A → (d + min 1 r) * A ≤ q * A
-rounded_inside A q hi d zero is low inside =
-    let f : q < d → ⊥ = λ l. let g : q * A + A ≤ d * A = blocks_lt q d A l in omega (arith, g, is, inside, low) in
-    blocks_le (d + min 1 zero) q A (omega arith)
-rounded_inside A q hi d (suc r) is low inside =
-    let f : q ≤ d → ⊥ = λ l. let g : q * A ≤ d * A = blocks_le q d A l in omega (arith, g, is, inside) in
-    blocks_le (d + min 1 (suc r)) q A (omega arith)
 
 -- a block fits its stripe
 pub fits_block : (m : Machine) (s b : ℕ) → IsShape m.shape → IsReached m b → s ≡ stripe_of b → FitsBlock m.shape s b

@@ -1,5 +1,5 @@
 -- The words that spell the data of a WRITE.
-use Rattle.std.proofs.Common.{◌≡◌, ℕ, ◌<◌, ◌≤◌, List, [], ◌∷◌, ◌++◌, Ok, take, drop, length, refl, sym, ap, ◌∙◌, subst, arith, length-append}
+use Rattle.std.proofs.Common.{◌≡◌, ℕ, ◌<◌, ◌≤◌, List, [], ◌∷◌, ◌++◌, Ok, take, drop, length, refl, sym, ap, ◌∙◌, subst, arith}
 use Rattle.std.specs.Prelude.{codes, slice_index, Result, Err, IfOk, IfErr, MatchResult}
 use Rattle.qs_script.specs.declared.data.DataFault.{DataFault}
 use Rattle.qs_script.specs.declared.data.DataFault.TheVariants.{OutOfForm, Memory}
@@ -59,12 +59,6 @@ spelled_pairs word not_minus not_star bytes (nothing e b) = absurd (not_minus e)
 spelled_pairs word not_minus not_star bytes (repeated pair digits e r) =
     let parts = starred word pair digits e (pair_is_two pair r.byte r.one) in absurd (not_star parts.long parts.star)
 spelled_pairs word not_minus not_star bytes (pairs some e) = e
-
--- an empty word spells nothing
-pub spelled_empty : (bytes : List ℕ) → SpellsData [] bytes → ⊥
-spelled_empty bytes (nothing e b) = cc
-spelled_empty bytes (repeated pair digits e r) = let lengths = ap length e in omega (arith, length-append pair (42 ∷ digits))
-spelled_empty bytes (pairs some e) = omega arith
 
 pub ok_star : (word : List ℕ) (result : Result (List ℕ) DataFault) → 2 < length word → slice_index word 2 ≡ 42 →
     IfOk result (Repeats (take 2 word) (drop 3 word)) → IfOk result (SpellsData word)

@@ -1,9 +1,9 @@
 -- Words, and the first place of a byte.
-use Rattle.std.proofs.Common.{◌≡◌, ℕ, ◌+◌, ◌<◌, ◌≤◌, zero, suc, Bool, true, false, cond, List, [], ◌∷◌, ◌++◌}
+use Rattle.std.proofs.Common.{◌≡◌, ℕ, ◌<◌, ◌≤◌, zero, suc, Bool, true, false, cond, List, [], ◌∷◌, ◌++◌}
 use Rattle.std.proofs.Common.{length, get_or, take, drop, length-take, refl, sym, ap, ◌∙◌, subst, arith, eq-eqb}
 use Rattle.std.proofs.lemmas.Bool.{ne_eqb}
 use Rattle.std.proofs.lemmas.List.Elements.{All-cons, All-nil}
-use Rattle.std.proofs.lemmas.List.{get_or-take, length-append, take_more}
+use Rattle.std.proofs.lemmas.List.{get_or-take, length-append}
 use Rattle.std.proofs.Math.ListN.{get_or-append}
 use Rattle.std.proofs.Math.Seq.{get_or-append_seam, take-append_seam}
 use Rattle.std.specs.Prelude.{◌==◌, All}
@@ -60,14 +60,6 @@ words_lack byte (x ∷ xs) absent =
       | true ↦ All-cons (HasNo byte) [] (words_of xs) (none_in byte) rest
       | false ↦ onto_lacks byte x (words_of xs) (absent 0 (omega arith)) rest
     ]
-
--- the front of a piece up to its first LF, and the LF
-pub line_end : (piece : List ℕ) (count at : ℕ) → IsFirst 10 (take count piece) at → at < count → at < length piece →
-    take (at + 1) piece ≡ take at piece ++ 10 ∷ []
-line_end piece count at is in_count in_piece =
-    let seen : List ℕ → List ℕ = λ last. take at piece ++ last in
-    take_more piece at 0 in_piece
-    ∙ ap (λ (x : ℕ). take at piece ++ x ∷ []) (sym (get_or-take count piece at 0 in_count) ∙ is.here)
 
 pub no_end : (piece : List ℕ) (count at : ℕ) → IsFirst 10 (take count piece) at → at < count → at ≤ length piece → HasNo 10 (take at piece)
 no_end piece count at is in_count in_piece = λ k inside ten.

@@ -1,8 +1,8 @@
 -- The next event is sought, piece by piece.
-use Rattle.std.proofs.Common.{◌≡◌, ℕ, Bool, false, List, [], ◌++◌, refl, ◌∙◌, subst, append-nil}
+use Rattle.std.proofs.Common.{◌≡◌, ℕ, Bool, List, [], ◌++◌, refl, ◌∙◌, subst, append-nil}
 use Rattle.std.specs.Prelude.{Option, None, Some}
 use Rattle.std.specs.Io.KnownBytes.{Consumes, IsAtEnd}
-use Rattle.qs_nbd_transmission.specs.Phases.{Phase, InHead, Fills, Skips, Stuck, Reader, Reaches, CanFeed, is_stuck}
+use Rattle.qs_nbd_transmission.specs.Phases.{Reader, Reaches}
 use Rattle.qs_nbd_transmission.specs.declared.event.WireEvent.{WireEvent}
 use Rattle.qs_nbd_transmission.proofs.Reading.{reaches_on}
 use Rattle.qs_stdio.specs.declared.event.Next.TheVariants as next
@@ -17,14 +17,6 @@ pub record Sought (old new : Reader) (left : Option (List ℕ)) (waiting : List 
   pub gives : Gives sent held [] sent' held'
   pub reaches : Reaches old.structured old.phase taken None new.phase
   pub mode : new.structured ≡ old.structured
-
--- behind bytes that brought no event more can be fed
-pub still_fed : (structured : Bool) (old new : Phase) (bytes : List ℕ) → Reaches structured old bytes None new → CanFeed new × (is_stuck new ≡ false)
-still_fed structured (InHead held) (InHead more) bytes is = (tt, refl)
-still_fed structured (Fills h got) (Fills h' more) bytes is = (tt, refl)
-still_fed structured (Skips h left) (Skips h' fewer) bytes is = (tt, refl)
-still_fed structured (Stuck bad) new bytes is = let e = is.1 in absurd (cc)
-still_fed structured old new bytes is = absurd is
 
 -- what the reader took off the bytes that wait
 feeds_takes : (old new : Reader) (left : Option (List ℕ)) (waiting waiting' : List ℕ) (found : Option WireEvent) (feeds : Feeds old waiting found new waiting') →

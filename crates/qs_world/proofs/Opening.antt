@@ -9,10 +9,9 @@ use Rattle.qs_part.specs.declared.stripe.Side.{Side}
 use Rattle.qs_image.specs.Image.{disk, align_of, size_of, block_now}
 use Rattle.qs_image.specs.Opening.{IsImage, IsAlike}
 use Rattle.qs_part.specs.declared.graph.GraphOp.TheVariants.{ExportAdd}
-use Rattle.qs_part.specs.declared.graph.GraphReply.{GraphReply}
 use Rattle.qs_part.specs.declared.graph.GraphReply.TheVariants.{Added}
 use Rattle.qs_graph.specs.Exports.{export_at, clients_of, made}
-use Rattle.qs_graph.specs.Table.{GraphValue, fresh as fresh_graph, after, answers as graph_answers, route_of}
+use Rattle.qs_graph.specs.Table.{GraphValue, fresh as fresh_graph, answers as graph_answers, route_of}
 use Rattle.qs_graph.proofs.Rows.{after_length}
 use Rattle.qs_model.specs.Acts.{Exported}
 use Rattle.qs_world.specs.Events.{Does}
@@ -181,12 +180,6 @@ exported_all {D = D} seen old name writable e graph sound row size =
         sessions = sound.sessions;
       }) does,
     )
-
--- no other answer changes the graph
-pub refused_add : (v : GraphValue) (id name node : List ℕ) (writable share : Bool) (reply : GraphReply) → ((e : ℕ) → reply ≡ Added e → ⊥) →
-    after v (ExportAdd id name node writable share) reply ≡ v
-refused_add v id name node writable share (Added e) never = absurd (never e refl)
-refused_add v id name node writable share _ never = refl
 
 -- a new core has no export
 pub opened_without : {D : Type 0} (seen : D → Seen) (disks : List D) (file : List ℕ) (read_only : Bool) (w : WorldValue D) →
