@@ -2,9 +2,9 @@
 """Steps per second and peak memory of `qsd_replay`, beside reading and printing lines alone.
 
 A script of READs of 4 bytes over two blocks, with a padded WRITE in place of every fiftieth, each done
-step by step, is replayed; then as many comments of the same length
-are, which are read and do nothing; and a few lines of C (lines.c) copy the same lines. Run at the top of
-the repository, once the program stands (see bench/README.md).
+step by step, is replayed, and one of READs alone; then as many comments of the same length are, which
+are read and do nothing; and a few lines of C (lines.c) copy the same lines. Run at the top of the
+repository, once the program stands (see bench/README.md).
 """
 import argparse
 import os
@@ -16,14 +16,14 @@ WRITE_STEPS = 9  # enter, route, listed, started, held, held, stored, stored, en
 READ_STEPS = 7  # enter, route, listed, started, loaded, loaded, ended
 
 
-def script(path, requests, comments):
+def script(path, requests, writes, comments):
     """Writes the script, or comments of the same lengths; how many steps it has."""
     steps = 0
     with open(path, "w") as out:
         out.write("session A disk\n")
         for i in range(requests):
             offset = 510 + 512 * (i % 60)
-            if i % 50 == 0:
+            if writes and i % 50 == 0:
                 ask, count = f"write A {i} {offset} aa*4", WRITE_STEPS
             else:
                 ask, count = f"read A {i} {offset} 4", READ_STEPS
@@ -34,14 +34,32 @@ def script(path, requests, comments):
     return steps
 
 
+def peak(process):
+    """The greatest resident size in KiB that a running process had so far."""
+    try:
+        with open(f"/proc/{process.pid}/status") as status:
+            return max((int(line.split()[1]) for line in status if line.startswith("VmHWM")), default=0)
+    except OSError:
+        return 0
+
+
 def measured(command, source):
-    """Seconds and peak memory in MiB of one run, and its exit status."""
+    """Seconds of one run and its exit status."""
     with open(source) as lines, open(os.devnull, "w") as sink:
         start = time.monotonic()
+        status = subprocess.run(command, stdin=lines, stdout=sink).returncode
+    return time.monotonic() - start, status
+
+
+def peak_of(command, source):
+    """The peak memory in MiB of one run, looked at every few milliseconds up to its end."""
+    most = 0
+    with open(source) as lines, open(os.devnull, "w") as sink:
         process = subprocess.Popen(command, stdin=lines, stdout=sink)
-        _, status, usage = os.wait4(process.pid, 0)
-        process.returncode = os.waitstatus_to_exitcode(status)
-    return time.monotonic() - start, usage.ru_maxrss / 1024, process.returncode
+        while process.poll() is None:
+            most = max(most, peak(process))
+            time.sleep(0.002)
+    return most / 1024
 
 
 def main():
@@ -57,19 +75,22 @@ def main():
     subprocess.run(["cc", "-O2", "-o", floor, os.path.join(here, "lines.c")], check=True)
     print("| run | steps | seconds | steps/s | peak MiB |")
     print("|---|---:|---:|---:|---:|")
-    runs = [("replayed", options.requests, False, None),
-            ("replayed, twice as many requests", 2 * options.requests, False, None),
-            ("comments, read alone", options.requests, True, None),
-            ("copied by lines.c", options.requests, False, floor)]
-    for name, requests, comments, command in runs:
+    count = options.requests
+    runs = [("replayed", count, True, False, None),
+            ("replayed, READs alone", count, False, False, None),
+            ("replayed, READs alone, twice as many", 2 * count, False, False, None),
+            ("comments, read alone", count, True, True, None),
+            ("copied by lines.c", count, True, False, floor)]
+    for name, requests, writes, comments, command in runs:
         source = os.path.join(out, "replay.txt")
-        steps = script(source, requests, comments)
+        steps = script(source, requests, writes, comments)
         command = [command] if command else [options.program]
         found = [measured(command, source) for _ in range(options.rounds)]
-        if any(status for _, _, status in found):
-            sys.exit(f"{name}: exit status {found[0][2]}")
-        seconds = sorted(s for s, _, _ in found)[len(found) // 2]
-        print(f"| {name} | {steps:,} | {seconds:.2f} | {steps / seconds:,.0f} | {found[0][1]:.1f} |")
+        if any(status for _, status in found):
+            sys.exit(f"{name}: exit status {found[0][1]}")
+        seconds = sorted(s for s, _ in found)[len(found) // 2]
+        memory = peak_of(command, source)
+        print(f"| {name} | {steps:,} | {seconds:.2f} | {steps / seconds:,.0f} | {memory:.1f} |")
     os.remove(os.path.join(out, "replay.txt"))
 
 

@@ -31,13 +31,13 @@ free_of runs n c first last good before short (a, e, (run, low, high)) = elim (c
       omega (arith, past, begins, high)
 ]
 
-one_key : (m a n b : ℕ) → ◌≡◌ {A = ℕ × ℕ} (m, a) (n, b) ⊎ ((m ≡ n) × (a ≡ b) → ⊥)
+pub one_key : (m a n b : ℕ) → ◌≡◌ {A = ℕ × ℕ} (m, a) (n, b) ⊎ ((m ≡ n) × (a ≡ b) → ⊥)
 one_key m a n b = elim (cases_eq m n) [
   | inl one ↦ elim (cases_eq a b) [ inl two ↦ inl (λ i. (one i, two i)) | inr other ↦ inr (λ both. other both.1) ]
   | inr other ↦ inr (λ both. other both.0)
 ]
 
-no_key : (m a n b : ℕ) → ((m ≡ n) × (a ≡ b) → ⊥) → ◌≡◌ {A = ℕ × ℕ} (m, a) (n, b) → ⊥
+pub no_key : (m a n b : ℕ) → ((m ≡ n) × (a ≡ b) → ⊥) → ◌≡◌ {A = ℕ × ℕ} (m, a) (n, b) → ⊥
 no_key m a n b other same = other (ap (λ (k : ℕ × ℕ). k.0) same, ap (λ (k : ℕ × ℕ). k.1) same)
 
 -- a run of what was set is an old one, or the one that was set

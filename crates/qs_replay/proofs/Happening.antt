@@ -10,8 +10,8 @@ use Rattle.qs_script.specs.declared.line.Line.TheVariants as line
 use Rattle.qs_script.specs.declared.print.SessionNews.TheVariants as news
 use Rattle.qs_replay.specs.declared.desk.Desk.{Desk}
 use Rattle.qs_replay.specs.declared.stop.Stop.TheVariants as stop
-use Rattle.qs_replay.specs.Calls.{Happened, Plays}
-use Rattle.qs_replay.specs.Effects.{IsActor, Played, Stopped, news_of, step_text}
+use Rattle.qs_replay.specs.Calls.{Call, Happened, Plays}
+use Rattle.qs_replay.specs.Effects.{IsActor, Played, RunsOut, Settles, Stopped, news_of, run_text, step_text}
 use Rattle.qs_replay.specs.Tables.{Gives, Names}
 use Rattle.qs_replay.proofs.Playing.{stopped_cut}
 
@@ -58,7 +58,7 @@ end_played seen old s new n o mid gives plays table out = record {
 }
 
 pub step_played : {D : Type 0} (seen : D → Seen) (old : Desk D) (who : ScriptActor) (now : ℕ) (new : Desk D) (a : Actor) (o : Outcome) (mid : Names) →
-    IsActor old.table who a mid → Plays seen old.world (Happened (event.Step a now) o ∷ []) new.world → new.table ≡ mid →
+    IsActor old.table who a mid → Plays seen old.world (Happened (event.Step a now) o ∷ []) new.world → Settles who o mid new.table →
     new.out ≡ old.out ++ step_text who o → Played seen old (line.Step who now) false new
 step_played seen old who now new a o mid is plays table out = record {
   calls = Happened (event.Step a now) o ∷ [];
@@ -76,6 +76,27 @@ step_played seen old who now new a o mid is plays table out = record {
     };
   };
   printed = out;
+}
+
+pub run_played : {D : Type 0} (seen : D → Seen) (old : Desk D) (who : ScriptActor) (now : ℕ) (new : Desk D) (a : Actor) (o : Outcome) (mid : Names) (calls : List Call) →
+    IsActor old.table who a mid → Plays seen old.world calls new.world → RunsOut (event.Step a now) calls o → Settles who o mid new.table →
+    new.out ≡ old.out ++ run_text who o → Played seen old (line.Run who now) false new
+run_played seen old who now new a o mid calls is plays out table printed = record {
+  calls = calls;
+  text = run_text who o;
+  is = record {
+    plays = plays;
+    does = record {
+      made = event.Step a now;
+      mid = mid;
+      outcome = o;
+      event_is = (a, (is, refl));
+      calls_are = out;
+      notes = table;
+      text_is = refl;
+    };
+  };
+  printed = printed;
 }
 
 pub attach_cut : {D : Type 0} (seen : D → Seen) (old : Desk D) (s e : List ℕ) (new : Desk D) (n : ℕ) (o : Outcome) (mid : Names) → Gives old.table s n mid →

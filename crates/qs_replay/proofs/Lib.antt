@@ -1,4 +1,3 @@
-pub mod Maps
 pub mod Plays
 pub mod Playing
 pub mod Happening
@@ -18,3 +17,4 @@ pub mod TwinFronts
 pub mod Functions
 pub mod Running
 pub mod Falling
+pub mod Lives

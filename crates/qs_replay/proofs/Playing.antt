@@ -1,6 +1,6 @@
 -- What a line did, by the way that its function ended.
 use Rattle.std.proofs.Common.{◌≡◌, ◌⊎◌, ◌<◌, ℕ, zero, suc, arith, List, [], ◌∷◌, ◌++◌, refl, append-nil, sym, subst, inl, inr, ap, ◌∙◌}
-use Rattle.std.specs.Prelude.{All, Bool, Option, None, true, false}
+use Rattle.std.specs.Prelude.{All, Bool, Option, true, false}
 use Rattle.std.proofs.lemmas.List.Elements.{All-append, All-cons, All-nil}
 use Rattle.qs_part.specs.declared.event.Actor.{Actor}
 use Rattle.qs_bytes.specs.declared.ask.Ask.{Ask}
@@ -17,8 +17,7 @@ use Rattle.qs_replay.specs.declared.stop.Stop.{Stop}
 use Rattle.qs_replay.specs.declared.stop.Stop.TheVariants as stop
 use Rattle.qs_replay.specs.declared.desk.Desk.{Desk}
 use Rattle.qs_replay.specs.Calls.{Call, Happened, Plays}
-use Rattle.qs_replay.specs.Tables.{Gives, IsKnown, IsUsed, Names, request_of}
-use Rattle.qs_replay.specs.declared.table.Made.{Made as MadeHere}
+use Rattle.qs_replay.specs.Tables.{Gives, IsKnown, IsUsed, Names, adds}
 use Rattle.qs_replay.specs.Effects.{GoesOn, IsActor, goes_on, AreFirst, IsAsked, IsEventOf, Played, Stopped, UsesAgain, write_ask}
 
 -- nothing happened, and nothing was printed
@@ -42,10 +41,6 @@ pub stopped_cut : {D : Type 0} (seen : D → Seen) (old : Desk D) (l : Line) (ne
     Stopped seen old l stop.Memory new
 stopped_cut seen old l new calls made mid lost is first plays out = (calls, (inr (made, mid, lost, (is, first)), plays, out))
 
--- a cookie that stands for no request wasn't used
-pub unused : (requests : List MadeHere) (n cookie : ℕ) (found : Option MadeHere) → found ≡ request_of requests n cookie → found ≡ None → IsUsed requests n cookie → ⊥
-unused requests n cookie found is none used = let some = used.1 in cc
-
 -- a line that asks has this event
 pub asks_event : (t t' : Names) (l : Line) (lost : Bool) (n : ℕ) (session : List ℕ) (ask : Ask) (body : Option (List ℕ)) → IsAsked l lost session ask body →
     Gives t session n t' → IsEventOf t l lost (event.Ask n ask body) t'
@@ -64,6 +59,20 @@ asks_event t t' (line.End s) lost n session ask body is gives = absurd is
 asks_event t t' (line.Step a now) lost n session ask body is gives = absurd is
 asks_event t t' (line.Run a now) lost n session ask body is gives = absurd is
 asks_event t t' (line.Fail j k) lost n session ask body is gives = absurd is
+
+-- a line that asks with a used cookie uses it again
+pub asks_again : (t a : Names) (l : Line) (lost : Bool) (n : ℕ) (session : List ℕ) (ask : Ask) (body : Option (List ℕ)) → IsAsked l lost session ask body →
+    Gives t session n a → IsUsed a n ask.cookie → UsesAgain t l
+asks_again t a (line.Read s c offset long) lost n session ask body is gives used =
+    (n, a, (subst (λ (x : List ℕ). Gives t x n a) (sym is.0) gives, subst (λ (k : Ask). IsUsed a n k.cookie) is.1 used))
+asks_again t a (line.Write s c offset bytes) lost n session ask body is gives used =
+    (n, a, (subst (λ (x : List ℕ). Gives t x n a) (sym is.0) gives, subst (λ (k : Ask). IsUsed a n k.cookie) is.1 used))
+asks_again t a line.Nothing lost n session ask body is gives used = absurd is
+asks_again t a (line.Session s e) lost n session ask body is gives used = absurd is
+asks_again t a (line.End s) lost n session ask body is gives used = absurd is
+asks_again t a (line.Step w now) lost n session ask body is gives used = absurd is
+asks_again t a (line.Run w now) lost n session ask body is gives used = absurd is
+asks_again t a (line.Fail j k) lost n session ask body is gives used = absurd is
 
 -- one call is among the first of a line that asks
 pub asks_first : (l : Line) (lost : Bool) (session : List ℕ) (ask : Ask) (body : Option (List ℕ)) (made : Event) (o : Outcome) → IsAsked l lost session ask body →
@@ -85,7 +94,7 @@ compare_cases (suc n) (suc m) =
     elim (compare_cases n m) [ inl h ↦ inl (omega arith) | inr rest ↦ elim rest [ inl e ↦ inr (inl (ap (λ (k : ℕ). suc k) e)) | inr h ↦ inr (inr (omega arith)) ] ]
 
 -- a name came first at one place
-known_one : (names : List (List ℕ)) (s : List ℕ) (n m : ℕ) → IsKnown names s n → IsKnown names s m → n ≡ m
+pub known_one : (names : List (List ℕ)) (s : List ℕ) (n m : ℕ) → IsKnown names s n → IsKnown names s m → n ≡ m
 known_one names s n m one two =
     elim (compare_cases n m) [
       | inl below ↦ absurd (two.before n below one.here)
@@ -99,23 +108,23 @@ gives_number t a b s n m (inl p) (inr q) = absurd (q.0 n p.0.inside p.0.here)
 gives_number t a b s n m (inr p) (inl q) = absurd (p.0 m q.0.inside q.0.here)
 gives_number t a b s n m (inr p) (inr q) = p.1 ∙ sym q.1
 
-gives_requests : (t a : Names) (s : List ℕ) (n : ℕ) → Gives t s n a → a.requests ≡ t.requests
-gives_requests t a s n (inl p) = ap (λ (x : Names). x.requests) p.1
-gives_requests t a s n (inr p) = ap (λ (x : Names). x.requests) p.2
+gives_used : (t a : Names) (s : List ℕ) (n m cookie : ℕ) → Gives t s n a → IsUsed a m cookie ≡ IsUsed t m cookie
+gives_used t a s n m cookie (inl p) = ap (λ (x : Names). IsUsed x m cookie) p.1
+gives_used t a s n m cookie (inr p) = ap (λ (x : Names). IsUsed x m cookie) p.2
 
 -- a cookie that wasn't used isn't used again
-fresh_once : (t a b : Names) (s : List ℕ) (n m cookie : ℕ) → Gives t s n a → (IsUsed a.requests n cookie → ⊥) → Gives t s m b → IsUsed b.requests m cookie → ⊥
+fresh_once : (t a b : Names) (s : List ℕ) (n m cookie : ℕ) → Gives t s n a → (IsUsed a n cookie → ⊥) → Gives t s m b → IsUsed b m cookie → ⊥
 fresh_once t a b s n m cookie one fresh two used =
-    fresh (subst (λ (k : ℕ). IsUsed a.requests k cookie) (gives_number t b a s m n two one)
-    (subst (λ (rs : List MadeHere). IsUsed rs m cookie) (gives_requests t b s m two ∙ sym (gives_requests t a s n one)) used))
+    fresh (subst (λ (k : ℕ). IsUsed a k cookie) (gives_number t b a s m n two one)
+    (subst (λ (u : Type 0). u) (gives_used t b s m m cookie two ∙ sym (gives_used t a s n m cookie one)) used))
 
 pub asks_once : (t a : Names) (l : Line) (lost : Bool) (n : ℕ) (session : List ℕ) (ask : Ask) (body : Option (List ℕ)) → IsAsked l lost session ask body →
-    Gives t session n a → (IsUsed a.requests n ask.cookie → ⊥) → UsesAgain t l → ⊥
+    Gives t session n a → (IsUsed a n ask.cookie → ⊥) → UsesAgain t l → ⊥
 asks_once t a (line.Read s c offset long) lost n session ask body is gives fresh again =
-    fresh_once t a again.1 session n again.0 c gives (λ used. fresh (subst (λ (k : Ask). IsUsed a.requests n k.cookie) (sym is.1) used))
+    fresh_once t a again.1 session n again.0 c gives (λ used. fresh (subst (λ (k : Ask). IsUsed a n k.cookie) (sym is.1) used))
     (subst (λ (x : List ℕ). Gives t x again.0 again.1) is.0 again.2.0) again.2.1
 asks_once t a (line.Write s c offset bytes) lost n session ask body is gives fresh again =
-    fresh_once t a again.1 session n again.0 c gives (λ used. fresh (subst (λ (k : Ask). IsUsed a.requests n k.cookie) (sym is.1) used))
+    fresh_once t a again.1 session n again.0 c gives (λ used. fresh (subst (λ (k : Ask). IsUsed a n k.cookie) (sym is.1) used))
     (subst (λ (x : List ℕ). Gives t x again.0 again.1) is.0 again.2.0) again.2.1
 asks_once t a line.Nothing lost n session ask body is gives fresh again = absurd is
 asks_once t a (line.Session s e) lost n session ask body is gives fresh again = absurd is
@@ -126,9 +135,9 @@ asks_once t a (line.Fail j k) lost n session ask body is gives fresh again = abs
 
 -- a line that asks was done
 pub asks_played : {D : Type 0} (seen : D → Seen) (old : Desk D) (l : Line) (lost : Bool) (new : Desk D) (n r : ℕ) (mid : Names) (session : List ℕ) (ask : Ask)
-    (body : Option (List ℕ)) → IsAsked l lost session ask body → Gives old.table session n mid → (IsUsed mid.requests n ask.cookie → ⊥) →
+    (body : Option (List ℕ)) → IsAsked l lost session ask body → Gives old.table session n mid → (IsUsed mid n ask.cookie → ⊥) →
     Plays seen old.world (Happened (event.Ask n ask body) (Made r) ∷ []) new.world →
-    new.table ≡ record { sessions = mid.sessions; requests = mid.requests ++ record { session = n; cookie = ask.cookie; number = r } ∷ [] } →
+    new.table ≡ adds mid n ask.cookie r →
     new.out ≡ old.out → Played seen old l lost new
 asks_played seen old (line.Read s c offset long) lost new n r mid session ask body is gives fresh plays table out = record {
   calls = Happened (event.Ask n ask body) (Made r) ∷ [];

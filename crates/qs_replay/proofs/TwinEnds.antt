@@ -2,6 +2,8 @@
 use Rattle.std.proofs.Common.{◌≡◌, ℕ, inl, inr, List, [], ◌∷◌, ◌++◌, refl, sym, subst, ap, ◌∙◌, arith}
 use Rattle.std.specs.Prelude.{All, Bool, Option, None, Some}
 use Rattle.std.proofs.lemmas.List.Elements.{All-head}
+use Rattle.std.specs.FinMap as map
+use Rattle.std.proofs.lemmas.Option.{none-some}
 use Rattle.qs_bytes.specs.declared.ask.Ask.{Ask}
 use Rattle.qs_outside.specs.Blocks.{Seen}
 use Rattle.qs_part.specs.declared.event.Actor.{Actor}
@@ -23,20 +25,20 @@ use Rattle.qs_model.specs.Worlds.{Session, Away, Live, Leaving, World}
 use Rattle.qs_world.specs.Events.{IsNotNext, Steps}
 use Rattle.qs_world.specs.Values.{WorldValue, request_at, session_at}
 use Rattle.qs_replay.specs.Calls.{Call, Happened, Makes, Plays}
-use Rattle.qs_replay.specs.Effects.{Does, DrivesUnmade, GoesOn, IsActor, IsEventOf, IsUnmade, Notes, RunsOut, UsesAgain, bytes_or, read_ask, write_ask}
+use Rattle.qs_replay.specs.Effects.{Does, DrivesNotLive, GoesOn, IsActor, IsEventOf, IsNotLive, Adds, RunsOut, UsesAgain, bytes_or, read_ask, write_ask}
 use Rattle.qs_replay.specs.Readings.{IsText}
 use Rattle.qs_replay.specs.Scripts.{DoesText, IsBad, IsUntimely}
-use Rattle.qs_replay.specs.Tables.{IsUsed, Names, request_of}
+use Rattle.qs_replay.specs.Tables.{IsUsed, Names}
 use Rattle.qs_replay.proofs.Playing.{asks_once}
 use Rattle.qs_replay.proofs.TwinEvents.{actor_one, gives_one}
 use Rattle.qs_replay.proofs.Twins.{Twins}
 
 -- a cookie that a request was noted by wasn't used before
-note_fresh : (made : Event) (o : Outcome) (n : ℕ) (ask : Ask) (body : Option (List ℕ)) (t t' : Names) → made ≡ event.Ask n ask body → Notes made o t t' →
-    IsUsed t.requests n ask.cookie → ⊥
-note_fresh made o n ask body t t' is notes = go o (subst (λ (e : Event). Notes e o t t') is notes)
+note_fresh : (made : Event) (o : Outcome) (n : ℕ) (ask : Ask) (body : Option (List ℕ)) (t t' : Names) → made ≡ event.Ask n ask body → Adds made o t t' →
+    IsUsed t n ask.cookie → ⊥
+note_fresh made o n ask body t t' is notes = go o (subst (λ (e : Event). Adds e o t t') is notes)
   where
-    go : (x : Outcome) → Notes (event.Ask n ask body) x t t' → IsUsed t.requests n ask.cookie → ⊥
+    go : (x : Outcome) → Adds (event.Ask n ask body) x t t' → IsUsed t n ask.cookie → ⊥
     go (outcome.Made r) notes = notes.0
     go _ notes = absurd notes
 
@@ -66,18 +68,15 @@ bad_never seen w v t t1 text calls printed is_text does (inr (inr again)) =
     used_never t t1 does.line does.lost calls printed does.is.does
     (subst (λ (l : Line). UsesAgain t l) (one_line text again.0 does.line again.1.0 does.reads) again.1.1)
 
--- an actor that was found was made
-found_never : (t mid : Names) (w : ScriptActor) (a : Actor) → IsActor t w a mid → IsUnmade t w → ⊥
-found_never t mid (who.Session s) a is unmade = unmade
-found_never t mid (who.Request s c) a is unmade =
-    let same = gives_one t mid unmade.1 s is.0 unmade.0 is.2.0 unmade.2.0 in
-    unmade.2.1 (
-      is.1,
-      subst (λ (u : Names). request_of u.requests unmade.0 c ≡ Some is.1) (sym same.1)
-          (subst (λ (n : ℕ). request_of mid.requests n c ≡ Some is.1) (sym same.0) is.2.1),
-    )
+-- an actor that was found isn't gone
+found_never : (t mid : Names) (w : ScriptActor) (a : Actor) → IsActor t w a mid → IsNotLive t w → ⊥
+found_never t mid (who.Session s) a is gone = gone
+found_never t mid (who.Request s c) a is gone =
+    let same = gives_one t mid gone.1 s is.0 gone.0 is.2.0 gone.2.0 in
+    none-some is.1 (sym gone.2.1
+    ∙ subst (λ (u : Names). map.get u.live (gone.0, c) ≡ Some is.1) (sym same.1) (subst (λ (n : ℕ). map.get mid.live (n, c) ≡ Some is.1) (sym same.0) is.2.1))
 
-driven_never : (t t1 : Names) (l : Line) (lost : Bool) (calls : List Call) (printed : List ℕ) → Does t l lost calls printed t1 → DrivesUnmade t l → ⊥
+driven_never : (t t1 : Names) (l : Line) (lost : Bool) (calls : List Call) (printed : List ℕ) → Does t l lost calls printed t1 → DrivesNotLive t l → ⊥
 driven_never t t1 (line.Step a now) lost calls printed does unmade = found_never t does.mid a does.event_is.0 does.event_is.1.0 unmade
 driven_never t t1 (line.Run a now) lost calls printed does unmade = found_never t does.mid a does.event_is.0 does.event_is.1.0 unmade
 driven_never t t1 line.Nothing lost calls printed does unmade = unmade
@@ -220,5 +219,5 @@ untimely_never {D} seen A o o' w w' v' t t1 text calls printed twins does bad =
           let b : Begun seen w' t l = begun seen w' v' t t1 l does.lost calls printed does.is.does does.is.plays cannot.made cannot.mid cannot.lost is in
           comes_never seen A o o' w w' b.world b.made b.outcome twins b.steps
           (same_target w t cannot.mid b.mid l cannot.lost b.lost cannot.made b.made is b.event_is cannot.not_next)
-      | inr drives ↦ driven_never t t1 l does.lost calls printed does.is.does (subst (λ (k : Line). DrivesUnmade t k) same drives)
+      | inr drives ↦ driven_never t t1 l does.lost calls printed does.is.does (subst (λ (k : Line). DrivesNotLive t k) same drives)
     ]

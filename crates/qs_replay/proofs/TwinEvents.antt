@@ -1,6 +1,7 @@
 -- The event of a line, and the names after it, in one way.
 use Rattle.std.proofs.Common.{◌≡◌, ℕ, ◌<◌, inl, inr, List, [], ◌∷◌, length, Bool, true, false, nat_lt, cond, refl, sym, subst, ap, ◌∙◌, arith, true≢false}
 use Rattle.std.specs.Prelude.{Option, Some, None, replicate}
+use Rattle.std.specs.FinMap as map
 use Rattle.qs_bytes.specs.declared.ask.Ask.{Ask}
 use Rattle.qs_outside.specs.Blocks.{Seen}
 use Rattle.qs_part.specs.declared.event.Actor.{Actor}
@@ -10,6 +11,8 @@ use Rattle.qs_part.specs.declared.event.Outcome.{Outcome}
 use Rattle.qs_part.specs.declared.event.Outcome.TheVariants as outcome
 use Rattle.qs_script.specs.declared.actor.ScriptActor.{ScriptActor}
 use Rattle.qs_script.specs.declared.actor.ScriptActor.TheVariants as who
+use Rattle.qs_script.specs.declared.line.Line.{Line}
+use Rattle.qs_script.specs.declared.line.Line.TheVariants as line
 use Rattle.qs_model.specs.Acts.{Element, Asked}
 use Rattle.qs_model.specs.Events.{IsEvent, outcome_of}
 use Rattle.qs_model.specs.Requests.{form_error}
@@ -18,11 +21,10 @@ use Rattle.qs_model.specs.Worlds.{World}
 use Rattle.qs_model.proofs.Basics.{either}
 use Rattle.qs_world.specs.Stands.{Stands}
 use Rattle.qs_world.specs.Values.{WorldValue}
-use Rattle.qs_replay.specs.declared.table.Made.{Made}
 use Rattle.qs_replay.specs.Calls.{HasBuffers}
-use Rattle.qs_replay.specs.Effects.{IsActor, IsRoom, Notes, bytes_or, longest_request, read_ask, write_ask}
-use Rattle.qs_replay.specs.Tables.{Gives, Names, request_of}
-use Rattle.qs_replay.proofs.Playing.{gives_number}
+use Rattle.qs_replay.specs.Effects.{Adds, IsActor, IsKey, IsRoom, Notes, Settles, bytes_or, longest_request, read_ask, write_ask}
+use Rattle.qs_replay.specs.Tables.{Gives, Names, settled}
+use Rattle.qs_replay.proofs.Playing.{gives_number, known_one}
 use Rattle.qs_replay.proofs.Twins.{asked_buffers}
 
 -- a name has one number
@@ -38,11 +40,11 @@ actor_one t a b (who.Session s) x y is at =
     let one = gives_one t a b s is.0 at.0 is.1.0 at.1.0 in (at.1.1 ∙ ap (λ (n : ℕ). Actor.Session n) one.0 ∙ sym is.1.1, one.1)
 actor_one t a b (who.Request s c) x y is at =
     let one = gives_one t a b s is.0 at.0 is.2.0 at.2.0 in
-    let same : at.1 ≡ is.1 = found_one (request_of a.requests is.0 c) is.1 at.1 is.2.1
-    (subst (λ (n : ℕ). request_of a.requests n c ≡ Some at.1) one.0 (subst (λ (u : Names). request_of u.requests at.0 c ≡ Some at.1) one.1 at.2.1)) in
-    (at.2.2 ∙ ap (λ (m : Made). Actor.Request m.number) same ∙ sym is.2.2, one.1)
+    let same : at.1 ≡ is.1 = found_one (map.get a.live (is.0, c)) is.1 at.1 is.2.1
+    (subst (λ (n : ℕ). map.get a.live (n, c) ≡ Some at.1) one.0 (subst (λ (u : Names). map.get u.live (at.0, c) ≡ Some at.1) one.1 at.2.1)) in
+    (at.2.2 ∙ ap (λ (r : ℕ). Actor.Request r) same ∙ sym is.2.2, one.1)
   where
-    found_one : (o : Option Made) (m k : Made) → o ≡ Some m → o ≡ Some k → k ≡ m
+    found_one : (o : Option ℕ) (m k : ℕ) → o ≡ Some m → o ≡ Some k → k ≡ m
     found_one o m k p q = cc
 
 -- the buffer that a READ brings where no memory is refused
@@ -78,10 +80,28 @@ write_body seen A n cookie offset (b ∷ bytes) true (Asked s c) o m v is told b
 write_body seen A n cookie offset (b ∷ bytes) true _ o m v is told buffers stands = absurd is
 write_body seen A n cookie offset (b ∷ bytes) false e o m v is told buffers stands = refl
 
--- the names after an event
-pub notes_one : (made : Event) (o : Outcome) (t a b : Names) → Notes made o t a → Notes made o t b → b ≡ a
-notes_one (event.Ask n ask body) (outcome.Made r) t a b p q = q.1 ∙ sym p.1
-notes_one (event.Ask n ask body) _ t a b p q = absurd p
-notes_one (event.Attach n e) o t a b p q = q ∙ sym p
-notes_one (event.Leave n) o t a b p q = q ∙ sym p
-notes_one (event.Step a1 now) o t a b p q = q ∙ sym p
+-- what a request is kept under is one
+key_one : (t : Names) (w : ScriptActor) (x y : Option (ℕ × ℕ)) → IsKey t w x → IsKey t w y → y ≡ x
+key_one t (who.Session s) x y is at = at ∙ sym is
+key_one t (who.Request s c) x y is at = at.1.1 ∙ ap (λ (n : ℕ). Some (n, c)) (known_one t.sessions s at.0 is.0 at.1.0 is.1.0) ∙ sym is.1.1
+
+settles_one : (w : ScriptActor) (o : Outcome) (t a b : Names) → Settles w o t a → Settles w o t b → b ≡ a
+settles_one w o t a b p q = q.1.1 ∙ ap (λ (k : Option (ℕ × ℕ)). settled t k o) (key_one t w p.0 q.0 p.1.0 q.1.0) ∙ sym p.1.1
+
+adds_one : (made : Event) (o : Outcome) (t a b : Names) → Adds made o t a → Adds made o t b → b ≡ a
+adds_one (event.Ask n ask body) (outcome.Made r) t a b p q = q.1 ∙ sym p.1
+adds_one (event.Ask n ask body) _ t a b p q = absurd p
+adds_one (event.Attach n e) o t a b p q = q ∙ sym p
+adds_one (event.Leave n) o t a b p q = q ∙ sym p
+adds_one (event.Step a1 now) o t a b p q = q ∙ sym p
+
+-- the names after a line
+pub notes_one : (l : Line) (made : Event) (o : Outcome) (t a b : Names) → Notes l made o t a → Notes l made o t b → b ≡ a
+notes_one (line.Step w now) made o t a b p q = settles_one w o t a b p q
+notes_one (line.Run w now) made o t a b p q = settles_one w o t a b p q
+notes_one line.Nothing made o t a b p q = adds_one made o t a b p q
+notes_one (line.Session s e) made o t a b p q = adds_one made o t a b p q
+notes_one (line.End s) made o t a b p q = adds_one made o t a b p q
+notes_one (line.Read s c offset long) made o t a b p q = adds_one made o t a b p q
+notes_one (line.Write s c offset bytes) made o t a b p q = adds_one made o t a b p q
+notes_one (line.Fail j k) made o t a b p q = adds_one made o t a b p q

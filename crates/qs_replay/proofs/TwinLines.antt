@@ -105,7 +105,7 @@ module _ {D : Type 0} (seen : D → Seen) (A : ℕ) (o o' : World) (never : Neve
   -- a line of one event
   one_event : (w w' v v' : WorldValue D) (l : Line) (made made' : Event) (x y : Outcome) (calls calls' : List Call) (printed printed' : List ℕ) (mid mid' t t' : Names) →
       IsTame made → Twins seen A o o' w w' → made' ≡ made → mid' ≡ mid → calls ≡ Happened made x ∷ [] → calls' ≡ Happened made' y ∷ [] →
-      Notes made x mid t → Notes made' y mid' t' → printed ≡ text_of l x → printed' ≡ text_of l y → Calmly seen w calls v → Calmly seen w' calls' v' →
+      Notes l made x mid t → Notes l made' y mid' t' → printed ≡ text_of l x → printed' ≡ text_of l y → Calmly seen w calls v → Calmly seen w' calls' v' →
       Together seen A o o' v v' calls calls' printed printed' t t'
   one_event w w' v v' l made made' x y calls calls' printed printed' mid mid' t t' tame twins event_is mid_is is at notes notes_too text text_too one two =
       let both = twin_one w w' v v' (Happened made x) (Happened made' y) twins (given_calls w v calls (Happened made x ∷ []) is one)
@@ -114,15 +114,15 @@ module _ {D : Type 0} (seen : D → Seen) (A : ℕ) (o o' : World) (never : Neve
       record {
         calls_are = at ∙ ap (λ (c : Call). c ∷ []) both.0 ∙ sym is;
         printed_are = text_too ∙ ap (text_of l) same ∙ sym text;
-        names_are = notes_one made x mid t t' notes
-            (subst (λ (e : Event). Notes e x mid t') event_is (subst (λ (u : Names). Notes made' x u t') mid_is (subst (λ (z : Outcome). Notes made' z mid' t') same notes_too)));
+        names_are = notes_one l made x mid t t' notes
+            (subst (λ (e : Event). Notes l e x mid t') event_is (subst (λ (u : Names). Notes l made' x u t') mid_is (subst (λ (z : Outcome). Notes l made' z mid' t') same notes_too)));
         twins = both.1;
       }
 
   -- a line of a run
   one_run : (w w' v v' : WorldValue D) (l : Line) (made made' : Event) (x y : Outcome) (calls calls' : List Call) (printed printed' : List ℕ) (mid mid' t t' : Names) →
       IsTame made → Twins seen A o o' w w' → made' ≡ made → mid' ≡ mid → RunsOut made calls x → RunsOut made' calls' y →
-      Notes made x mid t → Notes made' y mid' t' → printed ≡ text_of l x → printed' ≡ text_of l y → Calmly seen w calls v → Calmly seen w' calls' v' →
+      Notes l made x mid t → Notes l made' y mid' t' → printed ≡ text_of l x → printed' ≡ text_of l y → Calmly seen w calls v → Calmly seen w' calls' v' →
       Together seen A o o' v v' calls calls' printed printed' t t'
   one_run w w' v v' l made made' x y calls calls' printed printed' mid mid' t t' tame twins event_is mid_is is at notes notes_too text text_too one two =
       let both = twin_run made w w' v v' calls calls' x y tame twins (runs_by made calls x is)
@@ -130,8 +130,8 @@ module _ {D : Type 0} (seen : D → Seen) (A : ℕ) (o o' : World) (never : Neve
       record {
         calls_are = both.0;
         printed_are = text_too ∙ ap (text_of l) both.1 ∙ sym text;
-        names_are = notes_one made x mid t t' notes
-            (subst (λ (e : Event). Notes e x mid t') event_is (subst (λ (u : Names). Notes made' x u t') mid_is (subst (λ (z : Outcome). Notes made' z mid' t') both.1 notes_too)));
+        names_are = notes_one l made x mid t t' notes
+            (subst (λ (e : Event). Notes l e x mid t') event_is (subst (λ (u : Names). Notes l made' x u t') mid_is (subst (λ (z : Outcome). Notes l made' z mid' t') both.1 notes_too)));
         twins = both.2;
       }
 

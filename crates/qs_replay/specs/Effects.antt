@@ -1,5 +1,6 @@
 -- What a line of a script does: the events that it makes, what it prints, and the names after it.
 use Rattle.std.specs.Prelude.{◌≡◌, ℕ, ◌<◌, ◌≤◌, ◌⊎◌, Bool, true, false, List, [], ◌∷◌, ◌++◌, length, replicate, All, Option, Some, None, Result, Ok, Err}
+use Rattle.std.specs.FinMap as map
 use Rattle.qs_bytes.specs.declared.ask.Ask.{Ask}
 use Rattle.qs_bytes.specs.declared.ask.Kind.TheVariants as kind
 use Rattle.qs_bytes.specs.declared.ask.Verdict.{Verdict}
@@ -28,10 +29,9 @@ use Rattle.qs_world.specs.Events.{IsNotNext}
 use Rattle.qs_world.specs.Values.{WorldValue}
 use Rattle.qs_replay.specs.declared.stop.Stop.{Stop}
 use Rattle.qs_replay.specs.declared.stop.Stop.TheVariants as stop
-use Rattle.qs_replay.specs.declared.table.Made.{Made}
 use Rattle.qs_replay.specs.declared.desk.Desk.{Desk}
 use Rattle.qs_replay.specs.Calls.{Call, Happened, Rigged, Plays}
-use Rattle.qs_replay.specs.Tables.{Gives, IsUsed, Names, request_of}
+use Rattle.qs_replay.specs.Tables.{Gives, IsKnown, IsUsed, Names, adds, settled}
 
 abbrev pub read_ask : ℕ → ℕ → ℕ → Ask
 read_ask cookie offset length = record { kind = kind.Read; fua = false; flags_fit = true; cookie = cookie; offset = offset; length = length }
@@ -39,11 +39,16 @@ read_ask cookie offset length = record { kind = kind.Read; fua = false; flags_fi
 abbrev pub write_ask : ℕ → ℕ → List ℕ → Ask
 write_ask cookie offset bytes = record { kind = kind.Write; fua = false; flags_fit = true; cookie = cookie; offset = offset; length = length bytes }
 
--- the actor that a script names; a request is one that was made
+-- the actor that a script names; a request is one that isn't answered yet
 abbrev pub IsActor : Names → ScriptActor → Actor → Names → Type 0
 IsActor t (who.Session s) actor t' = (n : ℕ) × (Gives t s n t' × (actor ≡ ASession n))
 IsActor t (who.Request s c) actor t' =
-    (n : ℕ) × (m : Made) × (Gives t s n t' × (request_of t'.requests n c ≡ Some m) × (actor ≡ ARequest m.number))
+    (n : ℕ) × (r : ℕ) × (Gives t s n t' × (map.get t'.live (n, c) ≡ Some r) × (actor ≡ ARequest r))
+
+-- what a request that a script names is kept under
+abbrev pub IsKey : Names → ScriptActor → Option (ℕ × ℕ) → Type 0
+IsKey t (who.Session s) key = key ≡ None
+IsKey t (who.Request s c) key = (n : ℕ) × (IsKnown t.sessions s n × (key ≡ Some (n, c)))
 
 -- the longest request that is served, in bytes
 abbrev pub longest_request : ℕ
@@ -109,11 +114,20 @@ text_of (line.Run actor now) o = run_text actor o
 text_of other o = []
 
 -- A request that was made is noted by its cookie, which wasn't used before with this session's name.
-abbrev pub Notes : Event → Outcome → Names → Names → Type 0
-Notes (event.Ask n ask body) (outcome.Made r) t t' = (IsUsed t.requests n ask.cookie → ⊥) ×
-    (t' ≡ record t { requests = t.requests ++ record { session = n; cookie = ask.cookie; number = r } ∷ [] })
-Notes (event.Ask n ask body) other t t' = ⊥
-Notes made other t t' = t' ≡ t
+abbrev pub Adds : Event → Outcome → Names → Names → Type 0
+Adds (event.Ask n ask body) (outcome.Made r) t t' = (IsUsed t n ask.cookie → ⊥) × (t' ≡ adds t n ask.cookie r)
+Adds (event.Ask n ask body) other t t' = ⊥
+Adds made other t t' = t' ≡ t
+
+-- A request that was answered isn't kept.
+abbrev pub Settles : ScriptActor → Outcome → Names → Names → Type 0
+Settles actor o t t' = (key : Option (ℕ × ℕ)) × (IsKey t actor key × (t' ≡ settled t key o))
+
+-- the names behind the last event of a line
+abbrev pub Notes : Line → Event → Outcome → Names → Names → Type 0
+Notes (line.Step actor now) made o t t' = Settles actor o t t'
+Notes (line.Run actor now) made o t t' = Settles actor o t t'
+Notes other made o t t' = Adds made o t t'
 
 -- an answer of the graph to a request
 abbrev pub is_way : GraphReply → Bool
@@ -163,7 +177,7 @@ pub record Acts (t : Names) (l : Line) (lost : Bool) (calls : List Call) (text :
   pub outcome : Outcome
   pub event_is : IsEventOf t l lost made mid
   pub calls_are : CallsOf l made outcome calls
-  pub notes : Notes made outcome mid t'
+  pub notes : Notes l made outcome mid t'
   pub text_is : text ≡ text_of l outcome
 
 -- nothing happens but these calls, and nothing is printed
@@ -193,19 +207,19 @@ pub record Played {D : Type 0} (seen : D → Seen) (old : Desk D) (l : Line) (lo
 
 -- the line uses a cookie that was used with the name of its session
 abbrev pub UsesAgain : Names → Line → Type 0
-UsesAgain t (line.Read s c offset long) = (n : ℕ) × (t' : Names) × (Gives t s n t' × IsUsed t'.requests n c)
-UsesAgain t (line.Write s c offset bytes) = (n : ℕ) × (t' : Names) × (Gives t s n t' × IsUsed t'.requests n c)
+UsesAgain t (line.Read s c offset long) = (n : ℕ) × (t' : Names) × (Gives t s n t' × IsUsed t' n c)
+UsesAgain t (line.Write s c offset bytes) = (n : ℕ) × (t' : Names) × (Gives t s n t' × IsUsed t' n c)
 UsesAgain t other = ⊥
 
--- an actor of a script that is no request that was made
-abbrev pub IsUnmade : Names → ScriptActor → Type 0
-IsUnmade t (who.Session s) = ⊥
-IsUnmade t (who.Request s c) = (n : ℕ) × (t' : Names) × (Gives t s n t' × (IsUsed t'.requests n c → ⊥))
+-- an actor of a script that is no request, or one that was answered
+abbrev pub IsNotLive : Names → ScriptActor → Type 0
+IsNotLive t (who.Session s) = ⊥
+IsNotLive t (who.Request s c) = (n : ℕ) × (t' : Names) × (Gives t s n t' × (map.get t'.live (n, c) ≡ None))
 
-abbrev pub DrivesUnmade : Names → Line → Type 0
-DrivesUnmade t (line.Step actor now) = IsUnmade t actor
-DrivesUnmade t (line.Run actor now) = IsUnmade t actor
-DrivesUnmade t other = ⊥
+abbrev pub DrivesNotLive : Names → Line → Type 0
+DrivesNotLive t (line.Step actor now) = IsNotLive t actor
+DrivesNotLive t (line.Run actor now) = IsNotLive t actor
+DrivesNotLive t other = ⊥
 
 -- the line's event can't come
 pub record CannotCome {D : Type 0} (w : WorldValue D) (t : Names) (l : Line) : Type 0 where
@@ -228,7 +242,7 @@ IsCut t l calls = (calls ≡ []) ⊎ ((made : Event) × (mid : Names) × (lost :
 abbrev pub Stopped : {D : Type 0} → (D → Seen) → Desk D → Line → Stop → Desk D → Type 0
 Stopped seen old l stop.BadLine new = UsesAgain old.table l × (new.world ≡ old.world) × (new.out ≡ old.out)
 Stopped seen old l stop.NotNext new =
-    (CannotCome old.world old.table l ⊎ DrivesUnmade old.table l) × (UsesAgain old.table l → ⊥) × (new.world ≡ old.world) × (new.out ≡ old.out)
+    (CannotCome old.world old.table l ⊎ DrivesNotLive old.table l) × (UsesAgain old.table l → ⊥) × (new.world ≡ old.world) × (new.out ≡ old.out)
 Stopped seen old l stop.Memory new =
     (calls : List Call) × (IsCut old.table l calls × Plays seen old.world calls new.world × (new.out ≡ old.out))
 

@@ -17,11 +17,13 @@ use Rattle.qs_world.specs.Values.{WorldValue}
 use Rattle.qs_replay.specs.declared.words.ReplayWords.{ReplayWords}
 use Rattle.qs_replay.specs.Calls.{AreCalls, AreCalm, Call}
 use Rattle.qs_replay.specs.Scripts.{AllDone, ReachesLine, Replays, Scene, lines_of}
+use Rattle.std.specs.FinMap.{empty as no_requests}
+use Rattle.std.specs.FinSet.{empty as no_cookies}
 use Rattle.qs_replay.specs.Tables.{Names}
 use Rattle.qs_replay.specs.Words.{Tells}
 
 abbrev pub no_names : Names
-no_names = record { sessions = []; requests = [] }
+no_names = record { sessions = []; used = no_cookies; live = no_requests }
 
 -- the most lines of a script
 abbrev pub most_lines : ℕ

@@ -14,7 +14,7 @@ use Rattle.qs_replay.specs.declared.stop.Stop.TheVariants as stop
 use Rattle.qs_replay.specs.declared.replay.Turn.{Turn}
 use Rattle.qs_replay.specs.declared.replay.Turn.TheVariants as turn
 use Rattle.qs_replay.specs.Calls.{Call, Plays}
-use Rattle.qs_replay.specs.Effects.{CannotCome, DrivesUnmade, IsCut, IsPlayed, UsesAgain}
+use Rattle.qs_replay.specs.Effects.{CannotCome, DrivesNotLive, IsCut, IsPlayed, UsesAgain}
 use Rattle.qs_replay.specs.Readings.{IsText, IsUsedUp}
 use Rattle.qs_replay.specs.Tables.{Names}
 use Rattle.qs_replay.specs.Waiting.{Gives, Takes}
@@ -25,7 +25,7 @@ IsBad t text = (longest ≤ length text) ⊎ ((l : Line) → Reads text l → �
 
 -- its event can't come, or its actor is no request that was made
 abbrev pub IsUntimely : {D : Type 0} → WorldValue D → Names → List ℕ → Type 0
-IsUntimely w t text = (l : Line) × (Reads text l × (UsesAgain t l → ⊥) × (CannotCome w t l ⊎ DrivesUnmade t l))
+IsUntimely w t text = (l : Line) × (Reads text l × (UsesAgain t l → ⊥) × (CannotCome w t l ⊎ DrivesNotLive t l))
 
 -- why a line wasn't done to its end, and the calls that it made
 abbrev pub Why : {D : Type 0} → WorldValue D → Names → List ℕ → Stop → List Call → Type 0

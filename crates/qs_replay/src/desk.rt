@@ -4,7 +4,7 @@ ghost use Rattle.qs_script.specs.declared.line.Line.TheVariants as line;
 ghost use Rattle.qs_world.specs.Events.{IsNotNext, TakesMemory};
 ghost use Rattle.qs_replay.specs.Calls.{Call, Happened, Plays};
 ghost use Rattle.qs_replay.specs.Ranks.{rank_at};
-ghost use Rattle.qs_replay.specs.Effects.{IsRoom, bytes_or, GoesOn, IsActor, IsUnmade, PlaysLine, RunsOut, answer_text, goes_on, moves_on, note_text, run_text, step_text, read_ask, write_ask};
+ghost use Rattle.qs_replay.specs.Effects.{IsRoom, bytes_or, GoesOn, IsActor, IsKey, IsNotLive, PlaysLine, RunsOut, answer_text, goes_on, moves_on, note_text, run_text, step_text, read_ask, write_ask};
 ghost use Rattle.qs_replay.specs.declared.stop.Stop.TheVariants.{NotNext, Memory as NoMemory, BadLine};
 
 use crate::stop::Stop;
@@ -191,18 +191,29 @@ pub fn lost_bytes(alloc: Global, length: u64) -> Option<Bytes>
     }
 }
 
+/// An actor that a script names: who it is in the core, and what the table keeps it under if it is a
+/// request.
+#[derive(Clone, Copy, Debug, PartialEq, Eq)]
+pub struct Found {
+    pub actor: Actor,
+    pub key: Option<(u32, u64)>,
+}
+
 /// The longest request that is served, in bytes.
 const LONGEST: u64 = 33_554_432;
 
 /// The actor that a script names, or why there is none.
-pub fn actor_for(table: &mut Table, who: &ScriptActor) -> Result<Actor, Stop>
-    ensures ok { IfOk result (λ actor. IsActor table.old who.now actor table.new) }
-    ensures next { result ≡ Err NotNext → IsUnmade table.old who.now }
+pub fn actor_for(table: &mut Table, who: &ScriptActor) -> Result<Found, Stop>
+    ensures ok { IfOk result (λ found. IsActor table.old who.now found.actor table.new × IsKey table.new who.now found.key) }
+    ensures next { result ≡ Err NotNext → IsNotLive table.old who.now }
     ensures form { result ≡ Err BadLine → ⊥ }
 {
     match who {
         ScriptActor::Session(session) => match table.number(*session) {
-            Ok(number) => Ok(Actor::Session(number)),
+            Ok(number) => Ok(Found {
+                actor: Actor::Session(number),
+                key: None,
+            }),
             Err(_) => Err(Stop::Memory),
         },
         ScriptActor::Request(session, cookie) => {
@@ -211,7 +222,10 @@ pub fn actor_for(table: &mut Table, who: &ScriptActor) -> Result<Actor, Stop>
                 Err(_) => return Err(Stop::Memory),
             };
             match table.request(number, *cookie) {
-                Some(made) => Ok(Actor::Request(made.number)),
+                Some(request) => Ok(Found {
+                    actor: Actor::Request(request),
+                    key: Some((number, *cookie)),
+                }),
                 None => Err(Stop::NotNext),
             }
         }

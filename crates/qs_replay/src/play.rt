@@ -5,7 +5,6 @@ ghost use Rattle.qs_replay.specs.Effects.{IsAsked, IsPlanned, PlaysLine, news_of
 
 use crate::desk::{Desk, actor_for, happen, lost_bytes, room_for, run_lines, run_out, step_lines};
 use crate::stop::Stop;
-use crate::table::Made;
 use qs_bytes::{Ask, Bytes, Kind, Name};
 use qs_outside::{Disk, Fail, RiggedDisk};
 use qs_part::event::{Event, Outcome};
@@ -74,9 +73,8 @@ impl<D: Disk + Drop> Desk<D> {
             Ok(number) => number,
             Err(_) => return Err(Stop::Memory),
         };
-        match self.table.request(number, ask.cookie) {
-            Some(_) => return Err(Stop::BadLine),
-            None => {}
+        if self.table.is_used(number, ask.cookie) {
+            return Err(Stop::BadLine);
         }
         let event = Event::Ask {
             session: number,
@@ -88,12 +86,7 @@ impl<D: Disk + Drop> Desk<D> {
             Ok(_) => return Err(Stop::Memory),
             Err(stop) => return Err(stop),
         };
-        let made = Made {
-            session: number,
-            cookie: ask.cookie,
-            number: request,
-        };
-        match self.table.make(made) {
+        match self.table.make(number, ask.cookie, request) {
             Ok(()) => Ok(()),
             Err(_) => Err(Stop::Memory),
         }
@@ -147,11 +140,15 @@ impl<D: Disk + Drop> Desk<D> {
     pub fn step(&mut self, who: &ScriptActor, now: u64) -> Result<(), Stop>
         ensures { PlaysLine D.seen self.old (line.Step who.now now) false result self.new }
     {
-        let actor = match actor_for(&mut self.table, who) {
-            Ok(actor) => actor,
+        let found = match actor_for(&mut self.table, who) {
+            Ok(found) => found,
             Err(stop) => return Err(stop),
         };
-        let outcome = match happen(&mut self.world, Event::Step { actor, now }) {
+        let event = Event::Step {
+            actor: found.actor,
+            now,
+        };
+        let outcome = match happen(&mut self.world, event) {
             Ok(outcome) => outcome,
             Err(stop) => return Err(stop),
         };
@@ -160,20 +157,22 @@ impl<D: Disk + Drop> Desk<D> {
             Err(_) => return Err(Stop::Memory),
         };
         match self.out.append(text.as_slice()) {
-            Ok(()) => Ok(()),
-            Err(_) => Err(Stop::Memory),
+            Ok(()) => {}
+            Err(_) => return Err(Stop::Memory),
         }
+        self.table.settle(found.key, &outcome);
+        Ok(())
     }
 
     /// `run ACTOR [READING]`
     pub fn run(&mut self, who: &ScriptActor, now: u64) -> Result<(), Stop>
         ensures { PlaysLine D.seen self.old (line.Run who.now now) false result self.new }
     {
-        let actor = match actor_for(&mut self.table, who) {
-            Ok(actor) => actor,
+        let found = match actor_for(&mut self.table, who) {
+            Ok(found) => found,
             Err(stop) => return Err(stop),
         };
-        let outcome = match run_out(&mut self.world, actor, now) {
+        let outcome = match run_out(&mut self.world, found.actor, now) {
             Ok(outcome) => outcome,
             Err(stop) => return Err(stop),
         };
@@ -182,9 +181,11 @@ impl<D: Disk + Drop> Desk<D> {
             Err(_) => return Err(Stop::Memory),
         };
         match self.out.append(text.as_slice()) {
-            Ok(()) => Ok(()),
-            Err(_) => Err(Stop::Memory),
+            Ok(()) => {}
+            Err(_) => return Err(Stop::Memory),
         }
+        self.table.settle(found.key, &outcome);
+        Ok(())
     }
 }
 

@@ -1,36 +1,37 @@
-ghost use Rattle.std.specs.Prelude.{◌≡◌, ◌↔◌, ◌++◌, ◌∷◌, [], None, IsTrue, OnErr, OnOk, IfOk, MatchOption};
-ghost use Rattle.qs_replay.specs.Tables.{Gives, IsKnown, Lacks, request_of};
+ghost use Rattle.std.specs.Prelude.{◌≡◌, ◌↔◌, [], false, IsTrue, OnErr, OnOk, IfOk, MatchOption};
+ghost use Rattle.std.specs.FinMap as map;
+ghost use Rattle.std.specs.FinSet as set;
+ghost use Rattle.qs_replay.specs.Tables.{Gives, IsKnown, IsUsed, Lacks, adds, settled};
 
-use indexmap::IndexMap;
 use qs_bytes::Memory;
+use qs_cookies::UsedCookies;
+use qs_part::event::Outcome;
 use qs_script::SessionName;
 use std::alloc::Global;
+use std::collections::BTreeMap;
 use std::marker::Model;
 
-/// A request that a script made: its session's number, its cookie, and its number in the core.
-#[derive(Clone, Copy, Debug, PartialEq, Eq)]
-pub struct Made {
-    pub session: u32,
-    pub cookie: u64,
-    pub number: u64,
-}
-
 /// What the names of a script stand for. The number of a session's name is its place in the order in
-/// which names came; each cookie that was used with a name is kept.
+/// which names came.
 #[derive(Debug, Drop)]
 pub struct Table {
     sessions: Vec<SessionName>,
-    /// The number of a request, by its session's number and its cookie.
-    requests: IndexMap<(u32, u64), u64>,
+    used: UsedCookies,
+    /// The number of each request that isn't answered yet, by its session's number and its cookie.
+    live: BTreeMap<(u32, u64), u64>,
 }
 
 impl Model for Table {
-    ghost use Rattle.std.specs.Prelude.{map};
-    ghost use Rattle.qs_replay.specs.Tables.{Names, made_of};
+    ghost use Rattle.std.specs.FinMap.{from_entries};
+    ghost use Rattle.qs_replay.specs.Tables.{AreUsed, Names, coded_names};
 
     ghost Value = { Names };
 
-    ghost view = { λ t. record { sessions = t.sessions.items; requests = map made_of t.requests.entries } };
+    ghost coded = { coded_names };
+
+    ghost view = { λ t. record { sessions = t.sessions.items; used = t.used; live = from_entries t.live.entries } };
+
+    ghost invariant = { λ t. AreUsed t.used t.live };
 }
 
 /// Whether two names are one.
@@ -55,11 +56,12 @@ fn place_of(names: &[SessionName], name: SessionName) -> Option<usize>
 impl Table {
     /// No name stands for anything.
     pub fn new(alloc: Global) -> Self
-        ensures { result ≡ record { sessions = []; requests = [] } }
+        ensures { result ≡ record { sessions = []; used = set.empty; live = map.empty } }
     {
         Table {
             sessions: Vec::new(alloc),
-            requests: IndexMap::new(alloc),
+            used: UsedCookies::new(alloc),
+            live: BTreeMap::new(alloc),
         }
     }
 
@@ -79,32 +81,48 @@ impl Table {
         }
     }
 
-    /// The request that a session made with a cookie, if it made one.
-    pub fn request(&self, session: u32, cookie: u64) -> Option<Made>
-        ensures { result ≡ request_of self.now.requests session cookie }
+    /// Whether a session used a cookie.
+    pub fn is_used(&self, session: u32, cookie: u64) -> bool
+        ensures { IsTrue result ↔ IsUsed self.now session cookie }
     {
-        match self.requests.get(&(session, cookie)) {
-            Some(number) => Some(Made {
-                session,
-                cookie,
-                number: *number,
-            }),
-            None => None,
+        self.used.contains(session, cookie)
+    }
+
+    /// The number of the request that a session made with a cookie, if it isn't answered yet.
+    pub fn request(&self, session: u32, cookie: u64) -> Option<u64>
+        ensures { result ≡ map.get self.now.live (session, cookie) }
+    {
+        self.live.get(&(session, cookie)).copied()
+    }
+
+    /// Notes a request that was made, by its number. Refused memory leaves the table as it was.
+    pub fn make(&mut self, session: u32, cookie: u64, number: u64) -> Result<(), Memory>
+        requires unused { set.contains self.old.used (session, cookie) ≡ false }
+        ensures ok { OnOk result (self.new ≡ adds self.old session cookie number) }
+        ensures err { OnErr result (self.new ≡ self.old) }
+    {
+        match self.live.insert((session, cookie), number) {
+            Ok(_) => {}
+            Err(_) => return Err(Memory),
+        }
+        match self.used.insert(session, cookie) {
+            Ok(()) => Ok(()),
+            Err(_) => {
+                self.live.remove(&(session, cookie));
+                Err(Memory)
+            }
         }
     }
 
-    /// Notes a request that was made. Refused memory leaves the table as it was.
-    pub fn make(&mut self, made: Made) -> Result<(), Memory>
-        requires new { request_of self.old.requests made.session made.cookie ≡ None }
-        ensures ok { OnOk result (self.new ≡ record { sessions = self.old.sessions; requests = self.old.requests ++ made ∷ [] }) }
-        ensures err { OnErr result (self.new ≡ self.old) }
+    /// Forgets the number of a request that was answered.
+    pub fn settle(&mut self, key: Option<(u32, u64)>, outcome: &Outcome)
+        ensures { self.new ≡ settled self.old key outcome.now }
     {
-        match self
-            .requests
-            .insert((made.session, made.cookie), made.number)
-        {
-            Ok(_) => Ok(()),
-            Err(_) => Err(Memory),
+        match (key, outcome) {
+            (Some(key), Outcome::Answered(..)) => {
+                self.live.remove(&key);
+            }
+            _ => {}
         }
     }
 }

@@ -120,6 +120,14 @@ step A.1\nstep A.1\nfail 0 store-old\nstep A.1\nstep A.1\nstep A.1\n",
 fn refused_lines(rt: HostRuntime) -> Result<(), Fail> {
     for (text, status) in [
         (b"session A disk\nstep A.1\n".as_slice(), Status::NotNext(2)),
+        (
+            b"session A disk\nread A 1 0 0\nrun A.1\nstep A.1\n",
+            Status::NotNext(4),
+        ),
+        (
+            b"session A disk\nread A 1 0 0\nrun A.1\nread A 2 0 0\nread A 1 0 0\n",
+            Status::BadLine(5),
+        ),
         (b"session A disk\njump\n", Status::BadLine(2)),
         (b"session A disk\nend A\r\n", Status::BadLine(2)),
         (b"session A disk", Status::Done),

@@ -1,9 +1,17 @@
 -- The event was refused, or came.
-use Rattle.std.proofs.Common.{refl}
+use Rattle.std.proofs.Common.{refl, sym, ◌∙◌, true≢false}
 use Rattle.qs_part.specs.declared.event.Event.TheVariants as event
 use Rattle.qs_part.specs.declared.event.Outcome.TheVariants.{Made}
-use Rattle.qs_replay.proofs.Playing.{asks_event, asks_first, asks_once, asks_played, stopped_cut, stopped_event, unused}
+use Rattle.qs_replay.proofs.Playing.{asks_again, asks_event, asks_first, asks_once, asks_played, stopped_cut, stopped_event}
 use Rattle.qs_replay.proofs.desk.Desk.ask.Goals as goal
+
+pub returns-then-is_used : goal.returns-then-is_used
+returns-then-is_used g c = λ l lost is. (
+  asks_again c.args.self.now.table c.number.new.self l lost c.in-Ok.number c.args.session c.args.ask c.args.body is c.in-Ok.ensures.ok
+      (c.is_used.ensures.0 c.if-is_used.true),
+  refl,
+  refl,
+)
 
 pub returns-in-Err-happen : goal.returns-in-Err-happen
 returns-in-Err-happen g c = λ l lost is.
@@ -13,12 +21,12 @@ returns-in-Err-happen g c = λ l lost is.
     c.in-Err-happen.ensures.err refl
     (λ e. c.in-Err-happen.ensures.next (cc)) (λ e. c.in-Err-happen.ensures.form (cc))
     (asks_once c.args.self.now.table c.number.new.self l lost c.in-Ok.number c.args.session c.args.ask c.args.body is c.in-Ok.ensures.ok
-    (unused c.number.new.self.requests c.in-Ok.number c.args.ask.cookie c.request.result c.request.ensures c.in-None.is))
+    (λ used. true≢false (sym (c.is_used.ensures.1 used) ∙ c.if-is_used.false)))
 
 pub returns-in-Ok-make : goal.returns-in-Ok-make
 returns-in-Ok-make g c = λ l lost is.
     asks_played g.D.Disk.seen c.args.self.now l lost _ c.in-Ok.number c.in-Ok-Made.request c.number.new.self c.args.session c.args.ask c.args.body is
-    c.in-Ok.ensures.ok (unused c.number.new.self.requests c.in-Ok.number c.args.ask.cookie c.request.result c.request.ensures c.in-None.is)
+    c.in-Ok.ensures.ok (λ used. true≢false (sym (c.is_used.ensures.1 used) ∙ c.if-is_used.false))
     (rw c.in-Ok-Made.field-0-is at c.in-Ok-Made.ensures.ok) c.in-Ok-make.ensures.ok refl
 
 pub returns-in-Err-make : goal.returns-in-Err-make

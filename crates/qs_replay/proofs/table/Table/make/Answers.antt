@@ -1,21 +1,39 @@
-use Rattle.std.proofs.Common.{◌++◌, ◌∷◌, [], ℕ, List, map, ◌∙◌, ap}
-use Rattle.std.proofs.lemmas.List.{map-append}
-use Rattle.indexmap.proofs.CallerLemmas.{insert_entry-new}
-use Rattle.qs_replay.specs.Tables.{Names, made_of, request_of}
-use Rattle.qs_replay.specs.declared.table.Made.{Made}
-use Rattle.qs_replay.proofs.Maps.{lacks}
-use Rattle.qs_replay.proofs.table.Table.make.Goals.{in-Ok, in-Err}
+-- The request is kept, or nothing is.
+use Rattle.std.proofs.Common.{sym, ap, ◌∙◌, subst}
+use Rattle.std.specs.FinSet as set
+use Rattle.qs_cookies.specs.Used.{by_session}
+use Rattle.qs_replay.specs.Tables.{AreUsed, Names, adds}
+use Rattle.qs_replay.proofs.Lives.{live_insert, live_none, live_same, used_more, used_same}
 use Rattle.qs_replay.proofs.table.Table.make.Goals as goal
 
-pub returns-clause-ok : goal.returns-clause-ok
-returns-clause-ok c = elim c.match-insert.branch [
-  | in-Ok w ↦ rw w.result-is (
-      let none = lacks c.self.inside.requests.entries c.args.made.session c.args.made.cookie
-      (ap (λ (t : Names). request_of t.requests c.args.made.session c.args.made.cookie) c.self.view_is ∙ c.requires.new) in
-      ap (λ (es : List ((ℕ × ℕ) × ℕ)). record { sessions = c.self.inside.sessions.items; requests = map made_of es })
-      (w.in-Ok.ensures.entries ∙ insert_entry-new _ c.self.inside.requests (c.args.made.session, c.args.made.cookie) c.args.made.number none)
-      ∙ ap (λ (ms : List Made). record { sessions = c.self.inside.sessions.items; requests = ms })
-      (map-append made_of c.self.inside.requests.entries (((c.args.made.session, c.args.made.cookie), c.args.made.number) ∷ []))
-      ∙ ap (λ (t : Names). record { sessions = t.sessions; requests = t.requests ++ c.args.made ∷ [] }) c.self.view_is)
-  | in-Err w ↦ rw w.result-is tt
-]
+pub invariant_of-self-in-Ok-insert : goal.invariant_of-self-in-Ok-insert
+invariant_of-self-in-Ok-insert c =
+    subst (λ (s : set.FinSet by_session). AreUsed s c.insert.new.self) (sym c.in-Ok-insert.ensures.ok)
+    (used_more c.self.inside.used c.self.inside.live c.insert.new.self (c.args.session, c.args.cookie) c.args.number c.self.invariant c.in-Ok.ensures.updates)
+
+pub invariant_of-self-in-Err-insert : goal.invariant_of-self-in-Err-insert
+invariant_of-self-in-Err-insert c =
+    subst (λ (s : set.FinSet by_session). AreUsed s c.remove.new.self) (sym c.in-Err-insert.ensures.err)
+    (used_same c.self.inside.used c.self.inside.live c.insert.new.self c.remove.new.self (c.args.session, c.args.cookie) c.args.number c.self.invariant
+    c.in-Ok.ensures.updates c.remove.ensures.updates)
+
+pub returns-in-Ok-insert-clause-ok : goal.returns-in-Ok-insert-clause-ok
+returns-in-Ok-insert-clause-ok c =
+    (λ i. record {
+      sessions = c.self.inside.sessions.items;
+      used = c.in-Ok-insert.ensures.ok i;
+      live = live_insert c.self.inside.live c.insert.new.self (c.args.session, c.args.cookie) c.args.number c.in-Ok.ensures.updates i;
+    })
+    ∙ ap (λ (t : Names). adds t c.args.session c.args.cookie c.args.number) c.self.view_is
+
+pub returns-in-Err-insert-clause-err : goal.returns-in-Err-insert-clause-err
+returns-in-Err-insert-clause-err c =
+    let none = live_none c.self.inside.used c.self.inside.live (c.args.session, c.args.cookie) c.self.invariant
+    (ap (λ (t : Names). set.contains t.used (c.args.session, c.args.cookie)) c.self.view_is ∙ c.requires.unused) in
+    (λ i. record {
+      sessions = c.self.inside.sessions.items;
+      used = c.in-Err-insert.ensures.err i;
+      live = live_same c.self.inside.live c.insert.new.self c.remove.new.self (c.args.session, c.args.cookie) c.args.number none
+          c.in-Ok.ensures.updates c.remove.ensures.updates i;
+    })
+    ∙ c.self.view_is
