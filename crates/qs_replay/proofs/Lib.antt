@@ -17,4 +17,5 @@ pub mod TwinFronts
 pub mod Functions
 pub mod Running
 pub mod Falling
+pub mod Known
 pub mod Lives

@@ -1,8 +1,9 @@
-ghost use Rattle.std.specs.Prelude.{◌≡◌, ◌↔◌, [], false, IsTrue, OnErr, OnOk, IfOk, MatchOption};
+ghost use Rattle.std.specs.Prelude.{◌≡◌, ◌↔◌, [], false, IsTrue, OnErr, OnOk, IfOk};
 ghost use Rattle.std.specs.FinMap as map;
 ghost use Rattle.std.specs.FinSet as set;
-ghost use Rattle.qs_replay.specs.Tables.{Gives, IsKnown, IsUsed, Lacks, adds, settled};
+ghost use Rattle.qs_replay.specs.Tables.{Gives, IsUsed, adds, settled};
 
+use indexmap::IndexSet;
 use qs_bytes::Memory;
 use qs_cookies::UsedCookies;
 use qs_part::event::Outcome;
@@ -15,7 +16,7 @@ use std::marker::Model;
 /// which names came.
 #[derive(Debug, Drop)]
 pub struct Table {
-    sessions: Vec<SessionName>,
+    sessions: IndexSet<SessionName>,
     used: UsedCookies,
     /// The number of each request that isn't answered yet, by its session's number and its cookie.
     live: BTreeMap<(u32, u64), u64>,
@@ -29,28 +30,9 @@ impl Model for Table {
 
     ghost coded = { coded_names };
 
-    ghost view = { λ t. record { sessions = t.sessions.items; used = t.used; live = from_entries t.live.entries } };
+    ghost view = { λ t. record { sessions = t.sessions.keys; used = t.used; live = from_entries t.live.entries } };
 
     ghost invariant = { λ t. AreUsed t.used t.live };
-}
-
-/// Whether two names are one.
-fn is_same(name: SessionName, other: SessionName) -> bool
-    ensures { IsTrue result ↔ (name ≡ other) }
-{
-    name.as_slice() == other.as_slice()
-}
-
-/// The place of a name among others.
-fn place_of(names: &[SessionName], name: SessionName) -> Option<usize>
-    ensures { MatchOption result (Lacks names.now name) (IsKnown names.now name) }
-{
-    for (i, known) in names.iter().enumerate() {
-        if is_same(*known, name) {
-            return Some(i);
-        }
-    }
-    None
 }
 
 impl Table {
@@ -59,7 +41,7 @@ impl Table {
         ensures { result ≡ record { sessions = []; used = set.empty; live = map.empty } }
     {
         Table {
-            sessions: Vec::new(alloc),
+            sessions: IndexSet::new(alloc),
             used: UsedCookies::new(alloc),
             live: BTreeMap::new(alloc),
         }
@@ -71,12 +53,12 @@ impl Table {
         ensures ok { IfOk result (λ n. Gives self.old name n self.new) }
         ensures err { OnErr result (self.new ≡ self.old) }
     {
-        if let Some(place) = place_of(self.sessions.as_slice(), name) {
+        if let Some(place) = self.sessions.get_index_of(&name) {
             return as_number(place);
         }
         let number = as_number(self.sessions.len())?;
-        match self.sessions.push(name) {
-            Ok(()) => Ok(number),
+        match self.sessions.insert(name) {
+            Ok(_) => Ok(number),
             Err(_) => Err(Memory),
         }
     }

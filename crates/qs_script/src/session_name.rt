@@ -9,7 +9,7 @@ const LONGEST: usize = 8;
 
 /// The name of a session in a script: one capital letter and up to 7 small letters or digits, seen as
 /// the list of its bytes.
-#[derive(Clone, Copy, Debug, PartialEq, Eq)]
+#[derive(Clone, Copy, Debug, PartialEq, Eq, Hash)]
 pub struct SessionName {
     bytes: [u8; LONGEST],
     len: usize,

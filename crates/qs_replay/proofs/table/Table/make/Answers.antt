@@ -20,7 +20,7 @@ invariant_of-self-in-Err-insert c =
 pub returns-in-Ok-insert-clause-ok : goal.returns-in-Ok-insert-clause-ok
 returns-in-Ok-insert-clause-ok c =
     (λ i. record {
-      sessions = c.self.inside.sessions.items;
+      sessions = c.self.inside.sessions.keys;
       used = c.in-Ok-insert.ensures.ok i;
       live = live_insert c.self.inside.live c.insert.new.self (c.args.session, c.args.cookie) c.args.number c.in-Ok.ensures.updates i;
     })
@@ -31,7 +31,7 @@ returns-in-Err-insert-clause-err c =
     let none = live_none c.self.inside.used c.self.inside.live (c.args.session, c.args.cookie) c.self.invariant
     (ap (λ (t : Names). set.contains t.used (c.args.session, c.args.cookie)) c.self.view_is ∙ c.requires.unused) in
     (λ i. record {
-      sessions = c.self.inside.sessions.items;
+      sessions = c.self.inside.sessions.keys;
       used = c.in-Err-insert.ensures.err i;
       live = live_same c.self.inside.live c.insert.new.self c.remove.new.self (c.args.session, c.args.cookie) c.args.number none
           c.in-Ok.ensures.updates c.remove.ensures.updates i;

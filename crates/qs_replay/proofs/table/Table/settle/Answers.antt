@@ -11,7 +11,7 @@ invariant_of-self c = used_less c.self.inside.used c.self.inside.live c.remove.n
 pub returns-in-Some-Answered : goal.returns-in-Some-Answered
 returns-in-Some-Answered c =
     (λ i. record {
-      sessions = c.self.inside.sessions.items;
+      sessions = c.self.inside.sessions.keys;
       used = c.self.inside.used;
       live = live_remove c.self.inside.live c.remove.new.self c.in-Some-Answered.key c.remove.ensures.updates i;
     })
