@@ -98,10 +98,7 @@ impl UsedCookies {
             return Ok(());
         };
         let last = end_behind(&self.runs, session, cookie);
-        match self.runs.insert((session, first), last) {
-            Ok(_) => {}
-            Err(_) => return Err(Memory),
-        }
+        self.runs.insert((session, first), last)?;
         if last > cookie {
             self.runs.remove(&(session, cookie + 1));
         }

@@ -1,5 +1,5 @@
 -- A session's name among those that came, looked for by a test that tells whether two names are one.
-use Rattle.std.proofs.Common.{◌≡◌, ◌∙◌, ℕ, ◌-◌, Bool, false, List, [], ◌∷◌, ◌++◌, length, nat_eq, Some, Ok, Err, inl, inr, sym, ap, refl, subst, true≢false}
+use Rattle.std.proofs.Common.{◌≡◌, ◌∙◌, ℕ, ◌-◌, Bool, false, List, [], ◌++◌, length, nat_eq, Some, Ok, Err, inl, sym, ap, refl, subst, true≢false}
 use Rattle.std.proofs.lemmas.Bool.Decides.{Decides-and, Decides-eqb, not_from_Decides}
 use Rattle.std.proofs.lemmas.List.Folds.{list_any_at}
 use Rattle.std.proofs.lemmas.List.Quantifiers.{position-Some}
@@ -43,8 +43,3 @@ pub gives_known : (t : Names) (name : List ℕ) (place : ℕ) → IsKnown t.sess
     (r : Result ℕ Memory) → IfOk r (λ n. n ≡ place) → IfOk r (λ n. Gives t name n t)
 gives_known t name place is (Ok n) e = inl (subst (IsKnown t.sessions name) (sym e) is, refl)
 gives_known t name place is (Err _) e = tt
-
--- a name that didn't come is put behind the others
-pub gives_new : (t : Names) (name : List ℕ) (n : ℕ) → Lacks t.sessions name → n ≡ length t.sessions →
-    (r : Result ℕ Memory) → r ≡ Ok n → IfOk r (λ k. Gives t name k (record t { sessions = t.sessions ++ name ∷ [] }))
-gives_new t name n lacks is r e = subst (λ q. IfOk q (λ k. Gives t name k (record t { sessions = t.sessions ++ name ∷ [] }))) (sym e) (inr (lacks, is, refl))

@@ -1,6 +1,7 @@
 -- What a line did, by the way that its function ended.
 use Rattle.std.proofs.Common.{◌≡◌, ◌⊎◌, ◌<◌, ℕ, zero, suc, arith, List, [], ◌∷◌, ◌++◌, refl, append-nil, sym, subst, inl, inr, ap, ◌∙◌}
-use Rattle.std.specs.Prelude.{All, Bool, Option, true, false}
+use Rattle.std.specs.Prelude.{All, Bool, Option, Result, Ok, Err, true, false}
+use Rattle.std.specs.Result.{IsErrAnd}
 use Rattle.std.proofs.lemmas.List.Elements.{All-append, All-cons, All-nil}
 use Rattle.qs_part.specs.declared.event.Actor.{Actor}
 use Rattle.qs_bytes.specs.declared.ask.Ask.{Ask}
@@ -18,7 +19,7 @@ use Rattle.qs_replay.specs.declared.stop.Stop.TheVariants as stop
 use Rattle.qs_replay.specs.declared.desk.Desk.{Desk}
 use Rattle.qs_replay.specs.Calls.{Call, Happened, Plays}
 use Rattle.qs_replay.specs.Tables.{Gives, IsKnown, IsUsed, Names, adds}
-use Rattle.qs_replay.specs.Effects.{GoesOn, IsActor, goes_on, AreFirst, IsAsked, IsEventOf, Played, Stopped, UsesAgain, write_ask}
+use Rattle.qs_replay.specs.Effects.{GoesOn, IsActor, goes_on, AreFirst, IsAsked, IsEventOf, Played, PlaysLine, Stopped, UsesAgain, write_ask}
 
 -- nothing happened, and nothing was printed
 pub stopped_none : {D : Type 0} (seen : D → Seen) (old : Desk D) (l : Line) (new : Desk D) → new.world ≡ old.world → new.out ≡ old.out →
@@ -40,6 +41,12 @@ pub stopped_cut : {D : Type 0} (seen : D → Seen) (old : Desk D) (l : Line) (ne
     IsEventOf old.table l lost made mid → AreFirst l made calls → Plays seen old.world calls new.world → new.out ≡ old.out →
     Stopped seen old l stop.Memory new
 stopped_cut seen old l new calls made mid lost is first plays out = (calls, (inr (made, mid, lost, (is, first)), plays, out))
+
+-- what a function that ends at a `?` answers
+pub stops : {D : Type 0} (seen : D → Seen) (old : Desk D) (l : Line) (lost : Bool) (s : Stop) (r : Result Unit Stop) (new : Desk D) →
+    IsErrAnd r (λ e. e ≡ s) → Stopped seen old l s new → PlaysLine seen old l lost r new
+stops seen old l lost s (Ok u) new is stopped = absurd is
+stops seen old l lost s (Err e) new is stopped = subst (λ (x : Stop). Stopped seen old l x new) (sym is) stopped
 
 -- a line that asks has this event
 pub asks_event : (t t' : Names) (l : Line) (lost : Bool) (n : ℕ) (session : List ℕ) (ask : Ask) (body : Option (List ℕ)) → IsAsked l lost session ask body →

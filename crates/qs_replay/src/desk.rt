@@ -88,10 +88,7 @@ pub fn run_out<D: Disk + Drop>(
     ensures next { OnErr result (IsNotNext world.old (AStep actor now) × (world.new ≡ world.old)) }
     ensures only { (result ≡ Err BadLine → ⊥) × (result ≡ Err NoMemory → ⊥) }
 {
-    let mut outcome = match happen(world, Event::Step { actor, now }) {
-        Ok(outcome) => outcome,
-        Err(stop) => return Err(stop),
-    };
+    let mut outcome = happen(world, Event::Step { actor, now })?;
     'steps: while outcome_goes_on(&outcome) {
         outcome = match happen(world, Event::Step { actor, now }) {
             Ok(next) => next,
@@ -209,25 +206,20 @@ pub fn actor_for(table: &mut Table, who: &ScriptActor) -> Result<Found, Stop>
     ensures form { result ≡ Err BadLine → ⊥ }
 {
     match who {
-        ScriptActor::Session(session) => match table.number(*session) {
-            Ok(number) => Ok(Found {
+        ScriptActor::Session(session) => {
+            let number = table.number(*session)?;
+            Ok(Found {
                 actor: Actor::Session(number),
                 key: None,
-            }),
-            Err(_) => Err(Stop::Memory),
-        },
+            })
+        }
         ScriptActor::Request(session, cookie) => {
-            let number = match table.number(*session) {
-                Ok(number) => number,
-                Err(_) => return Err(Stop::Memory),
-            };
-            match table.request(number, *cookie) {
-                Some(request) => Ok(Found {
-                    actor: Actor::Request(request),
-                    key: Some((number, *cookie)),
-                }),
-                None => Err(Stop::NotNext),
-            }
+            let number = table.number(*session)?;
+            let request = table.request(number, *cookie).ok_or(Stop::NotNext)?;
+            Ok(Found {
+                actor: Actor::Request(request),
+                key: Some((number, *cookie)),
+            })
         }
     }
 }

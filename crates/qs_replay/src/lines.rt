@@ -39,10 +39,7 @@ fn spill<O: Sink>(alloc: Global, out: &mut Bytes, output: &mut O) -> Result<(), 
     if out.len() < LARGE {
         return Ok(());
     }
-    match flush(alloc, out, output) {
-        Ok(()) => Ok(()),
-        Err(failed) => Err(failed),
-    }
+    flush(alloc, out, output)
 }
 
 /// The next line of the input, of which no byte was taken. All that waits to be written is written

@@ -14,10 +14,7 @@ pub fn flush<O: Sink>(alloc: Global, out: &mut Bytes, output: &mut O) -> Result<
 {
     let mut done = 0;
     while done < out.len() {
-        match output.write(&out.as_slice()[done..]) {
-            Ok(count) => done += count,
-            Err(failed) => return Err(failed),
-        }
+        done += output.write(&out.as_slice()[done..])?;
     }
     *out = Bytes::of(Vec::new(alloc));
     Ok(())

@@ -29,50 +29,31 @@ impl<D: Disk + Drop> Desk<D> {
     pub fn attach(&mut self, session: SessionName, export: Name) -> Result<(), Stop>
         ensures { PlaysLine D.seen self.old (line.Session session export) false result self.new }
     {
-        let number = match self.table.number(session) {
-            Ok(number) => number,
-            Err(_) => return Err(Stop::Memory),
-        };
+        let number = self.table.number(session)?;
         let event = Event::Attach {
             session: number,
             name: export,
         };
-        let outcome = match happen(&mut self.world, event) {
-            Ok(outcome) => outcome,
-            Err(stop) => return Err(stop),
-        };
-        match put_session(self.alloc, &mut self.out, session, news_of(&outcome)) {
-            Ok(()) => Ok(()),
-            Err(_) => Err(Stop::Memory),
-        }
+        let outcome = happen(&mut self.world, event)?;
+        put_session(self.alloc, &mut self.out, session, news_of(&outcome))?;
+        Ok(())
     }
 
     /// `end S`
     pub fn end(&mut self, session: SessionName) -> Result<(), Stop>
         ensures { PlaysLine D.seen self.old (line.End session) false result self.new }
     {
-        let number = match self.table.number(session) {
-            Ok(number) => number,
-            Err(_) => return Err(Stop::Memory),
-        };
-        match happen(&mut self.world, Event::Leave { session: number }) {
-            Ok(_) => {}
-            Err(stop) => return Err(stop),
-        }
-        match put_session(self.alloc, &mut self.out, session, SessionNews::Left) {
-            Ok(()) => Ok(()),
-            Err(_) => Err(Stop::Memory),
-        }
+        let number = self.table.number(session)?;
+        happen(&mut self.world, Event::Leave { session: number })?;
+        put_session(self.alloc, &mut self.out, session, SessionNews::Left)?;
+        Ok(())
     }
 
     /// A session asks for something, by a `read` or a `write`.
     fn ask(&mut self, session: SessionName, ask: Ask, body: Option<Bytes>) -> Result<(), Stop>
         ensures { (l : ALine) (lost : Bool) → IsAsked l lost session ask body → PlaysLine D.seen self.old l lost result self.new }
     {
-        let number = match self.table.number(session) {
-            Ok(number) => number,
-            Err(_) => return Err(Stop::Memory),
-        };
+        let number = self.table.number(session)?;
         if self.table.is_used(number, ask.cookie) {
             return Err(Stop::BadLine);
         }
@@ -81,15 +62,12 @@ impl<D: Disk + Drop> Desk<D> {
             ask,
             body,
         };
-        let request = match happen(&mut self.world, event) {
-            Ok(Outcome::Made(request)) => request,
-            Ok(_) => return Err(Stop::Memory),
-            Err(stop) => return Err(stop),
+        let request = match happen(&mut self.world, event)? {
+            Outcome::Made(request) => request,
+            _ => unreachable!(),
         };
-        match self.table.make(number, ask.cookie, request) {
-            Ok(()) => Ok(()),
-            Err(_) => Err(Stop::Memory),
-        }
+        self.table.make(number, ask.cookie, request)?;
+        Ok(())
     }
 
     /// `read S C OFFSET LENGTH`
@@ -140,26 +118,14 @@ impl<D: Disk + Drop> Desk<D> {
     pub fn step(&mut self, who: &ScriptActor, now: u64) -> Result<(), Stop>
         ensures { PlaysLine D.seen self.old (line.Step who.now now) false result self.new }
     {
-        let found = match actor_for(&mut self.table, who) {
-            Ok(found) => found,
-            Err(stop) => return Err(stop),
-        };
+        let found = actor_for(&mut self.table, who)?;
         let event = Event::Step {
             actor: found.actor,
             now,
         };
-        let outcome = match happen(&mut self.world, event) {
-            Ok(outcome) => outcome,
-            Err(stop) => return Err(stop),
-        };
-        let text = match step_lines(self.alloc, who, &outcome) {
-            Ok(text) => text,
-            Err(_) => return Err(Stop::Memory),
-        };
-        match self.out.append(text.as_slice()) {
-            Ok(()) => {}
-            Err(_) => return Err(Stop::Memory),
-        }
+        let outcome = happen(&mut self.world, event)?;
+        let text = step_lines(self.alloc, who, &outcome)?;
+        self.out.append(text.as_slice())?;
         self.table.settle(found.key, &outcome);
         Ok(())
     }
@@ -168,22 +134,10 @@ impl<D: Disk + Drop> Desk<D> {
     pub fn run(&mut self, who: &ScriptActor, now: u64) -> Result<(), Stop>
         ensures { PlaysLine D.seen self.old (line.Run who.now now) false result self.new }
     {
-        let found = match actor_for(&mut self.table, who) {
-            Ok(found) => found,
-            Err(stop) => return Err(stop),
-        };
-        let outcome = match run_out(&mut self.world, found.actor, now) {
-            Ok(outcome) => outcome,
-            Err(stop) => return Err(stop),
-        };
-        let text = match run_lines(self.alloc, who, &outcome) {
-            Ok(text) => text,
-            Err(_) => return Err(Stop::Memory),
-        };
-        match self.out.append(text.as_slice()) {
-            Ok(()) => {}
-            Err(_) => return Err(Stop::Memory),
-        }
+        let found = actor_for(&mut self.table, who)?;
+        let outcome = run_out(&mut self.world, found.actor, now)?;
+        let text = run_lines(self.alloc, who, &outcome)?;
+        self.out.append(text.as_slice())?;
         self.table.settle(found.key, &outcome);
         Ok(())
     }

@@ -35,10 +35,10 @@ fn open_core<D: Disk + Drop>(alloc: Global, disks: Vec<D>) -> Result<World<D>, (
         (λ back. ComesBack D.seen disks.items back.0.items back.1) }
 {
     let Some(file) = Name::of(b"file0") else {
-        return Err((disks, Status::Memory));
+        unreachable!();
     };
     let Some(export) = Name::of(b"disk") else {
-        return Err((disks, Status::Memory));
+        unreachable!();
     };
     let mut world = match World::new(alloc, disks, file, false) {
         Ok(world) => world,
@@ -101,9 +101,8 @@ pub fn run_replay<I: Source, O: Sink, D: RiggedDisk + Drop>(
     ensures read { result ≡ S.ReadFault → Rose (I.read_faults input.old) (I.read_faults input.new) }
     ensures write { result ≡ S.WriteFault → Rose (O.write_faults output.old) (O.write_faults output.new) }
 {
-    match replay_words(words) {
-        Some(_) => {}
-        None => return Status::Usage,
+    if replay_words(words).is_none() {
+        return Status::Usage;
     }
     replay_disks(alloc, input, output, disks)
 }

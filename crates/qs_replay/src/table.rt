@@ -57,10 +57,8 @@ impl Table {
             return as_number(place);
         }
         let number = as_number(self.sessions.len())?;
-        match self.sessions.insert(name) {
-            Ok(_) => Ok(number),
-            Err(_) => Err(Memory),
-        }
+        self.sessions.insert(name)?;
+        Ok(number)
     }
 
     /// Whether a session used a cookie.
@@ -83,10 +81,7 @@ impl Table {
         ensures ok { OnOk result (self.new ≡ adds self.old session cookie number) }
         ensures err { OnErr result (self.new ≡ self.old) }
     {
-        match self.live.insert((session, cookie), number) {
-            Ok(_) => {}
-            Err(_) => return Err(Memory),
-        }
+        self.live.insert((session, cookie), number)?;
         match self.used.insert(session, cookie) {
             Ok(()) => Ok(()),
             Err(_) => {

@@ -22,10 +22,7 @@ fn blocks_of(option: &String, value: &String) -> Option<u64>
     if option.as_str() != "--blocks" {
         return None;
     }
-    let blocks = match number(value.as_bytes(), 65_536) {
-        Some(blocks) => blocks,
-        None => return None,
-    };
+    let blocks = number(value.as_bytes(), 65_536)?;
     if blocks == 0 {
         return None;
     }
@@ -40,10 +37,7 @@ fn align_of(option: &String, value: &String) -> Option<u32>
     if option.as_str() != "--align" {
         return None;
     }
-    let align = match number(value.as_bytes(), 4096) {
-        Some(align) => align,
-        None => return None,
-    };
+    let align = number(value.as_bytes(), 4096)?;
     if is_align(align) {
         Some(align as u32)
     } else {
@@ -63,24 +57,18 @@ fn one_option(option: &String, value: &String) -> Option<ReplayWords>
     ensures some { IfSome result (λ told. Tells (option.now ∷ value.now ∷ []) told) }
     ensures none { IsNone result → (told : Told) → ¬ Tells (option.now ∷ value.now ∷ []) told }
 {
-    match blocks_of(option, value) {
-        Some(blocks) => {
-            return Some(ReplayWords {
-                blocks,
-                align: 512,
-                generate: None,
-            });
-        }
-        None => {}
-    }
-    match align_of(option, value) {
-        Some(align) => Some(ReplayWords {
-            blocks: 64,
-            align,
+    if let Some(blocks) = blocks_of(option, value) {
+        return Some(ReplayWords {
+            blocks,
+            align: 512,
             generate: None,
-        }),
-        None => None,
+        });
     }
+    Some(ReplayWords {
+        blocks: 64,
+        align: align_of(option, value)?,
+        generate: None,
+    })
 }
 
 /// What two options tell.
@@ -88,27 +76,18 @@ fn two_options(o: &String, v: &String, p: &String, w: &String) -> Option<ReplayW
     ensures some { IfSome result (λ told. Tells (o.now ∷ v.now ∷ p.now ∷ w.now ∷ []) told) }
     ensures none { IsNone result → (told : Told) → ¬ Tells (o.now ∷ v.now ∷ p.now ∷ w.now ∷ []) told }
 {
-    match blocks_of(o, v) {
-        Some(blocks) => match align_of(p, w) {
-            Some(align) => Some(ReplayWords {
-                blocks,
-                align,
-                generate: None,
-            }),
-            None => None,
-        },
-        None => match align_of(o, v) {
-            Some(align) => match blocks_of(p, w) {
-                Some(blocks) => Some(ReplayWords {
-                    blocks,
-                    align,
-                    generate: None,
-                }),
-                None => None,
-            },
-            None => None,
-        },
+    if let Some(blocks) = blocks_of(o, v) {
+        return Some(ReplayWords {
+            blocks,
+            align: align_of(p, w)?,
+            generate: None,
+        });
     }
+    Some(ReplayWords {
+        align: align_of(o, v)?,
+        blocks: blocks_of(p, w)?,
+        generate: None,
+    })
 }
 
 /// What the words behind the program's name tell; `None` exactly where they aren't

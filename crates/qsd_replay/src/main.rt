@@ -26,10 +26,7 @@ fn disks_of(alloc: Global, told: ReplayWords) -> Result<Vec<MemDisk>, Memory> {
     let length = told.blocks * u64::from(told.align);
     for stripe in 0..STRIPES {
         let disk = MemDisk::new(alloc, stripe, told.align, length, ROOM)?;
-        match disks.push(disk) {
-            Ok(()) => {}
-            Err(_) => return Err(Memory),
-        }
+        disks.push(disk)?;
     }
     Ok(disks)
 }

@@ -15,7 +15,7 @@ steps-preserved g c =
       (
         goes_more made c.steps.outcome c.steps.invariant.0 c.steps.invariant.1.0 on,
         plays_more g.D.Disk.seen c.args.world.now (c.steps.invariant.0 ++ Happened made c.steps.outcome ∷ []) c.steps.world
-            (Happened made c.in-Ok-happen.next ∷ []) c.happen-in-steps.new.world c.steps.invariant.1.1 c.in-Ok-happen.ensures.ok,
-        λ goes. (c.in-Ok-happen.ensures.on goes).1,
+            (Happened made c.in-Ok.next ∷ []) c.happen-in-steps.new.world c.steps.invariant.1.1 c.in-Ok.ensures.ok,
+        λ goes. (c.in-Ok.ensures.on goes).1,
       ),
     )

@@ -9,9 +9,9 @@ loop-done-init g c = record { gives = gives_none _ c.args.out.now; inside = omeg
 
 pub loop-done-preserved : goal.loop-done-preserved
 loop-done-preserved g c =
-    let few = rw (take_rest c.args.out.now c.loop-done.done) at (rw c.as_slice.ensures at c.in-Ok.ensures.bound) in
+    let few = rw (take_rest c.args.out.now c.loop-done.done) at (rw c.as_slice.ensures at c.in_ok-done.ensures.bound) in
     record {
-      gives = gives_write _ _ _ c.args.out.now c.loop-done.done c.in-Ok.count c.loop-done.invariant.gives (rw c.as_slice.ensures at c.in-Ok.ensures.bytes);
+      gives = gives_write _ _ _ c.args.out.now c.loop-done.done c.in_ok-done.field-0 c.loop-done.invariant.gives (rw c.as_slice.ensures at c.in_ok-done.ensures.bytes);
       inside = omega (arith, few, length-drop c.loop-done.done c.args.out.now, c.loop-done.invariant.inside);
-      later = omega (arith, c.in-Ok.ensures.cause.later, c.loop-done.invariant.later);
+      later = omega (arith, c.in_ok-done.ensures.cause.later, c.loop-done.invariant.later);
     }

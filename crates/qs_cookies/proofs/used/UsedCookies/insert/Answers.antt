@@ -19,14 +19,14 @@ alone : (c : goal.Else-last-cookie) → Joins c.self.inside.runs c.insert.new.se
 alone c =
     joins_alone c.self.inside.runs c.insert.new.self c.args.session c.args.cookie c.in-Some.first c.end_behind-last.result c.self.invariant c.in-Some.ensures.found
     (alone_of c.self.inside.runs c.args.session c.args.cookie _ c.self.invariant c.end_behind-last.ensures c.if-last-cookie.false)
-    (sets_of c.self.inside.runs c.insert.new.self (c.args.session, c.in-Some.first) (Some c.end_behind-last.result) c.in-Ok.ensures.updates)
+    (sets_of c.self.inside.runs c.insert.new.self (c.args.session, c.in-Some.first) (Some c.end_behind-last.result) c.in_ok-insert.ensures.updates)
 
 -- the run behind the cookie became part of its run
 both : (c : goal.After-remove) → Joins c.self.inside.runs c.remove.new.self c.args.session c.args.cookie c.in-Some.first c.end_behind-last.result
 both c =
     joins_both c.self.inside.runs c.insert.new.self c.remove.new.self c.args.session c.args.cookie c.in-Some.first c.end_behind-last.result c.self.invariant c.in-Some.ensures.found
     (behind_of c.self.inside.runs c.args.session c.args.cookie _ c.end_behind-last.ensures c.if-last-cookie.true) c.if-last-cookie.true
-    (sets_of c.self.inside.runs c.insert.new.self (c.args.session, c.in-Some.first) (Some c.end_behind-last.result) c.in-Ok.ensures.updates)
+    (sets_of c.self.inside.runs c.insert.new.self (c.args.session, c.in-Some.first) (Some c.end_behind-last.result) c.in_ok-insert.ensures.updates)
     (sets_of c.insert.new.self c.remove.new.self (c.args.session, c.args.cookie + 1) None c.remove.ensures.updates)
 
 pub returns-in_default-clause-ok : goal.returns-in_default-clause-ok
