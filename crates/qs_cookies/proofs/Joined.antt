@@ -190,9 +190,6 @@ module _ {old new : Runs} {n c first last : ℕ} (j : Joins old new n c first la
     | inr other ↦ (a, e, (j.kept m a e run (λ both. other both.0) (λ both. other both.0), low, high))
   ]
     where
-      first_end : (p : ℕ) → IsRun old n first e → IsRun old n first p → e ≡ p
-      first_end p one two = one_end e p (sym one ∙ two)
-
       at_first : m ≡ n → a ≡ first → IsInRun new m x
       at_first is start =
           let here = subst (λ (k : ℕ). IsRun old n k e) start (subst (λ (k : ℕ). IsRun old k a e) is run) in
