@@ -1,6 +1,6 @@
 ghost use Rattle.std.specs.Prelude.{◌≡◌, find};
 ghost use Rattle.std.specs.Result.{result_err};
-ghost use Rattle.qs_part.specs.Limits.{limit_of, is_set, passes_greatest, has_part, breaks, first_broken};
+ghost use Rattle.qs_part.specs.Limits.{limit_of, is_set, passes_greatest, passes_greatest_burst, has_part, breaks, first_broken};
 
 /// The greatest value that a limit may have.
 pub const GREATEST: u64 = 1_000_000_000_000_000;
@@ -53,13 +53,15 @@ pub enum Rule {
     MaxWithoutAvg(Dim),
     /// A `max` isn't below the `avg`.
     MaxBelowAvg(Dim),
-    /// Burst lengths above one second are for later.
-    Later(Dim),
-    /// Sizes of operations are for later.
-    SizeLater,
+    /// A burst lasts at least a second.
+    BurstZero(Dim),
+    /// A burst of more than a second has a `max`.
+    BurstWithoutMax(Dim),
+    /// What a burst admits, `max` times `burst_length`, doesn't pass [`GREATEST`].
+    BurstTooGreat(Dim),
 }
 
-const RULES: [Rule; 31] = [
+const RULES: [Rule; 42] = [
     Rule::TooGreat(Dim::BpsTotal),
     Rule::TooGreat(Dim::BpsRead),
     Rule::TooGreat(Dim::BpsWrite),
@@ -84,13 +86,24 @@ const RULES: [Rule; 31] = [
     Rule::MaxBelowAvg(Dim::IopsTotal),
     Rule::MaxBelowAvg(Dim::IopsRead),
     Rule::MaxBelowAvg(Dim::IopsWrite),
-    Rule::Later(Dim::BpsTotal),
-    Rule::Later(Dim::BpsRead),
-    Rule::Later(Dim::BpsWrite),
-    Rule::Later(Dim::IopsTotal),
-    Rule::Later(Dim::IopsRead),
-    Rule::Later(Dim::IopsWrite),
-    Rule::SizeLater,
+    Rule::BurstZero(Dim::BpsTotal),
+    Rule::BurstZero(Dim::BpsRead),
+    Rule::BurstZero(Dim::BpsWrite),
+    Rule::BurstZero(Dim::IopsTotal),
+    Rule::BurstZero(Dim::IopsRead),
+    Rule::BurstZero(Dim::IopsWrite),
+    Rule::BurstWithoutMax(Dim::BpsTotal),
+    Rule::BurstWithoutMax(Dim::BpsRead),
+    Rule::BurstWithoutMax(Dim::BpsWrite),
+    Rule::BurstWithoutMax(Dim::IopsTotal),
+    Rule::BurstWithoutMax(Dim::IopsRead),
+    Rule::BurstWithoutMax(Dim::IopsWrite),
+    Rule::BurstTooGreat(Dim::BpsTotal),
+    Rule::BurstTooGreat(Dim::BpsRead),
+    Rule::BurstTooGreat(Dim::BpsWrite),
+    Rule::BurstTooGreat(Dim::IopsTotal),
+    Rule::BurstTooGreat(Dim::IopsRead),
+    Rule::BurstTooGreat(Dim::IopsWrite),
 ];
 
 impl Limit {
@@ -112,6 +125,12 @@ impl Limit {
         ensures { result ≡ passes_greatest self.now }
     {
         self.avg > GREATEST || self.max > GREATEST || self.burst_length > GREATEST
+    }
+
+    fn has_too_great_a_burst(&self) -> bool
+        ensures { result ≡ passes_greatest_burst self.now }
+    {
+        self.max != 0 && u128::from(self.max) * u128::from(self.burst_length) > u128::from(GREATEST)
     }
 }
 
@@ -161,8 +180,11 @@ impl Limits {
             Rule::MaxBelowAvg(dim) => {
                 self.limit(dim).max != 0 && self.limit(dim).max < self.limit(dim).avg
             }
-            Rule::Later(dim) => self.limit(dim).burst_length != 1,
-            Rule::SizeLater => self.iops_size != 0,
+            Rule::BurstZero(dim) => self.limit(dim).burst_length == 0,
+            Rule::BurstWithoutMax(dim) => {
+                self.limit(dim).burst_length > 1 && self.limit(dim).max == 0
+            }
+            Rule::BurstTooGreat(dim) => self.limit(dim).has_too_great_a_burst(),
         }
     }
 
@@ -248,17 +270,35 @@ mod tests {
             (
                 Limits {
                     bps_write: limit(0, 0, 0),
-                    iops_size: 1,
+                    iops_total: limit(1, 0, 2),
                     ..none
                 },
-                Err(Rule::Later(Dim::BpsWrite)),
+                Err(Rule::BurstZero(Dim::BpsWrite)),
             ),
             (
                 Limits {
-                    iops_size: 1,
+                    bps_total: limit(GREATEST, GREATEST, 2),
+                    iops_total: limit(1, 0, 2),
                     ..none
                 },
-                Err(Rule::SizeLater),
+                Err(Rule::BurstWithoutMax(Dim::IopsTotal)),
+            ),
+            (
+                Limits {
+                    iops_read: limit(1, GREATEST / 2, 2),
+                    iops_write: limit(1, 333_333_333_333_334, 3),
+                    ..none
+                },
+                Err(Rule::BurstTooGreat(Dim::IopsWrite)),
+            ),
+            (
+                Limits {
+                    bps_total: limit(1000, 2000, 3),
+                    iops_read: limit(1, 1, GREATEST),
+                    iops_size: u64::MAX,
+                    ..none
+                },
+                Ok(()),
             ),
         ];
         for (limits, answer) in rows.iter() {
