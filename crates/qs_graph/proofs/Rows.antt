@@ -1,5 +1,5 @@
 -- What the table's rows say of each place, for the crate above.
-use Rattle.std.proofs.Common.{◌≡◌, ◌≢◌, ℕ, ◌<◌, ◌≤◌, List, [], ◌∷◌, length, Bool, true, false, refl, sym, ◌∙◌, ap, subst, arith, inl, inr, ◌⊎◌}
+use Rattle.std.proofs.Common.{◌≡◌, ◌≢◌, ℕ, ◌+◌, ◌-◌, ◌<◌, ◌≤◌, List, [], ◌∷◌, length, Bool, true, false, refl, sym, ◌∙◌, ap, subst, arith, inl, inr, ◌⊎◌}
 use Rattle.std.specs.Prelude.{nat_lt, Option, Some, None, position, ◌||◌, cond}
 use Rattle.std.specs.List.{position_or_len}
 use Rattle.std.specs.Str.{bytes_eq}
@@ -8,14 +8,15 @@ use Rattle.std.proofs.lemmas.List.{get_or-set_same, get_or-set_other, get_or_pas
 use Rattle.std.proofs.lemmas.List.Quantifiers.{position-Some}
 use Rattle.std.proofs.lemmas.List.Sums.{fails_before_first}
 use Rattle.std.proofs.lemmas.Slice.Eq.{bytes_eq-Decides}
+use Rattle.qs_part.specs.declared.graph.ExportInfo.{ExportInfo}
 use Rattle.qs_part.specs.declared.graph.GraphOp.{GraphOp}
-use Rattle.qs_part.specs.declared.graph.GraphOp.TheVariants.{ExportAdd, Attach, Detach}
+use Rattle.qs_part.specs.declared.graph.GraphOp.TheVariants.{ExportAdd, Find, Attach, Detach, Route}
 use Rattle.qs_part.specs.declared.graph.GraphReply.{GraphReply}
 use Rattle.qs_part.specs.declared.graph.GraphReply.TheVariants.{Added, Attached, Detached}
 use Rattle.qs_graph.specs.declared.export.Export.{Export}
-use Rattle.qs_graph.specs.Exports.{clients_of, export_at, found_at, has_alike, has_name, is_standing, is_vacant}
-use Rattle.qs_graph.specs.Table.{GraphValue, IsShared, after, placed}
-use Rattle.qs_graph.proofs.Standing.{none_not, same_export}
+use Rattle.qs_graph.specs.Exports.{clients_of, counted, export_at, found_at, has_alike, has_name, is_standing, is_vacant, made}
+use Rattle.qs_graph.specs.Table.{GraphValue, IsShared, May, after, placed}
+use Rattle.qs_graph.proofs.Standing.{at_set, none_not, same_export}
 
 -- a test that passes nowhere fails at each place
 pub fails_at : (p : Option Export → Bool) (places : List (Option Export)) → p None ≡ false → position p places ≡ None →
@@ -147,3 +148,47 @@ after_length v (ExportAdd id name node writable share) (Added e) = length-set v.
 after_length v (Attach name) (Attached info) = length-set v.places info.e _
 after_length v (Detach e) Detached = length-set v.places e _
 after_length v _ _ = refl
+
+-- an export that stands has a place in the list
+pub stands_inside : (places : List (Option Export)) (e : ℕ) (x : Export) → export_at places e ≡ Some x → e < length places
+stands_inside places e x at = go (nat_lt e (length places)) refl
+  where
+    go : (b : Bool) → nat_lt e (length places) ≡ b → e < length places
+    go true f = grind (arith, nat_tests)
+    go false f = absurd (none_not x (sym (get_or_past places e None (grind (arith, nat_tests))) ∙ at))
+
+-- a place whose export is given another number of clients has that many
+pub counted_here : (v : GraphValue) (e n : ℕ) → e < length v.places → (x : Export) → export_at v.places e ≡ Some x →
+    clients_of (export_at (placed v e (counted (export_at v.places e) n)).places e) ≡ n
+counted_here v e n inside x at = ap clients_of (placed_here v e _ inside) ∙ ap (λ (p : Option Export). clients_of (counted p n)) at
+
+-- how many clients the export at a place has, after a client more, a client less, and a new export
+pub attach_here : (v : GraphValue) (name : List ℕ) (info : ExportInfo) → found_at v.places name ≡ Some info.e →
+    clients_of (export_at (after v (Attach name) (Attached info)).places info.e) ≡ clients_of (export_at v.places info.e) + 1
+attach_here v name info is = counted_here v info.e _ (stands_inside v.places info.e m.export m.stands) m.export m.stands
+  where
+    m : Means v.places name info.e
+    m = found_means v.places name info.e is
+
+pub attach_other : (v : GraphValue) (name : List ℕ) (info : ExportInfo) (d : ℕ) → d ≢ info.e →
+    clients_of (export_at (after v (Attach name) (Attached info)).places d) ≡ clients_of (export_at v.places d)
+attach_other v name info d apart = ap clients_of (placed_other v info.e _ d apart)
+
+pub detach_here : (v : GraphValue) (e : ℕ) → 0 < clients_of (export_at v.places e) →
+    clients_of (export_at (after v (Detach e) Detached).places e) ≡ clients_of (export_at v.places e) - 1
+detach_here v e some =
+    let (x, stands) = counted_stands v.places e some in counted_here v e _ (stands_inside v.places e x stands) x stands
+
+pub detach_other : (v : GraphValue) (e d : ℕ) → d ≢ e →
+    clients_of (export_at (after v (Detach e) Detached).places d) ≡ clients_of (export_at v.places d)
+detach_other v e d apart = ap clients_of (placed_other v e _ d apart)
+
+pub added_counts : (v : GraphValue) (op : GraphOp) (e d : ℕ) → May v op (Added e) →
+    clients_of (export_at (after v op (Added e)).places d) ≡ clients_of (export_at v.places d)
+added_counts v (ExportAdd id name node writable share) e d may =
+    at_set (λ (p : Option Export). clients_of p ≡ clients_of (export_at v.places d)) v.places e _ d refl
+    (λ same. sym (ap clients_of (ap (export_at v.places) same ∙ (shared_fresh v (made id name writable share) node e may.0 may.1).free)))
+added_counts v (Find name) e d may = absurd may
+added_counts v (Attach name) e d may = absurd may
+added_counts v (Detach k) e d may = absurd may
+added_counts v (Route k) e d may = absurd may

@@ -25,7 +25,7 @@ next_step A w (Detached s e) r h = h
 next_step A w (NotAttached s e) r h = h
 next_step A w (Asked s c) r h = omega arith
 next_step A w (Did s q act) r h = h
-next_step A w (Exported e x) r h = h
+next_step A w (Exported op e) r h = h
 next_step A w (Planned j fail) r h = h
 next_step A w (Crashed left) r h = h
 
@@ -39,7 +39,7 @@ lasts_step A P lasts w (NotAttached s e) r may made h = h
 lasts_step A P lasts w (Asked s c) r may made h = put_cases P w.req s _ r (λ e. let n : s ≡ w.next = may.next in absurd (omega arith)) (λ n. h)
 lasts_step A P lasts w (Did s q act) r may made h =
     put_cases P w.req s _ r (λ e. lasts.own q.client q.dropped q.pads act (subst P (ap w.req e ∙ may.0) h)) (λ n. h)
-lasts_step A P lasts w (Exported e x) r may made h = h
+lasts_step A P lasts w (Exported op e) r may made h = h
 lasts_step A P lasts w (Planned j fail) r may made h = h
 lasts_step A P lasts w (Crashed left) r may made h = lasts.gone
 
@@ -87,8 +87,8 @@ entry_late A c (Waits wait) b is = absurd (some_none (sym is))
 entry_late A c (Enters k) b is = absurd (some_none (sym is))
 entry_late A c (Routes route) b is = absurd (some_none (sym is))
 entry_late A c Shuts b is = absurd (some_none (sym is))
-entry_late A c (Lists numbered) b is = absurd (some_none (sym is))
-entry_late A c (Starts l) b is = absurd (some_none (sym is))
+entry_late A c (Lists n) b is = absurd (some_none (sym is))
+entry_late A c Starts b is = absurd (some_none (sym is))
 entry_late A c Ends b is = absurd (some_none (sym is))
 
 pub held_late : (A : ℕ) (c : Client) (k : ℕ) (side : Side) → IsLate (In k (held A c side))
@@ -119,8 +119,8 @@ late_moves A c d p (Waits wait) late = (refl, late)
 late_moves A c d p (Enters k) late = absurd late
 late_moves A c d p (Routes route) late = absurd late
 late_moves A c d p Shuts late = absurd late
-late_moves A c d p (Lists numbered) late = absurd late
-late_moves A c d p (Starts l) late = absurd late
+late_moves A c d p (Lists n) late = absurd late
+late_moves A c d p Starts late = absurd late
 late_moves A c d p (Loads {k = k} {b = b} {got = got} bytes) late = (refl, loaded_late A c k b got bytes)
 late_moves A c d p LoadFails late = (refl, tt)
 late_moves A c d p (Holds {k = k} {side = side} bytes) late = (refl, held_late A c k side)
@@ -172,8 +172,8 @@ over_moves A c d p (Waits wait) last = last
 over_moves A c d p (Enters k) last = absurd last
 over_moves A c d p (Routes route) last = absurd last
 over_moves A c d p Shuts last = absurd last
-over_moves A c d p (Lists numbered) last = absurd last
-over_moves A c d p (Starts l) last = absurd last
+over_moves A c d p (Lists n) last = absurd last
+over_moves A c d p Starts last = absurd last
 over_moves A c d p (Loads bytes) last = absurd last
 over_moves A c d p LoadFails last = absurd last
 over_moves A c d p (Holds bytes) last = absurd last

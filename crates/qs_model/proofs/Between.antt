@@ -3,18 +3,22 @@ use Rattle.std.proofs.Common.{◌≡◌, ◌≢◌, ℕ, ◌<◌, ◌≤◌, ◌
 use Rattle.qs_bytes.specs.declared.ask.Verdict.{Verdict}
 use Rattle.qs_part.specs.declared.graph.Route.{Route}
 use Rattle.qs_model.specs.Requests.{Step, Client, Pads, Req, Stage, ToRoute, ToList, ToStart, ToLoad, ToHold, ToStore, ToFree, ToEnd, Ready, Entering, In, asked, form_error, abandoned}
-use Rattle.qs_model.specs.Worlds.{Tracker, World, Seat, Vacant, Present, Has}
+use Rattle.qs_tracker.specs.declared.seat.Seat.{Seat}
+use Rattle.qs_tracker.specs.declared.seat.Seat.TheVariants.{Vacant, Present, Has}
+use Rattle.qs_tracker.specs.Seats.{seat_at}
+use Rattle.qs_tracker.specs.Table.{TrackerValue}
+use Rattle.qs_tracker.proofs.Sound.{Sound as TrackerSound, goes_apart, lowest_starts}
+use Rattle.qs_model.specs.Worlds.{World}
 use Rattle.qs_model.specs.Acts.{Act, Answers, Waits, Enters, Routes, Shuts, Lists, Starts, Loads, LoadFails, Holds, HoldFails, Stores, StoreFails, Frees, Ends, Element, Attached, NoExport, Crowded, Left, Detached, NotAttached, Asked, Did, Exported, Planned, Crashed}
 use Rattle.qs_model.specs.Guards.{May}
 use Rattle.qs_model.specs.Steps.{moved, leaves, happens, after, Runs}
 use Rattle.qs_model.specs.Histories.{answer_of, Acts, IsAnswer, IsAsk, IsStore, IsStoreRow, IsRouted, IsRouteRow}
 use Rattle.qs_model.specs.Laws.{Between, WasAsked, Unanswered, Writable, WasRouted, Ordered, Tracked, InFlight, Placed, InPlace}
 use Rattle.qs_model.proofs.Basics.{choose, put_here, put_tells}
-use Rattle.qs_model.proofs.Facts.{Shaped, InOrder, Ok, IsAt, Manned}
+use Rattle.qs_model.proofs.Facts.{Shaped, Ok, IsAt, Manned}
 use Rattle.qs_model.proofs.Machine.{ForMoved}
 use Rattle.qs_model.proofs.Holders.{some_none}
 use Rattle.qs_model.proofs.Kept.{step_ok, run_ok, for_moved, leaves_tells, split_run, front_run, seated_taken}
-use Rattle.qs_model.proofs.Working.{started_apart}
 use Rattle.qs_model.proofs.Along.{gone_lasts, lasts_run, next_step, next_run}
 
 -- only an Ask makes a request
@@ -28,7 +32,7 @@ appears A w (NotAttached s e) r q may none is = absurd (some_none (sym is ∙ no
 appears A w (Asked s c) r q may none is = elim (put_tells w.req s _ r (Some q) is) [ inl e ↦ sym e.0 | inr e ↦ absurd (some_none (sym e.1 ∙ none)) ]
 appears A w (Did s p act) r q may none is =
     elim (put_tells w.req s _ r (Some q) is) [ inl e ↦ absurd (some_none (sym (ap w.req e.0 ∙ may.0) ∙ none)) | inr e ↦ absurd (some_none (sym e.1 ∙ none)) ]
-appears A w (Exported e x) r q may none is = absurd (some_none (sym is ∙ none))
+appears A w (Exported op e) r q may none is = absurd (some_none (sym is ∙ none))
 appears A w (Planned j fail) r q may none is = absurd (some_none (sym is ∙ none))
 appears A w (Crashed left) r q may none is = absurd (some_none (sym is))
 
@@ -105,8 +109,8 @@ back_route A c d p (Waits wait) = λ going. inl (going, refl)
 back_route A c d p (Enters k) = λ going. absurd going
 back_route A c d p (Routes route) = λ going. inr refl
 back_route A c d p Shuts = λ going. absurd going
-back_route A c d p (Lists numbered) = λ going. inl (tt, refl)
-back_route A c d p (Starts l) = λ going. inl (tt, refl)
+back_route A c d p (Lists n) = λ going. inl (tt, refl)
+back_route A c d p Starts = λ going. inl (tt, refl)
 back_route A c d p (Loads bytes) = λ going. inl (tt, refl)
 back_route A c d p LoadFails = λ going. absurd going
 back_route A c d p (Holds bytes) = λ going. inl (tt, refl)
@@ -172,7 +176,7 @@ goer_before A w (Did s q act) r route may g = elim (put_tells w.req s _ r (Some 
       ]
   | inr e ↦ inl (record { request = g.request; is = e.1; going = g.going; way = g.way })
 ]
-goer_before A w (Exported e x) r route may g = inl (record { request = g.request; is = g.is; going = g.going; way = g.way })
+goer_before A w (Exported op e) r route may g = inl (record { request = g.request; is = g.is; going = g.going; way = g.way })
 goer_before A w (Planned j fail) r route may g = inl (record { request = g.request; is = g.is; going = g.going; way = g.way })
 goer_before A w (Crashed left) r route may g = absurd (some_none (sym g.is))
 
@@ -205,10 +209,10 @@ writable A w es pos ok none run r c before e at store =
     (may_write, elim (was_routed A w before r c.route front goer) [ inl g ↦ absurd (some_none (sym g.is ∙ none r)) | inr h ↦ h ])
 
 -- the listed spans
-pub ordered : (t : Tracker) → InOrder t → Ordered t
-ordered t order = record {
-  apart = λ j k l m a b s u conflict. started_apart t j k l m order a b s u conflict;
-  lowest = λ k l is low. record { listed = is; clear = λ j m there less conflict. let le : l.number ≤ m.number = low j m there in omega arith };
+pub ordered : (t : TrackerValue) → TrackerSound t → Ordered t
+ordered t sound = record {
+  apart = λ j k l m a b conflict. goes_apart t j k l m sound a b conflict;
+  lowest = λ k l low. lowest_starts t k l low;
 }
 
 pub tracked : (A : ℕ) (w : World) (es : List Element) → 0 < A → Ok A w → Runs A w es → Tracked A w es
@@ -233,13 +237,13 @@ placed A w ok = record {
   taken = taken;
   one = λ r s k f g. ok.one r s f.request g.request k f.is g.is (flight_at w r k f) (flight_at w s k g);
   manned = manned;
-  drained = (λ vacant r k f. taken r k f (vacant k), λ drained k. vacant_or (w.tracker.seat k) (λ full. let (r, f) = manned k full in drained r k f));
+  drained = (λ vacant r k f. taken r k f (vacant k), λ drained k. vacant_or (seat_at w.tracker.seats k) (λ full. let (r, f) = manned k full in drained r k f));
 }
   where
-    taken : (r k : ℕ) → InFlight w r k → w.tracker.seat k ≢ Vacant
+    taken : (r k : ℕ) → InFlight w r k → seat_at w.tracker.seats k ≢ Vacant
     taken r k f = seated_taken A w.tracker f.request.client f.request.stage k (ok.well r f.request f.is).seated (flight_at w r k f)
 
-    manned : (k : ℕ) → w.tracker.seat k ≢ Vacant → (r : ℕ) × InFlight w r k
+    manned : (k : ℕ) → seat_at w.tracker.seats k ≢ Vacant → (r : ℕ) × InFlight w r k
     manned k full =
         let o : Manned w.req k = ok.manned k full in
         let (step, is) = at_stage o.request.stage k o.at in

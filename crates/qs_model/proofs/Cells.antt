@@ -12,7 +12,7 @@ use Rattle.qs_model.specs.Acts.{Act, Loads, Stores, StoreFails, Element, Attache
 use Rattle.qs_model.specs.Guards.{MayDo, May, CanStore}
 use Rattle.qs_model.specs.Steps.{imaged, happens, after, Runs}
 use Rattle.qs_model.specs.Histories.{cell_of, cell_at, cell, reads_in, writes_in, IsStoreOf}
-use Rattle.qs_model.specs.Laws.{Cells, Alters}
+use Rattle.qs_model.specs.Laws.{Alters, Covered, Histories}
 use Rattle.qs_model.proofs.Basics.{choose, put_here, put_other, same_or, block_at, block_low, block_high}
 use Rattle.qs_model.proofs.Geometry.{outside, same_eqb}
 use Rattle.qs_model.proofs.Facts.{Shaped, Storing, Keeps, Ok}
@@ -149,7 +149,7 @@ still_tells A w (Detached s e) = refl
 still_tells A w (NotAttached s e) = refl
 still_tells A w (Asked r c) = refl
 still_tells A w (Did r q act) = refl
-still_tells A w (Exported e x) = refl
+still_tells A w (Exported op e) = refl
 still_tells A w (Planned j fail) = refl
 still_tells A w (Crashed left) = refl
 
@@ -185,10 +185,12 @@ step_still A x v (Did r q act) none = row_still A x r v q.client act none
 step_still A x v (Crashed left) none = absurd (none tt)
 step_still A x v _ none = refl
 
--- the law
-pub cells : (A : ℕ) (w : World) (es : List Element) → 0 < A → IsTrue w.tells → Ok A w → Runs A w es → Cells A w es
-cells A w es pos told ok run = record {
-  legal = λ x. (run_leads A x w es pos told ok run).legal;
+-- the laws
+pub histories : (A : ℕ) (w : World) (es : List Element) → 0 < A → IsTrue w.tells → Ok A w → Runs A w es → Histories A w es
+histories A w es pos told ok run x = (run_leads A x w es pos told ok run).legal
+
+pub covered : (A : ℕ) (w : World) (es : List Element) → 0 < A → IsTrue w.tells → Ok A w → Runs A w es → Covered A w es
+covered A w es pos told ok run = record {
   now = λ x before at. (run_leads A x w before pos told ok (front_run A w es before run at)).leaves;
   still = λ x before e at none.
       let (front, may) = split_run A w es before e run at in

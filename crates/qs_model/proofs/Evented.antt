@@ -36,8 +36,8 @@ act_outcome A w c d p (Waits {stage = stage} wait) may = wait_outcome A w c stag
 act_outcome A w c d p (Enters k) may = (_, refl)
 act_outcome A w c d p (Routes route) may = (_, refl)
 act_outcome A w c d p Shuts may = (_, refl)
-act_outcome A w c d p (Lists numbered) may = (_, refl)
-act_outcome A w c d p (Starts l) may = (_, refl)
+act_outcome A w c d p (Lists n) may = (_, refl)
+act_outcome A w c d p Starts may = (_, refl)
 act_outcome A w c d p (Loads bytes) may = (_, refl)
 act_outcome A w c d p LoadFails may = (_, refl)
 act_outcome A w c d p (Holds bytes) may = (_, refl)
@@ -81,7 +81,7 @@ step_evented A w (Asked r c) may = let (body, brings) = asked_brings w r c may i
 step_evented A w (Did r q act) may =
     let (out, is) = act_outcome A w q.client q.dropped q.pads act may.1 in
     inr (StepEvent (ARequest r) 0, out, (refl, is))
-step_evented A w (Exported e x) may = inl tt
+step_evented A w (Exported op e) may = inl tt
 step_evented A w (Planned j fail) may = inl tt
 step_evented A w (Crashed left) may = inl tt
 

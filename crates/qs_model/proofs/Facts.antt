@@ -6,7 +6,13 @@ use Rattle.qs_bytes.specs.declared.ask.Verdict.TheVariants.{Got, Fine, Refused, 
 use Rattle.qs_part.specs.declared.stripe.Side.{Side}
 use Rattle.qs_part.specs.declared.stripe.Side.TheVariants.{Head, Tail}
 use Rattle.qs_model.specs.Requests.{Client, Pads, Req, Step, Stage, ToRoute, ToList, ToStart, ToLoad, ToHold, ToStore, ToFree, ToEnd, Ready, Entering, In, edge, has, span_of, serial, reads, writes, pad}
-use Rattle.qs_model.specs.Worlds.{Tracker, Listing, Vacant, Present, Has, Conflict, Hold, Image, Session, Away, Live, Leaving, World}
+use Rattle.qs_graph.specs.Exports.{clients_of, export_at}
+use Rattle.qs_tracker.specs.declared.seat.Listing.{Listing}
+use Rattle.qs_tracker.specs.declared.seat.Seat.TheVariants.{Vacant, Present, Has}
+use Rattle.qs_tracker.specs.Seats.{seat_at}
+use Rattle.qs_tracker.specs.Table.{TrackerValue}
+use Rattle.qs_tracker.proofs.Sound.{Sound as TrackerSound}
+use Rattle.qs_model.specs.Worlds.{Hold, Image, Session, Away, Live, Leaving, World}
 use Rattle.qs_model.proofs.Geometry.{Reaches}
 
 -- a READ or a WRITE
@@ -64,28 +70,28 @@ Shaped A c Entering = IsKind c
 Shaped A c (In k step) = Fit A c step
 
 -- the request's span is listed at its place
-pub record Sits (A : ℕ) (t : Tracker) (c : Client) (k : ℕ) : Type 0 where
+pub record Sits (A : ℕ) (t : TrackerValue) (c : Client) (k : ℕ) : Type 0 where
   pub own : Listing
-  pub is : t.seat k ≡ Has own
+  pub is : seat_at t.seats k ≡ Has own
   pub span : own.span ≡ aligned_out (span_of c) A
   pub serial : own.serial ≡ serial A c
 
 -- and started
-pub record Goes (A : ℕ) (t : Tracker) (c : Client) (k : ℕ) : Type 0 where
+pub record Goes (A : ℕ) (t : TrackerValue) (c : Client) (k : ℕ) : Type 0 where
   pub sits : Sits A t c k
   pub started : sits.own.started ≡ true
 
-abbrev pub Seated : ℕ → Tracker → Client → ℕ → Step → Type 0
-Seated A t c k ToRoute = t.seat k ≡ Present
-Seated A t c k ToList = t.seat k ≡ Present
+abbrev pub Seated : ℕ → TrackerValue → Client → ℕ → Step → Type 0
+Seated A t c k ToRoute = seat_at t.seats k ≡ Present
+Seated A t c k ToList = seat_at t.seats k ≡ Present
 Seated A t c k ToStart = Sits A t c k
 Seated A t c k (ToLoad b got) = Goes A t c k
 Seated A t c k (ToHold side) = Goes A t c k
 Seated A t c k (ToStore b) = Goes A t c k
 Seated A t c k (ToFree side) = Goes A t c k
-Seated A t c k (ToEnd v) = t.seat k ≢ Vacant
+Seated A t c k (ToEnd v) = seat_at t.seats k ≢ Vacant
 
-abbrev pub Seats : ℕ → Tracker → Client → Stage → Type 0
+abbrev pub Seats : ℕ → TrackerValue → Client → Stage → Type 0
 Seats A t c (In k step) = Seated A t c k step
 Seats A t c _ = Unit {0}
 
@@ -108,17 +114,10 @@ Keeps A tells i c p (In k step) = (side : Side) → IsOpen A c step side → Hel
 Keeps A tells i c p _ = Unit {0}
 
 -- all that is kept of one request
-pub record Well (A : ℕ) (tells : Bool) (t : Tracker) (i : Image) (q : Req) : Type 0 where
+pub record Well (A : ℕ) (tells : Bool) (t : TrackerValue) (i : Image) (q : Req) : Type 0 where
   pub shaped : Shaped A q.client q.stage
   pub seated : Seats A t q.client q.stage
   pub kept : Keeps A tells i q.client q.pads q.stage
-
--- the tracker: numbers are distinct and below the next one, and nothing that was listed before a
--- started span conflicts with it
-pub record InOrder (t : Tracker) : Type 0 where
-  pub below : (k : ℕ) (l : Listing) → t.seat k ≡ Has l → l.number < t.number
-  pub one : (j k : ℕ) (l m : Listing) → t.seat j ≡ Has l → t.seat k ≡ Has m → l.number ≡ m.number → j ≡ k
-  pub apart : (j k : ℕ) (l m : Listing) → t.seat j ≡ Has l → t.seat k ≡ Has m → m.started ≡ true → l.number < m.number → Conflict l m → ⊥
 
 -- a hold is an open one of a request
 abbrev pub IsHolder : ℕ → Client → Stage → Hold → ℕ → Type 0
@@ -160,6 +159,7 @@ pub record Ok (A : ℕ) (w : World) : Type 0 where
   pub well : (r : ℕ) (q : Req) → w.req r ≡ Some q → Well A w.tells w.tracker w.image q
   pub one : (r s : ℕ) (q p : Req) (k : ℕ) → w.req r ≡ Some q → w.req s ≡ Some p → IsAt q.stage k → IsAt p.stage k → r ≡ s
   pub owned : (b : ℕ) (h : Hold) → w.image.holder b ≡ Some h → Owner A w.req h b
-  pub manned : (k : ℕ) → w.tracker.seat k ≢ Vacant → Manned w.req k
-  pub tracker : InOrder w.tracker
-  pub sessions : (s e : ℕ) → IsClient (w.session s) e → Among s (w.graph.clients e)
+  pub manned : (k : ℕ) → seat_at w.tracker.seats k ≢ Vacant → Manned w.req k
+  pub tracker : TrackerSound w.tracker
+  pub sessions : (s e : ℕ) → IsClient (w.session s) e → Among s (w.clients e)
+  pub counts : (e : ℕ) → length (w.clients e) ≡ clients_of (export_at w.graph.places e)

@@ -139,8 +139,8 @@ own_kept A w c d p (Enters k) fit kept may = bare_keeps A w.tells w.image c p k 
 own_kept A w c d p (Routes {k = k} route) fit kept may =
     bare_keeps A w.tells w.image (record c { route = route }) p k (routed (record c { route = route })) (routed_bare (record c { route = route }))
 own_kept A w c d p (Shuts {k = k}) fit kept may = bare_keeps A w.tells w.image c p k (ToEnd (Refused Io)) tt
-own_kept A w c d p (Lists {k = k} numbered) fit kept may = bare_keeps A w.tells w.image c p k ToStart tt
-own_kept A w c d p (Starts {k = k} l) fit kept may = started_keeps A w.tells w.image c p k
+own_kept A w c d p (Lists {k = k} n) fit kept may = bare_keeps A w.tells w.image c p k ToStart tt
+own_kept A w c d p (Starts {k = k}) fit kept may = started_keeps A w.tells w.image c p k
 own_kept A w c d p (Loads {k = k} {b = b} {got = got} bytes) fit kept may = bare_keeps A w.tells w.image c p k (loaded A c b got bytes) (loaded_bare A c b got bytes)
 own_kept A w c d p (LoadFails {k = k}) fit kept may = bare_keeps A w.tells w.image c p k (ToEnd (Refused Io)) tt
 own_kept A w c d p (Holds {k = k} {side = side} bytes) fit kept may = held_keeps A w c p k side bytes fit.wanted kept may.1

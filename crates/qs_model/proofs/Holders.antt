@@ -62,8 +62,8 @@ own_holder A w c d p (Waits wait) j side b fit holds is = holds
 own_holder A w c d p (Enters k) j side b fit holds is = absurd holds
 own_holder A w c d p (Routes route) j side b fit holds is = absurd holds.1
 own_holder A w c d p Shuts j side b fit holds is = absurd holds.1
-own_holder A w c d p (Lists numbered) j side b fit holds is = absurd holds.1
-own_holder A w c d p (Starts l) j side b fit holds is = absurd holds.1
+own_holder A w c d p (Lists n) j side b fit holds is = absurd holds.1
+own_holder A w c d p Starts j side b fit holds is = absurd holds.1
 own_holder A w c d p (Loads bytes) j side b fit holds is = absurd holds.1
 own_holder A w c d p LoadFails j side b fit holds is = absurd holds.1
 own_holder A w c d p (Holds {side = Head} bytes) j side b fit holds is = absurd holds.1

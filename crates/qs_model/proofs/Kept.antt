@@ -1,51 +1,63 @@
 -- Every step of a run keeps the facts.
-use Rattle.std.proofs.Common.{◌≡◌, ◌≢◌, ℕ, ◌<◌, ◌⊎◌, inl, inr, Bool, true, false, not, ◌&&◌, ◌||◌, ◌==◌, cond, nat_lt, List, [], ◌∷◌, ◌++◌, Option, Some, None, refl, sym, ap, ◌∙◌, subst, arith, true≢false}
+use Rattle.std.proofs.Common.{◌≡◌, ◌≢◌, ℕ, ◌+◌, ◌-◌, ◌<◌, ◌⊎◌, inl, inr, Bool, true, false, not, ◌&&◌, ◌||◌, ◌==◌, cond, nat_lt, List, [], ◌∷◌, ◌++◌, length, Option, Some, None, refl, sym, ap, ◌∙◌, subst, arith, true≢false}
 use Rattle.qs_bytes.specs.declared.ask.Ask.{Ask}
 use Rattle.qs_outside.specs.declared.rigged_disk.Plans.{Plans}
-use Rattle.qs_outside.specs.Rigged.{no_plans, planned_too}
+use Rattle.qs_outside.specs.Rigged.{planned_too}
 use Rattle.qs_part.specs.declared.graph.ExportInfo.{ExportInfo}
+use Rattle.qs_part.specs.declared.graph.GraphOp.TheVariants.{Attach, Detach}
+use Rattle.qs_part.specs.declared.graph.GraphReply.TheVariants.{Added, Attached as AttachedReply, Detached as DetachedReply}
+use Rattle.qs_graph.specs.Exports.{clients_of, export_at, found_at}
+use Rattle.qs_graph.specs.Table.{GraphValue, after as graph_after}
+use Rattle.qs_graph.proofs.Rows.{added_counts, attach_here, attach_other, detach_here, detach_other}
+use Rattle.qs_graph.proofs.Standing.{nobody as no_export}
+use Rattle.qs_tracker.specs.declared.seat.Seat.TheVariants.{Vacant, Has}
+use Rattle.qs_tracker.specs.Seats.{seat_at}
+use Rattle.qs_tracker.specs.Table.{TrackerValue}
+use Rattle.qs_tracker.proofs.Rows.{free_place}
+use Rattle.qs_tracker.proofs.Seats.{nobody}
+use Rattle.qs_tracker.proofs.Sound.{fresh_sound}
 use Rattle.qs_model.specs.Puts.{put, without}
 use Rattle.qs_model.specs.Requests.{Client, Pads, Req, Step, Stage, ToRoute, ToList, ToStart, ToLoad, ToHold, ToStore, ToFree, ToEnd, Ready, Entering, In, edge, is_read, is_write, form_error, asked, abandoned, abandon}
-use Rattle.qs_model.specs.Worlds.{Tracker, Vacant, Has, Listing, Hold, Image, Export, Session, Away, Live, Leaving, World, new_world}
+use Rattle.qs_model.specs.Worlds.{Hold, Image, Session, Away, Live, Leaving, World, Opening, new_world}
 use Rattle.qs_model.specs.Acts.{Act, Answers, Waits, Enters, Routes, Shuts, Lists, Starts, Loads, LoadFails, Holds, HoldFails, Stores, StoreFails, Frees, Ends, Element, Attached, NoExport, Crowded, Left, Detached, NotAttached, Asked, Did, Exported, Planned, Crashed}
 use Rattle.qs_model.specs.Guards.{MayDo, May, CanAsk}
-use Rattle.qs_model.specs.Steps.{moved, tracked, imaged, leaves, happens, after, Runs}
+use Rattle.qs_model.specs.Steps.{moved, tracked, imaged, leaves, happens, crashed, after, Runs}
 use Rattle.qs_model.specs.Laws.{Follows, Begins}
 use Rattle.qs_model.proofs.Basics.{choose, put_here, put_other, put_tells, put_cases, same_or}
 use Rattle.qs_model.proofs.Facts.{Shaped, Seated, Seats, Held, Keeps, Well, IsHolder, Owner, Manned, IsAt, IsClient, Among, Ok}
 use Rattle.qs_model.proofs.Machine.{ForMoved, own_shaped}
-use Rattle.qs_model.proofs.Places.{own_seated, stays_in_order, present_taken}
+use Rattle.qs_model.proofs.Places.{own_seated, stays_sound, present_taken}
 use Rattle.qs_model.proofs.Held.{own_kept}
 use Rattle.qs_model.proofs.Holders.{HasMoved, own_holder, holder_before, new_holder, some_none}
 use Rattle.qs_model.proofs.Manned.{taken_before, own_stays, own_takes}
 use Rattle.qs_model.proofs.Others.{Elsewhere, others_seat, same_seated, others_held}
 
 -- a request's place is taken
-pub seated_taken : (A : ℕ) (t : Tracker) (c : Client) (stage : Stage) (j : ℕ) → Seats A t c stage → IsAt stage j → t.seat j ≢ Vacant
+pub seated_taken : (A : ℕ) (t : TrackerValue) (c : Client) (stage : Stage) (j : ℕ) → Seats A t c stage → IsAt stage j → seat_at t.seats j ≢ Vacant
 seated_taken A t c (Ready v) j seats at = absurd at
 seated_taken A t c Entering j seats at = absurd at
-seated_taken A t c (In k step) j seats at = subst (λ (i : ℕ). t.seat i ≢ Vacant) at (go step seats)
+seated_taken A t c (In k step) j seats at = subst (λ (i : ℕ). seat_at t.seats i ≢ Vacant) at (go step seats)
   where
-    go : (g : Step) → Seated A t c k g → t.seat k ≢ Vacant
+    go : (g : Step) → Seated A t c k g → seat_at t.seats k ≢ Vacant
     go ToRoute h = present_taken t k h
     go ToList h = present_taken t k h
-    go ToStart h = λ e. let f : t.seat k ≡ Has h.own = h.is in cc
-    go (ToLoad b got) h = λ e. let f : t.seat k ≡ Has h.sits.own = h.sits.is in cc
-    go (ToHold side) h = λ e. let f : t.seat k ≡ Has h.sits.own = h.sits.is in cc
-    go (ToStore b) h = λ e. let f : t.seat k ≡ Has h.sits.own = h.sits.is in cc
-    go (ToFree side) h = λ e. let f : t.seat k ≡ Has h.sits.own = h.sits.is in cc
+    go ToStart h = λ e. let f : seat_at t.seats k ≡ Has h.own = h.is in cc
+    go (ToLoad b got) h = λ e. let f : seat_at t.seats k ≡ Has h.sits.own = h.sits.is in cc
+    go (ToHold side) h = λ e. let f : seat_at t.seats k ≡ Has h.sits.own = h.sits.is in cc
+    go (ToStore b) h = λ e. let f : seat_at t.seats k ≡ Has h.sits.own = h.sits.is in cc
+    go (ToFree side) h = λ e. let f : seat_at t.seats k ≡ Has h.sits.own = h.sits.is in cc
     go (ToEnd v) h = h
 
 -- a request at a taken place other than the acting one's is elsewhere
-pub elsewhere : (A : ℕ) (w : World) (c : Client) (p : Pads) {stage : Stage} (act : Act stage) (j : ℕ) → MayDo A w c p act → w.tracker.seat j ≢ Vacant →
+pub elsewhere : (A : ℕ) (w : World) (c : Client) (p : Pads) {stage : Stage} (act : Act stage) (j : ℕ) → MayDo A w c p act → seat_at w.tracker.seats j ≢ Vacant →
     (IsAt stage j → ⊥) → Elsewhere j act
 elsewhere A w c p Answers j may taken other = tt
 elsewhere A w c p (Waits wait) j may taken other = other
-elsewhere A w c p (Enters k) j may taken other = λ e. taken (ap w.tracker.seat e ∙ may.free)
+elsewhere A w c p (Enters k) j may taken other = λ e. taken (ap (seat_at w.tracker.seats) e ∙ (free_place w.tracker.seats k may.1).1)
 elsewhere A w c p (Routes route) j may taken other = λ e. other (sym e)
 elsewhere A w c p Shuts j may taken other = λ e. other (sym e)
-elsewhere A w c p (Lists numbered) j may taken other = λ e. other (sym e)
-elsewhere A w c p (Starts l) j may taken other = λ e. other (sym e)
+elsewhere A w c p (Lists n) j may taken other = λ e. other (sym e)
+elsewhere A w c p Starts j may taken other = λ e. other (sym e)
 elsewhere A w c p (Loads bytes) j may taken other = λ e. other (sym e)
 elsewhere A w c p LoadFails j may taken other = λ e. other (sym e)
 elsewhere A w c p (Holds bytes) j may taken other = λ e. other (sym e)
@@ -63,8 +75,8 @@ own_at A c d p (Waits wait) j other = other
 own_at A c d p (Enters k) j other = λ e. other (sym e)
 own_at A c d p (Routes route) j other = λ e. other (sym e)
 own_at A c d p Shuts j other = λ e. other (sym e)
-own_at A c d p (Lists numbered) j other = λ e. other (sym e)
-own_at A c d p (Starts l) j other = λ e. other (sym e)
+own_at A c d p (Lists n) j other = λ e. other (sym e)
+own_at A c d p Starts j other = λ e. other (sym e)
 own_at A c d p (Loads bytes) j other = λ e. other (sym e)
 own_at A c d p LoadFails j other = λ e. other (sym e)
 own_at A c d p (Holds bytes) j other = λ e. other (sym e)
@@ -172,7 +184,7 @@ did_owned A w r q act ok here b h is = elim (holder_before A w q.client act b h 
 
 -- each taken place has its request
 pub did_manned : (A : ℕ) (w : World) (r : ℕ) (q : Req) (act : Act q.stage) → Ok A w → w.req r ≡ Some q → MayDo A w q.client q.pads act →
-    (j : ℕ) → (tracked A w.tracker q.client act).seat j ≢ Vacant → Manned (happens A w (Did r q act)).req j
+    (j : ℕ) → seat_at (tracked A w.tracker q.client act).seats j ≢ Vacant → Manned (happens A w (Did r q act)).req j
 did_manned A w r q act ok here may j taken = elim (taken_before A w q.client q.pads act j may taken) [
   | inl e ↦ old (ok.manned j e)
   | inr e ↦ own (has_moved _ _ (own_takes A q.client q.dropped q.pads act j e))
@@ -186,7 +198,7 @@ did_manned A w r q act ok here may j taken = elim (taken_before A w q.client q.p
       | inl e ↦
           let there : w.req r ≡ Some o.request = subst (λ (n : ℕ). w.req n ≡ Some o.request) e o.is in
           let same : o.request ≡ q = cc in
-          own (has_moved _ _ (own_stays A w q.client q.dropped q.pads act j (subst (λ (x : Req). IsAt x.stage j) same o.at) taken))
+          own (has_moved _ _ (own_stays A w q.client q.dropped q.pads act j may (subst (λ (x : Req). IsAt x.stage j) same o.at) taken))
       | inr n ↦ record { number = o.number; request = o.request; is = put_other w.req r _ o.number n ∙ o.is; at = o.at }
     ]
 
@@ -203,8 +215,9 @@ did_ok A w r q act pos ok may = record {
   one = did_one A w r q act ok may.0 may.1;
   owned = did_owned A w r q act ok may.0;
   manned = did_manned A w r q act ok may.0 may.1;
-  tracker = stays_in_order A w q.client q.pads act may.1 ok.tracker;
+  tracker = stays_sound A w q.client q.pads act may.1 ok.tracker;
   sessions = ok.sessions;
+  counts = ok.counts;
 }
 
 -- a request that was made
@@ -252,13 +265,14 @@ asked_ok A w r c ok can = record {
       record { number = o.number; request = o.request; is = put_other w.req r _ o.number other ∙ o.is; at = o.at };
   tracker = ok.tracker;
   sessions = ok.sessions;
+  counts = ok.counts;
 }
   where
     inside : (x y : Req) → Some x ≡ Some y → x ≡ y
     inside x y e = cc
 
 -- a request whose session leaves
-pub abandoned_well : (A : ℕ) (tells : Bool) (t : Tracker) (i : Image) (q : Req) → Well A tells t i q → Well A tells t i (abandon q)
+pub abandoned_well : (A : ℕ) (tells : Bool) (t : TrackerValue) (i : Image) (q : Req) → Well A tells t i q → Well A tells t i (abandon q)
 abandoned_well A tells t i q well = record { shaped = shape q.stage well.shaped; seated = seat q.stage well.seated; kept = keeps q.stage well.kept }
   where
     shape : (g : Stage) → Shaped A q.client g → Shaped A q.client (abandoned g)
@@ -357,9 +371,10 @@ left_ok A w s e ok live = record {
       let (x, (there, f)) = leaves_some s (w.req o.number) o.request o.is in
       record { number = o.number; request = x; is = there; at = at_after o.request x k f o.at };
   tracker = ok.tracker;
-  sessions = λ t d. put_cases (λ g. IsClient g d → Among t (w.graph.clients d)) w.session s (Leaving e) t
+  sessions = λ t d. put_cases (λ g. IsClient g d → Among t (w.clients d)) w.session s (Leaving e) t
       (λ same is. ok.sessions t d (subst (λ (g : Session). IsClient g d) (sym (ap w.session same ∙ live)) is))
       (λ other is. ok.sessions t d is);
+  counts = ok.counts;
 }
   where
     at_before : (q x : Req) (k : ℕ) → (x ≡ q) ⊎ (x ≡ abandon q) → IsAt x.stage k → IsAt q.stage k
@@ -388,56 +403,73 @@ among_without s t (x ∷ xs) other among = go (x == s) refl among (among_without
     go false is (inl e) rest = inl e
     go false is (inr a) rest = inr (rest a)
 
-pub attached_ok : (A : ℕ) (w : World) (s : ℕ) (name : List ℕ) (info : ExportInfo) → Ok A w → Ok A (happens A w (Attached s name info))
-attached_ok A w s name info ok = record {
+pub attached_ok : (A : ℕ) (w : World) (s : ℕ) (name : List ℕ) (info : ExportInfo) → Ok A w → found_at w.graph.places name ≡ Some info.e →
+    Ok A (happens A w (Attached s name info))
+attached_ok A w s name info ok is_found = record {
   below = ok.below;
   well = ok.well;
   one = ok.one;
   owned = ok.owned;
   manned = ok.manned;
   tracker = ok.tracker;
-  sessions = λ t d. put_cases (λ g. IsClient g d → Among t (put w.graph.clients info.e (s ∷ w.graph.clients info.e) d)) w.session s (Live info.e) t
-      (λ same is. put_cases (λ xs. Among t xs) w.graph.clients info.e (s ∷ w.graph.clients info.e) d (λ f. inl (sym same)) (λ f. absurd (f (sym is))))
-      (λ other is. put_cases (λ xs. Among t xs) w.graph.clients info.e (s ∷ w.graph.clients info.e) d
+  sessions = λ t d. put_cases (λ g. IsClient g d → Among t (put w.clients info.e (s ∷ w.clients info.e) d)) w.session s (Live info.e) t
+      (λ same is. put_cases (λ xs. Among t xs) w.clients info.e (s ∷ w.clients info.e) d (λ f. inl (sym same)) (λ f. absurd (f (sym is))))
+      (λ other is. put_cases (λ xs. Among t xs) w.clients info.e (s ∷ w.clients info.e) d
       (λ f. inr (ok.sessions t info.e (subst (λ (n : ℕ). IsClient (w.session t) n) f is))) (λ f. ok.sessions t d is));
+  counts = λ d. put_cases (λ xs. length xs ≡ clients_of (export_at (graph_after w.graph (Attach name) (AttachedReply info)).places d)) w.clients info.e (s ∷ w.clients info.e) d
+      (λ e. omega (arith, ok.counts info.e, subst (λ (n : ℕ). clients_of (export_at (graph_after w.graph (Attach name) (AttachedReply info)).places n) ≡ clients_of (export_at w.graph.places info.e) + 1) (sym e) (attach_here w.graph name info is_found)))
+      (λ other. ok.counts d ∙ sym (attach_other w.graph name info d other));
 }
 
-pub detached_ok : (A : ℕ) (w : World) (s e : ℕ) → Ok A w → Ok A (happens A w (Detached s e))
-detached_ok A w s e ok = record {
+-- a list with one of its members taken out once
+pub length_without : (s : ℕ) (xs : List ℕ) → Among s xs → length (without s xs) + 1 ≡ length xs
+length_without s [] among = absurd among
+length_without s (x ∷ xs) among = go (x == s) refl among (length_without s xs)
+  where
+    go : (b : Bool) → (x == s) ≡ b → (x ≡ s) ⊎ Among s xs → (Among s xs → length (without s xs) + 1 ≡ length xs) →
+        length (cond b xs (x ∷ without s xs)) + 1 ≡ length (x ∷ xs)
+    go true is a rest = omega arith
+    go false is (inl e) rest = absurd (grind (arith, e, is))
+    go false is (inr a) rest = omega (arith, rest a)
+
+pub detached_ok : (A : ℕ) (w : World) (s e : ℕ) → Ok A w → w.session s ≡ Leaving e → 0 < clients_of (export_at w.graph.places e) →
+    Ok A (happens A w (Detached s e))
+detached_ok A w s e ok left some = record {
   below = ok.below;
   well = ok.well;
   one = ok.one;
   owned = ok.owned;
   manned = ok.manned;
   tracker = ok.tracker;
-  sessions = λ t d. put_cases (λ g. IsClient g d → Among t (put w.graph.clients e (without s (w.graph.clients e)) d)) w.session s Away t
+  sessions = λ t d. put_cases (λ g. IsClient g d → Among t (put w.clients e (without s (w.clients e)) d)) w.session s Away t
       (λ same is. absurd is)
-      (λ other is. put_cases (λ xs. Among t xs) w.graph.clients e (without s (w.graph.clients e)) d
-      (λ f. among_without s t (w.graph.clients e) other (ok.sessions t e (subst (λ (n : ℕ). IsClient (w.session t) n) f is))) (λ f. ok.sessions t d is));
+      (λ other is. put_cases (λ xs. Among t xs) w.clients e (without s (w.clients e)) d
+      (λ f. among_without s t (w.clients e) other (ok.sessions t e (subst (λ (n : ℕ). IsClient (w.session t) n) f is))) (λ f. ok.sessions t d is));
+  counts = λ d. put_cases (λ xs. length xs ≡ clients_of (export_at (graph_after w.graph (Detach e) DetachedReply).places d)) w.clients e (without s (w.clients e)) d
+      (λ f. omega (arith, ok.counts e, length_without s (w.clients e) among,
+      subst (λ (n : ℕ). clients_of (export_at (graph_after w.graph (Detach e) DetachedReply).places n) ≡ clients_of (export_at w.graph.places e) - 1) (sym f) (detach_here w.graph e some)))
+      (λ other. ok.counts d ∙ sym (detach_other w.graph e d other));
 }
+  where
+    among : Among s (w.clients e)
+    among = ok.sessions s e (subst (λ (g : Session). IsClient g e) (sym left) refl)
 
-pub new_ok : (A : ℕ) (tells : Bool) (n : ℕ) (plans : ℕ → Plans) (now : ℕ → List ℕ) → Ok A (new_world tells n plans now)
-new_ok A tells n plans now = record {
+pub new_ok : (A n : ℕ) (o : Opening) → Ok A (new_world n o)
+new_ok A n o = record {
   below = λ r q is. absurd (some_none (sym is));
   well = λ r q is. absurd (some_none (sym is));
   one = λ r s q p k a b at bt. absurd (some_none (sym a));
   owned = λ b h is. absurd (some_none (sym is));
-  manned = λ k taken. absurd (taken refl);
-  tracker = record {
-    below = λ k l is. absurd (vacant l is);
-    one = λ j k l m a b e. absurd (vacant l a);
-    apart = λ j k l m a b s lt c. absurd (vacant l a);
-  };
+  manned = λ k taken. absurd (taken (nobody 256 k));
+  tracker = fresh_sound 0;
   sessions = λ s e is. absurd is;
+  counts = λ e. sym (ap clients_of (no_export 64 e));
 }
-  where
-    vacant : (l : Listing) → Vacant ≡ Has l → ⊥
-    vacant l e = cc
 
--- the facts say nothing of exports and plans
-pub aside_ok : (A : ℕ) (w : World) (export : ℕ → Option Export) (plans : ℕ → Plans) → Ok A w →
-    Ok A (record w { graph = record w.graph { export = export }; plans = plans })
-aside_ok A w export plans ok = record {
+-- the facts say nothing of plans, and of the graph only how many clients each export has
+pub aside_ok : (A : ℕ) (w : World) (graph : GraphValue) (plans : ℕ → Plans) → Ok A w →
+    ((e : ℕ) → clients_of (export_at graph.places e) ≡ clients_of (export_at w.graph.places e)) → Ok A (record w { graph = graph; plans = plans })
+aside_ok A w graph plans ok same = record {
   below = ok.below;
   well = ok.well;
   one = ok.one;
@@ -445,21 +477,22 @@ aside_ok A w export plans ok = record {
   manned = ok.manned;
   tracker = ok.tracker;
   sessions = ok.sessions;
+  counts = λ e. ok.counts e ∙ sym (same e);
 }
 
 -- every step keeps the facts
 pub step_ok : (A : ℕ) (w : World) (e : Element) → 0 < A → Ok A w → May A w e → Ok A (happens A w e)
-step_ok A w (Attached s name e) pos ok may = attached_ok A w s name e ok
+step_ok A w (Attached s name info) pos ok may = attached_ok A w s name info ok may.1.0
 step_ok A w (NoExport s name) pos ok may = ok
 step_ok A w (Crowded s name) pos ok may = ok
 step_ok A w (Left s e) pos ok may = left_ok A w s e ok may
-step_ok A w (Detached s e) pos ok may = detached_ok A w s e ok
+step_ok A w (Detached s e) pos ok may = detached_ok A w s e ok may.0.0 may.1
 step_ok A w (NotAttached s e) pos ok may = ok
 step_ok A w (Asked r c) pos ok may = asked_ok A w r c ok may
 step_ok A w (Did r q act) pos ok may = did_ok A w r q act pos ok may
-step_ok A w (Exported e x) pos ok may = aside_ok A w (put w.graph.export e (Some x)) w.plans ok
-step_ok A w (Planned j fail) pos ok may = aside_ok A w w.graph.export (put w.plans j (planned_too fail (w.plans j))) ok
-step_ok A w (Crashed left) pos ok may = new_ok A w.tells w.next (λ j. no_plans) left
+step_ok A w (Exported op e) pos ok may = aside_ok A w (graph_after w.graph op (Added e)) w.plans ok (λ d. added_counts w.graph op e d may)
+step_ok A w (Planned j fail) pos ok may = aside_ok A w w.graph (put w.plans j (planned_too fail (w.plans j))) ok (λ e. refl)
+step_ok A w (Crashed left) pos ok may = new_ok A w.next (crashed w left)
 
 -- and so does every run
 pub run_ok : (A : ℕ) (w : World) (es : List Element) → 0 < A → Ok A w → Runs A w es → Ok A (after A w es)

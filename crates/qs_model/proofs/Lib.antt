@@ -20,8 +20,5 @@ pub mod ReadsOnce
 pub mod WritesOnce
 pub mod Evented
 pub mod Padded
-pub mod DeterminedStates
-pub mod DeterminedNumbers
-pub mod DeterminedRows
-pub mod DeterminedEvents
-pub mod DeterminedSteps
+pub mod Seen
+pub mod Headline

@@ -145,8 +145,8 @@ own_shaped A w c d p (Waits wait) h fit may = fit
 own_shaped A w c d p (Enters k) h fit may = fit
 own_shaped A w c d p (Routes route) h fit may = routed_fit A (record c { route = route }) fit
 own_shaped A w c d p Shuts h fit may = tt
-own_shaped A w c d p (Lists numbered) h fit may = fit
-own_shaped A w c d p (Starts l) h fit may = started_fit A c h fit
+own_shaped A w c d p (Lists n) h fit may = fit
+own_shaped A w c d p Starts h fit may = started_fit A c h fit
 own_shaped A w c d p (Loads {b = b} {got = got} bytes) h fit may = loaded_fit A c b got bytes h fit may.whole
 own_shaped A w c d p LoadFails h fit may = tt
 own_shaped A w c d p (Holds {side = side} bytes) h fit may = held_fit A c side h fit.sound fit.writing

@@ -1,8 +1,11 @@
 -- Answers that the core never gets.
-use Rattle.std.proofs.Common.{◌≡◌, ◌≢◌, ℕ, ◌<◌, Bool, true, List, [], ◌∷◌, Some, refl, sym, ◌∙◌, subst}
+use Rattle.std.proofs.Common.{◌≡◌, ◌≢◌, ℕ, ◌<◌, Bool, true, List, [], ◌∷◌, length, Some, refl, sym, ◌∙◌, subst, arith}
 use Rattle.qs_part.specs.declared.stripe.Side.{Side}
 use Rattle.qs_part.specs.declared.stripe.Side.TheVariants.{Head, Tail}
 use Rattle.qs_model.specs.Requests.{Client, Pads, Req, Stage, ToList, ToStart, ToHold, ToStore, ToFree, ToEnd, Ready, Entering, In, edge, has}
+use Rattle.qs_part.specs.declared.tracker.TrackerReply.TheVariants.{Strange as StrangeReply}
+use Rattle.qs_tracker.specs.declared.seat.Seat.{Seat}
+use Rattle.qs_tracker.specs.Table.{MayStart}
 use Rattle.qs_model.specs.Worlds.{Session, Leaving, World}
 use Rattle.qs_model.specs.Acts.{Act, Waits, Wait, Quiesced, Full, NotYet, HeldBy, Taken, Strange, NotHeld, Element, NotAttached, Did}
 use Rattle.qs_model.specs.Guards.{MayWait, MayDo, May}
@@ -71,7 +74,7 @@ wait_never A w r c d p (In k (ToHold side)) (Taken b) pos ok is may odd =
     let o : Owner A w.req (record { place = k; side = side }) b = ok.owned b _ may.2 in
     taken_never A w r c d p k side b ok is o
 wait_never A w r c d p (In k ToList) Strange pos ok is may odd = may (ok.well r _ is).seated
-wait_never A w r c d p (In k ToStart) Strange pos ok is may odd = let sits : Sits A w.tracker c k = (ok.well r _ is).seated in may sits.own sits.is
+wait_never A w r c d p (In k ToStart) Strange pos ok is may odd = let sits : Sits A w.tracker c k = (ok.well r _ is).seated in subst (λ (x : Seat). MayStart w.tracker.seats x StrangeReply) sits.is may
 wait_never A w r c d p (In k (ToEnd v)) Strange pos ok is may odd = (ok.well r _ is).seated may
 wait_never A w r c d p (In k (ToFree side)) NotHeld pos ok is may odd =
     let h : Held A w.tells w.image c p k side = (ok.well r _ is).kept side (free_open A c side) in
@@ -86,14 +89,14 @@ row_never A w r c d p _ pos ok is may odd = odd
 pub leaving_client : (g : Session) (e : ℕ) → g ≡ Leaving e → IsClient g e
 leaving_client g e is = subst (λ (x : Session). IsClient x e) (sym is) refl
 
-pub among_some : (s : ℕ) (xs : List ℕ) → Among s xs → xs ≢ []
+pub among_some : (s : ℕ) (xs : List ℕ) → Among s xs → length xs ≢ 0
 among_some s [] among is = among
-among_some s (x ∷ xs) among is = cc
+among_some s (x ∷ xs) among is = omega arith
 
 pub step_never : (A : ℕ) (w : World) (e : Element) → 0 < A → Ok A w → May A w e → IsOddStep e → ⊥
 step_never A w (Did r q act) pos ok may odd = row_never A w r q.client q.dropped q.pads act pos ok may.0 may.1 odd
 step_never A w (NotAttached s e) pos ok may odd =
-    among_some s (w.graph.clients e) (ok.sessions s e (leaving_client (w.session s) e may.0.0)) may.1
+    among_some s (w.clients e) (ok.sessions s e (leaving_client (w.session s) e may.0.0)) (ok.counts e ∙ may.1)
 step_never A w _ pos ok may odd = odd
 
 -- the law

@@ -2,10 +2,17 @@
 use Rattle.std.proofs.Common.{◌≡◌, ◌≢◌, ℕ, inl, inr, true, List, Option, Some, None, refl, sym, ap, ◌∙◌, subst}
 use Rattle.qs_model.specs.Puts.{put}
 use Rattle.qs_model.specs.Requests.{Client, Pads, Step, Stage, ToRoute, ToList, ToStart, ToLoad, ToHold, ToStore, ToFree, ToEnd, edge}
-use Rattle.qs_model.specs.Worlds.{Tracker, Listing, Seat, Vacant, Present, Has, Hold, Image, World}
+use Rattle.qs_tracker.specs.declared.seat.Listing.{Listing}
+use Rattle.qs_tracker.specs.declared.seat.Seat.{Seat}
+use Rattle.qs_tracker.specs.declared.seat.Seat.TheVariants.{Vacant, Present, Has}
+use Rattle.qs_tracker.specs.Seats.{seat_at}
+use Rattle.qs_tracker.specs.Table.{TrackerValue, going, numbered}
+use Rattle.qs_tracker.specs.History.{SameSeat}
+use Rattle.qs_tracker.proofs.Rows.{numbered_seat, same_seat, seat_other}
+use Rattle.qs_model.specs.Worlds.{Hold, Image, World}
 use Rattle.qs_model.specs.Acts.{Act, Answers, Waits, Enters, Routes, Shuts, Lists, Starts, Loads, LoadFails, Holds, HoldFails, Stores, StoreFails, Frees, Ends}
-use Rattle.qs_model.specs.Guards.{MayDo, SameSeat, Numbered, CanStore}
-use Rattle.qs_model.specs.Steps.{tracked, imaged, listing}
+use Rattle.qs_model.specs.Guards.{MayDo, CanStore}
+use Rattle.qs_model.specs.Steps.{tracked, imaged}
 use Rattle.qs_model.proofs.Basics.{put_other}
 use Rattle.qs_model.proofs.Facts.{Sits, Goes, Seated, IsAt}
 
@@ -16,8 +23,8 @@ Elsewhere j (Waits {stage = stage} wait) = IsAt stage j → ⊥
 Elsewhere j (Enters k) = j ≢ k
 Elsewhere j (Routes {k = k} route) = j ≢ k
 Elsewhere j (Shuts {k = k}) = j ≢ k
-Elsewhere j (Lists {k = k} numbered) = j ≢ k
-Elsewhere j (Starts {k = k} l) = j ≢ k
+Elsewhere j (Lists {k = k} n) = j ≢ k
+Elsewhere j (Starts {k = k}) = j ≢ k
 Elsewhere j (Loads {k = k} bytes) = j ≢ k
 Elsewhere j (LoadFails {k = k}) = j ≢ k
 Elsewhere j (Holds {k = k} bytes) = j ≢ k
@@ -27,28 +34,18 @@ Elsewhere j (StoreFails {k = k} bytes took past) = j ≢ k
 Elsewhere j (Frees {k = k}) = j ≢ k
 Elsewhere j (Ends {k = k}) = j ≢ k
 
-pub same_seat : (s : Seat) → SameSeat s s
-same_seat Vacant = tt
-same_seat Present = tt
-same_seat (Has l) = refl
-
 pub equal_seat : (s t : Seat) → t ≡ s → SameSeat s t
 equal_seat s t e = subst (λ (u : Seat). SameSeat s u) (sym e) (same_seat s)
 
-pub numbered_same : (t u : Tracker) (j : ℕ) → Numbered t u → SameSeat (t.seat j) (u.seat j)
-numbered_same t u j (inl h) = equal_seat _ _ (h.1.seat j)
-numbered_same t u j (inr h) = h.1.same j
-
 -- the place of another request is the same, but for its number
 pub others_seat : (A : ℕ) (w : World) (c : Client) (p : Pads) {stage : Stage} (act : Act stage) (j : ℕ) → MayDo A w c p act → Elsewhere j act →
-    SameSeat (w.tracker.seat j) ((tracked A w.tracker c act).seat j)
-others_seat A w c p (Enters k) j may other = equal_seat _ _ (put_other w.tracker.seat k Present j other)
-others_seat A w c p (Lists {k = k} numbered) j may other =
-    subst (λ (u : Seat). SameSeat (w.tracker.seat j) u) (sym (put_other numbered.seat k (Has (listing A c numbered.number)) j other))
-    (numbered_same w.tracker numbered j may.1)
-others_seat A w c p (Starts {k = k} l) j may other = equal_seat _ _ (put_other w.tracker.seat k (Has (record l { started = true })) j other)
-others_seat A w c p (Ends {k = k}) j may other = equal_seat _ _ (put_other w.tracker.seat k Vacant j other)
-others_seat A w c p _ j may other = same_seat (w.tracker.seat j)
+    SameSeat (seat_at w.tracker.seats j) (seat_at (tracked A w.tracker c act).seats j)
+others_seat A w c p (Enters k) j may other = equal_seat _ _ (seat_other w.tracker.seats k Present j other)
+others_seat A w c p (Lists {k = k} n) j may other =
+    subst (λ (u : Seat). SameSeat (seat_at w.tracker.seats j) u) (sym (seat_other (numbered w.tracker).seats k _ j other)) (numbered_seat w.tracker j)
+others_seat A w c p (Starts {k = k}) j may other = equal_seat _ _ (seat_other w.tracker.seats k (going (seat_at w.tracker.seats k)) j other)
+others_seat A w c p (Ends {k = k}) j may other = equal_seat _ _ (seat_other w.tracker.seats k Vacant j other)
+others_seat A w c p _ j may other = same_seat (seat_at w.tracker.seats j)
 
 -- a place that is the same has the same facts
 pub same_present : (s t : Seat) → SameSeat s t → s ≡ Present → t ≡ Present
@@ -83,17 +80,17 @@ same_has (Has k) (Has m) l same is =
       ),
     )
 
-pub same_sits : (A : ℕ) (t u : Tracker) (c : Client) (k : ℕ) → SameSeat (t.seat k) (u.seat k) → Sits A t c k → Sits A u c k
+pub same_sits : (A : ℕ) (t u : TrackerValue) (c : Client) (k : ℕ) → SameSeat (seat_at t.seats k) (seat_at u.seats k) → Sits A t c k → Sits A u c k
 same_sits A t u c k same sits =
-    let (m, (is, span, serial, started)) = same_has (t.seat k) (u.seat k) sits.own same sits.is in
+    let (m, (is, span, serial, started)) = same_has (seat_at t.seats k) (seat_at u.seats k) sits.own same sits.is in
     record { own = m; is = is; span = span ∙ sits.span; serial = serial ∙ sits.serial }
 
-pub same_goes : (A : ℕ) (t u : Tracker) (c : Client) (k : ℕ) → SameSeat (t.seat k) (u.seat k) → Goes A t c k → Goes A u c k
+pub same_goes : (A : ℕ) (t u : TrackerValue) (c : Client) (k : ℕ) → SameSeat (seat_at t.seats k) (seat_at u.seats k) → Goes A t c k → Goes A u c k
 same_goes A t u c k same goes =
-    let (m, (is, span, serial, started)) = same_has (t.seat k) (u.seat k) goes.sits.own same goes.sits.is in
+    let (m, (is, span, serial, started)) = same_has (seat_at t.seats k) (seat_at u.seats k) goes.sits.own same goes.sits.is in
     record { sits = record { own = m; is = is; span = span ∙ goes.sits.span; serial = serial ∙ goes.sits.serial }; started = started ∙ goes.started }
 
-pub same_seated : (A : ℕ) (t u : Tracker) (c : Client) (k : ℕ) (step : Step) → SameSeat (t.seat k) (u.seat k) → Seated A t c k step → Seated A u c k step
+pub same_seated : (A : ℕ) (t u : TrackerValue) (c : Client) (k : ℕ) (step : Step) → SameSeat (seat_at t.seats k) (seat_at u.seats k) → Seated A t c k step → Seated A u c k step
 same_seated A t u c k ToRoute same h = same_present _ _ same h
 same_seated A t u c k ToList same h = same_present _ _ same h
 same_seated A t u c k ToStart same h = same_sits A t u c k same h

@@ -1,16 +1,21 @@
 -- The padded write of the example is a run.
-use Rattle.std.proofs.Common.{◌≡◌, ◌≢◌, ℕ, zero, suc, ◌<◌, inl, inr, true, [], ◌∷◌, Option, Some, None, refl, sym, ap, arith, true≢false, lit<, get_or}
-use Rattle.std.specs.List.{filter_map}
-use Rattle.qs_outside.specs.Rigged.{no_plans}
+use Rattle.std.proofs.Common.{◌≡◌, ◌≢◌, ℕ, zero, suc, ◌<◌, inl, inr, true, false, [], ◌∷◌, replicate, Option, Some, None, refl, sym, subst, ap, arith, true≢false, lit<, get_or}
+use Rattle.std.specs.List.{filter_map, slice_set}
 use Rattle.qs_part.specs.declared.stripe.Side.{Side}
 use Rattle.qs_part.specs.declared.stripe.Side.TheVariants.{Head, Tail}
+use Rattle.qs_graph.specs.Exports.{made}
+use Rattle.qs_tracker.specs.declared.seat.Listing.{Listing}
+use Rattle.qs_tracker.specs.declared.seat.Seat.{Seat}
+use Rattle.qs_tracker.specs.declared.seat.Seat.TheVariants.{Vacant, Present, Has}
+use Rattle.qs_tracker.specs.Seats.{Precedes, seat_at}
+use Rattle.qs_tracker.proofs.Seats.{at_set, nobody}
 use Rattle.qs_model.specs.Puts.{put}
 use Rattle.qs_model.specs.Requests.{edge, has, serial, routed, held, started, stored, merged_at}
 use Rattle.qs_model.specs.Worlds.{Hold}
 use Rattle.qs_model.specs.Steps.{after, Runs}
 use Rattle.qs_model.specs.Laws.{opening}
 use Rattle.qs_model.specs.Events.{outcome_of}
-use Rattle.qs_model.specs.Example.{zeros, whole, client, pads, padded, answers}
+use Rattle.qs_model.specs.Example.{zeros, opened, whole, client, pads, padded, answers}
 use Rattle.qs_model.proofs.Holders.{some_none}
 use Rattle.qs_model.proofs.Basics.{put_tells}
 
@@ -53,22 +58,34 @@ other_side c is = elim (put_tells {X = Option Hold} (λ b. None) 0 (Some (record
 pub place_of : (a h : Hold) → Some a ≡ Some h → h.place ≡ a.place
 place_of a h e = let f : h ≡ a = cc in ap (λ (x : Hold). x.place) f
 
-pub padded_runs : Runs 4 (opening true (λ j. no_plans) (λ b. zeros)) padded
+-- the one span that is listed
+abbrev own : Listing
+own = record { span = record { lo = 0; hi = 8 }; serial = true; number = 0; started = false }
+
+-- it goes before no other
+pub alone : (l : Listing) (j : ℕ) → Precedes (seat_at (slice_set (slice_set (replicate 256 Vacant) 0 Present) 0 (Has l)) j) l → ⊥
+alone l j =
+    at_set (λ (s : Seat). Precedes s l → ⊥) (slice_set (replicate 256 Vacant) 0 Present) 0 (Has l) j
+    (at_set (λ (s : Seat). Precedes s l → ⊥) (replicate 256 Vacant) 0 Present j
+    (subst (λ (s : Seat). Precedes s l → ⊥) (sym (nobody 256 j)) (λ p. p)) (λ _ p. p))
+    (λ _ p. omega (arith, p.0))
+
+pub padded_runs : Runs 4 (opening opened) padded
 unfolding put edge has serial routed held started stored
 padded_runs = (
-  record { room = lit< tt; free = refl; unused = refl; lowest = λ d h. absurd (omega arith); other = λ d y is. absurd (some_none (sym is)) },
+  ((((refl, refl), refl), refl), refl),
   (
-    (refl, record { finds = record { export = record { name = 100 ∷ []; route = whole }; stands = refl; named = inl refl }; size = refl; writable = refl; room = lit< tt }),
+    (refl, (refl, refl, lit< tt)),
     (
       record { next = refl; room = lit< tt; live = refl; unrouted = refl; buffered = λ e. refl; body = λ a b. refl; refused = λ a b. inr refl; other = λ e. absurd (true≢false e) },
       (
-        (refl, record { open_ = refl; room = lit< tt; free = refl; lowest = λ j h. absurd (omega arith) }),
+        (refl, (refl, refl)),
         (
-          (refl, (record { name = 100 ∷ []; route = whole }, (refl, refl))),
+          (refl, (record (made (101 ∷ []) (100 ∷ []) true false) { clients = 1 }, (refl, refl))),
           (
-            (refl, (refl, inl (lit< tt, record { quiesced = refl; number = refl; seat = λ k. refl }))),
+            (refl, (refl, refl)),
             (
-              (refl, record { listed = refl; clear = λ j m is less c. omega arith }),
+              (refl, λ k p. alone own k p),
               (
                 (refl, (record { free = refl; one = λ c same is. some_none (sym is) }, record { whole = refl; now = λ t. refl; planned = refl })),
                 (
@@ -93,6 +110,6 @@ padded_runs = (
   ),
 )
 
-pub padded_blocks : ((after 4 (opening true (λ j. no_plans) (λ b. zeros)) padded).image.now 0 ≡ 0 ∷ 0 ∷ 0 ∷ 7 ∷ []) × ((after 4 (opening true (λ j. no_plans) (λ b. zeros)) padded).image.now 1 ≡ 8 ∷ 0 ∷ 0 ∷ 0 ∷ [])
+pub padded_blocks : ((after 4 (opening opened) padded).image.now 0 ≡ 0 ∷ 0 ∷ 0 ∷ 7 ∷ []) × ((after 4 (opening opened) padded).image.now 1 ≡ 8 ∷ 0 ∷ 0 ∷ 0 ∷ [])
 unfolding put edge
 padded_blocks = (refl, refl)

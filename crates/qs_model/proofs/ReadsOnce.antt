@@ -126,8 +126,8 @@ module _ (A : ℕ) (x : ℕ) (r : ℕ) (c : Client) (bytes : List ℕ) (pos : 0 
   own_read w d b p (Enters k) es fit may h = h
   own_read w d b p (Routes {k = k} route) es fit may h = (h.0, routed_read (record d { route = route }) k es h.1)
   own_read w d b p Shuts es fit may h = let f : Refused _ ≡ Got bytes = h.1.1 in absurd (cc)
-  own_read w d b p (Lists numbered) es fit may h = h
-  own_read w d b p (Starts {k = k} l) es fit may h = (h.0, started_read d k es h.1)
+  own_read w d b p (Lists n) es fit may h = h
+  own_read w d b p (Starts {k = k}) es fit may h = (h.0, started_read d k es h.1)
   own_read w d b p (Loads {k = k} {b = n} {got = got} block) es fit may h = (h.0, loaded_read d k n got block es fit may.whole h.1)
   own_read w d b p LoadFails es fit may h = let f : Refused _ ≡ Got bytes = h.1.1 in absurd (cc)
   own_read w d b p (Holds {k = k} {side = side} block) es fit may h = absurd (held_read d k side es h.1)

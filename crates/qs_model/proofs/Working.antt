@@ -1,38 +1,40 @@
 -- Requests that work on a block, and that two of them, one serialising, are one.
-use Rattle.std.proofs.Common.{◌≡◌, ℕ, ◌*◌, ◌<◌, inl, inr, Bool, true, Some, IsTrue, refl, sym, ◌∙◌, subst, arith}
+use Rattle.std.proofs.Common.{◌≡◌, ℕ, ◌*◌, ◌<◌, inl, Bool, true, Some, IsTrue, refl, sym, ◌∙◌, subst}
 use Rattle.qs_bytes.specs.Spans.{Places, Covers, aligned_out}
 use Rattle.qs_part.specs.declared.stripe.Side.{Side}
 use Rattle.qs_part.specs.declared.stripe.Side.TheVariants.{Head, Tail}
 use Rattle.qs_model.specs.Requests.{Client, Req, Step, Stage, ToRoute, ToList, ToStart, ToLoad, ToHold, ToStore, ToFree, ToEnd, Ready, Entering, In, edge, has, span_of, serial, writes}
-use Rattle.qs_model.specs.Worlds.{Tracker, Listing, Has, Conflict, Hold, World}
+use Rattle.qs_tracker.specs.Table.{TrackerValue}
+use Rattle.qs_tracker.proofs.Sound.{Sound as TrackerSound, goes_apart}
+use Rattle.qs_model.specs.Worlds.{Hold, World}
 use Rattle.qs_model.specs.Acts.{Act, Answers, Waits, Enters, Routes, Shuts, Lists, Starts, Loads, LoadFails, Holds, HoldFails, Stores, StoreFails, Frees, Ends, block_of}
 use Rattle.qs_model.proofs.Geometry.{Reaches, reaches_edge, reached_outward, has_serial}
-use Rattle.qs_model.proofs.Facts.{Sound, Shaped, Goes, Seats, IsHolder, InOrder, IsAt, Well, Owner, Ok}
+use Rattle.qs_model.proofs.Facts.{Sound, Shaped, Goes, Seats, IsHolder, IsAt, Well, Owner, Ok}
 use Rattle.qs_model.proofs.Holders.{some_none}
 
 -- a request at place k that has started, and works on block b
-pub record Works (A : ℕ) (t : Tracker) (c : Client) (stage : Stage) (k b : ℕ) : Type 0 where
+pub record Works (A : ℕ) (t : TrackerValue) (c : Client) (stage : Stage) (k b : ℕ) : Type 0 where
   pub at : IsAt stage k
   pub goes : Goes A t c k
   pub sound : Sound c
   pub reach : Reaches A c b
 
-pub same_block : (A : ℕ) (t : Tracker) (c : Client) (stage : Stage) (k a b : ℕ) → Some a ≡ Some b → Works A t c stage k a → Works A t c stage k b
+pub same_block : (A : ℕ) (t : TrackerValue) (c : Client) (stage : Stage) (k a b : ℕ) → Some a ≡ Some b → Works A t c stage k a → Works A t c stage k b
 same_block A t c stage k a b e works = subst (λ (n : ℕ). Works A t c stage k n) (inside a b e) works
   where
     inside : (x y : ℕ) → Some x ≡ Some y → x ≡ y
     inside x y f = cc
 
 -- who has a block entry works on its block
-pub entry_works : (A : ℕ) (t : Tracker) (c : Client) {stage : Stage} (act : Act stage) (b : ℕ) → 0 < A → Shaped A c stage → Seats A t c stage → block_of A c act ≡ Some b →
+pub entry_works : (A : ℕ) (t : TrackerValue) (c : Client) {stage : Stage} (act : Act stage) (b : ℕ) → 0 < A → Shaped A c stage → Seats A t c stage → block_of A c act ≡ Some b →
     (k : ℕ) × Works A t c stage k b
 entry_works A t c Answers b pos fit sits is = absurd (some_none (sym is))
 entry_works A t c (Waits wait) b pos fit sits is = absurd (some_none (sym is))
 entry_works A t c (Enters k) b pos fit sits is = absurd (some_none (sym is))
 entry_works A t c (Routes route) b pos fit sits is = absurd (some_none (sym is))
 entry_works A t c Shuts b pos fit sits is = absurd (some_none (sym is))
-entry_works A t c (Lists numbered) b pos fit sits is = absurd (some_none (sym is))
-entry_works A t c (Starts l) b pos fit sits is = absurd (some_none (sym is))
+entry_works A t c (Lists n) b pos fit sits is = absurd (some_none (sym is))
+entry_works A t c Starts b pos fit sits is = absurd (some_none (sym is))
 entry_works A t c (Loads {k = k} {b = n} {got = got} bytes) b pos fit sits is =
     (k, same_block A t c (In k (ToLoad n got)) k n b is (record { at = refl; goes = sits; sound = fit.sound; reach = fit.reach }))
 entry_works A t c (LoadFails {k = k} {b = n} {got = got}) b pos fit sits is =
@@ -50,11 +52,11 @@ entry_works A t c (Frees {k = k} {side = side}) b pos fit sits is =
 entry_works A t c Ends b pos fit sits is = absurd (some_none (sym is))
 
 -- who has an open hold works on its block, and is serialising
-pub record Opens (A : ℕ) (t : Tracker) (c : Client) (stage : Stage) (h : Hold) (b : ℕ) : Type 0 where
+pub record Opens (A : ℕ) (t : TrackerValue) (c : Client) (stage : Stage) (h : Hold) (b : ℕ) : Type 0 where
   pub works : Works A t c stage h.place b
   pub serial : serial A c ≡ true
 
-pub opens_at : (A : ℕ) (t : Tracker) (c : Client) (k : ℕ) (step : Step) (j : ℕ) (side : Side) (b : ℕ) → 0 < A → k ≡ j → edge A c side ≡ b → Goes A t c k → Sound c →
+pub opens_at : (A : ℕ) (t : TrackerValue) (c : Client) (k : ℕ) (step : Step) (j : ℕ) (side : Side) (b : ℕ) → 0 < A → k ≡ j → edge A c side ≡ b → Goes A t c k → Sound c →
     writes c ≡ true → has A c side ≡ true → Opens A t c (In k step) (record { place = j; side = side }) b
 opens_at A t c k step j side b pos at here goes sound writing wanted = record {
   works = record {
@@ -66,7 +68,7 @@ opens_at A t c k step j side b pos at here goes sound writing wanted = record {
   serial = has_serial A c side pos sound.some writing wanted;
 }
 
-pub holder_opens : (A : ℕ) (t : Tracker) (c : Client) (stage : Stage) (j : ℕ) (side : Side) (b : ℕ) → 0 < A → Shaped A c stage → Seats A t c stage →
+pub holder_opens : (A : ℕ) (t : TrackerValue) (c : Client) (stage : Stage) (j : ℕ) (side : Side) (b : ℕ) → 0 < A → Shaped A c stage → Seats A t c stage →
     IsHolder A c stage (record { place = j; side = side }) b → Opens A t c stage (record { place = j; side = side }) b
 holder_opens A t c (Ready v) j side b pos fit sits is = absurd is
 holder_opens A t c Entering j side b pos fit sits is = absurd is
@@ -85,24 +87,14 @@ holder_opens A t c (In k (ToFree Tail)) j Head b pos fit sits is = absurd is.1
 holder_opens A t c (In k (ToFree Tail)) j Tail b pos fit sits is = opens_at A t c k (ToFree Tail) j Tail b pos is.0 is.2 sits fit.sound fit.writing fit.wanted
 holder_opens A t c (In k (ToEnd v)) j side b pos fit sits is = absurd is.1
 
-pub flip : (l m : Listing) → Conflict l m → Conflict m l
-flip l m c = let (x, (a, b)) = c.0 in ((x, (b, a)), elim c.1 [ inl h ↦ inr h | inr h ↦ inl h ])
-
--- started spans that conflict are one
-pub started_apart : (t : Tracker) (j k : ℕ) (l m : Listing) → InOrder t → t.seat j ≡ Has l → t.seat k ≡ Has m → l.started ≡ true → m.started ≡ true → Conflict l m → j ≡ k
-started_apart t j k l m order a b s u conflict =
-    let low : l.number < m.number → ⊥ = λ h. order.apart j k l m a b u h conflict in
-    let high : m.number < l.number → ⊥ = λ h. order.apart k j m l b a s h (flip l m conflict) in
-    order.one j k l m a b (omega arith)
-
 pub is_true : (b : Bool) → b ≡ true → IsTrue b
 is_true b e = e
 
 -- two requests that work where both reach, one of them serialising, have one place
-pub work_apart : (A : ℕ) (t : Tracker) (c d : Client) (j k x : ℕ) → InOrder t → Goes A t c j → Goes A t d k → Covers (aligned_out (span_of c) A) x →
+pub work_apart : (A : ℕ) (t : TrackerValue) (c d : Client) (j k x : ℕ) → TrackerSound t → Goes A t c j → Goes A t d k → Covers (aligned_out (span_of c) A) x →
     Covers (aligned_out (span_of d) A) x → serial A c ≡ true → j ≡ k
-work_apart A t c d j k x order goes works here there is =
-    started_apart t j k goes.sits.own works.sits.own order goes.sits.is works.sits.is goes.started works.started (
+work_apart A t c d j k x sound goes works here there is =
+    goes_apart t j k goes.sits.own works.sits.own sound (goes.sits.is, goes.started) (works.sits.is, works.started) (
       (x, (subst (λ (s : Places). Covers s x) (sym goes.sits.span) here, subst (λ (s : Places). Covers s x) (sym works.sits.span) there)),
       inl (is_true goes.sits.own.serial (goes.sits.serial ∙ is)),
     )

@@ -117,8 +117,8 @@ module _ (A : ℕ) (x : ℕ) (r : ℕ) (c : Client) (pos : 0 < A) (covered : cov
   own_write w d b p (Enters k) es fit may h = h
   own_write w d b p (Routes {k = k} route) es fit may h = (h.0, routed_write (record d { route = route }) k es h.1)
   own_write w d b p Shuts es fit may h = let f : Refused _ ≡ Fine = h.1.1 in absurd (cc)
-  own_write w d b p (Lists numbered) es fit may h = h
-  own_write w d b p (Starts {k = k} l) es fit may h = (h.0, started_write d k es h.1)
+  own_write w d b p (Lists n) es fit may h = h
+  own_write w d b p (Starts {k = k}) es fit may h = (h.0, started_write d k es h.1)
   own_write w d b p (Loads {k = k} {b = n} {got = got} block) es fit may h = absurd (loaded_write d k n got block es h.1)
   own_write w d b p LoadFails es fit may h = let f : Refused _ ≡ Fine = h.1.1 in absurd (cc)
   own_write w d b p (Holds {k = k} {side = side} block) es fit may h = (h.0, held_write d k side es h.1)

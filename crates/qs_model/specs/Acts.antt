@@ -3,10 +3,10 @@ use Rattle.std.specs.Prelude.{ℕ, Bool, List, Option, Some, None}
 use Rattle.qs_bytes.specs.declared.ask.Verdict.{Verdict}
 use Rattle.qs_outside.specs.declared.rigged_disk.Fail.{Fail}
 use Rattle.qs_part.specs.declared.graph.ExportInfo.{ExportInfo}
+use Rattle.qs_part.specs.declared.graph.GraphOp.{GraphOp}
 use Rattle.qs_part.specs.declared.graph.Route.{Route}
 use Rattle.qs_part.specs.declared.stripe.Side.{Side}
 use Rattle.qs_model.specs.Requests.{Client, Req, Stage, ToRoute, ToList, ToStart, ToLoad, ToHold, ToStore, ToFree, ToEnd, Ready, Entering, In, edge}
-use Rattle.qs_model.specs.Worlds.{Tracker, Listing, Export}
 
 -- an answer that isn't in the request table: the request stays where it is
 pub data Wait : Type 0 where
@@ -18,17 +18,17 @@ pub data Wait : Type 0 where
   Strange : Wait
   NotHeld : Wait
 
--- The rows of the request table, by the stage of the request. What the part or its disk chose
--- stands in the row: the tracker as it is numbered when a span is listed, the bytes of a block,
--- whether a refused store took all the same, and what a crash may leave of a stored block.
+-- The rows of the request table, by the stage of the request. What the part answered or its disk chose
+-- stands in the row: the place, the way, the number of a listed span, the bytes of a block, whether a refused
+-- store took all the same, and what a crash may leave of a stored block.
 pub data Act : Stage → Type 0 where
   Answers : {v : Verdict} → Act (Ready v)
   Waits : {stage : Stage} → Wait → Act stage
   Enters : (k : ℕ) → Act Entering
   Routes : {k : ℕ} → Route → Act (In k ToRoute)
   Shuts : {k : ℕ} → Act (In k ToRoute)
-  Lists : {k : ℕ} → (numbered : Tracker) → Act (In k ToList)
-  Starts : {k : ℕ} → Listing → Act (In k ToStart)
+  Lists : {k : ℕ} → (n : ℕ) → Act (In k ToList)
+  Starts : {k : ℕ} → Act (In k ToStart)
   Loads : {k b : ℕ} {got : List ℕ} → (bytes : List ℕ) → Act (In k (ToLoad b got))
   LoadFails : {k b : ℕ} {got : List ℕ} → Act (In k (ToLoad b got))
   Holds : {k : ℕ} {side : Side} → (bytes : List ℕ) → Act (In k (ToHold side))
@@ -39,8 +39,8 @@ pub data Act : Stage → Type 0 where
   Ends : {k : ℕ} {v : Verdict} → Act (In k (ToEnd v))
 
 -- One step of a run. A session attaches to the export at a place, is refused, leaves, is detached;
--- a request is made; a request, as it stands, does one row; an export is made; a failure is planned for the
--- disk of a stripe; a crash leaves these blocks.
+-- a request is made; a request, as it stands, does one row; an operation of the graph makes the export at a
+-- place; a failure is planned for the disk of a stripe; a crash leaves these blocks.
 pub data Element : Type 0 where
   Attached : (s : ℕ) (name : List ℕ) → ExportInfo → Element
   NoExport : (s : ℕ) (name : List ℕ) → Element
@@ -50,7 +50,7 @@ pub data Element : Type 0 where
   NotAttached : (s e : ℕ) → Element
   Asked : (r : ℕ) → Client → Element
   Did : (r : ℕ) (q : Req) → Act q.stage → Element
-  Exported : (e : ℕ) → Export → Element
+  Exported : (op : GraphOp) (e : ℕ) → Element
   Planned : (j : ℕ) → Fail → Element
   Crashed : (left : ℕ → List ℕ) → Element
 

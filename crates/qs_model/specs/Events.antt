@@ -13,8 +13,8 @@ use Rattle.qs_part.specs.declared.event.Outcome.{Outcome}
 use Rattle.qs_part.specs.declared.event.Outcome.TheVariants.{Attached as AttachedOut, NoExport as NoExportOut, Crowded as CrowdedOut, Left as LeftOut, Made, Moved, Answered}
 use Rattle.qs_part.specs.declared.tracker.TrackerReply.{TrackerReply}
 use Rattle.qs_part.specs.declared.tracker.TrackerReply.TheVariants.{Entered, Quiesced as QuiescedReply, Full as FullReply, Listed, Strange as StrangeReply, Started, NotYet as NotYetReply, Ended}
-use Rattle.qs_part.specs.declared.graph.GraphReply.{GraphReply}
-use Rattle.qs_part.specs.declared.graph.GraphReply.TheVariants.{NotAttached as NotAttachedReply, Detached as DetachedReply, Shutting, Routed}
+use Rattle.qs_part.specs.declared.event.GraphNote.{GraphNote}
+use Rattle.qs_part.specs.declared.event.GraphNote.TheVariants.{NotAttached as NotAttachedNote, Detached as DetachedNote, Shutting, Routed}
 use Rattle.qs_model.specs.Requests.{Client, Stage, ToList, ToStart, ToHold, ToStore, ToFree, ToEnd, Entering, In, edge, writes, verdict}
 use Rattle.qs_model.specs.Acts.{Act, Answers, Waits, Enters, Routes, Shuts, Lists, Starts, Loads, LoadFails, Holds, HoldFails, Stores, StoreFails, Frees, Ends, Wait, Quiesced, Full, NotYet, HeldBy, Taken, Strange, NotHeld, Element, Attached, NoExport, Crowded, Left, Detached, NotAttached, Asked, Did}
 
@@ -22,7 +22,7 @@ use Rattle.qs_model.specs.Acts.{Act, Answers, Waits, Enters, Routes, Shuts, List
 abbrev pub tracker_note : OpKind → TrackerReply → Option Note
 tracker_note kind reply = Some (record { kind = kind; at = None; reply = OfTracker reply })
 
-abbrev pub graph_note : OpKind → GraphReply → Option Note
+abbrev pub graph_note : OpKind → GraphNote → Option Note
 graph_note kind reply = Some (record { kind = kind; at = None; reply = OfGraph reply })
 
 abbrev pub stripe_note : OpKind → ℕ → StripeNote → Option Note
@@ -49,8 +49,8 @@ note_of A c (Waits {stage = stage} wait) = wait_note A c stage wait
 note_of A c (Enters k) = tracker_note Enter (Entered k)
 note_of A c (Routes route) = graph_note RouteOp (Routed route)
 note_of A c Shuts = graph_note RouteOp Shutting
-note_of A c (Lists numbered) = tracker_note ListOp (Listed numbered.number)
-note_of A c (Starts l) = tracker_note Start Started
+note_of A c (Lists n) = tracker_note ListOp (Listed n)
+note_of A c Starts = tracker_note Start Started
 note_of A c (Loads {b = b} bytes) = stripe_note Load b Filled
 note_of A c (LoadFails {b = b}) = stripe_note Load b Fault
 note_of A c (Holds {side = side} bytes) = stripe_note HoldOp (edge A c side) Filled
@@ -76,8 +76,8 @@ outcome_of A (Attached s name info) = Some (AttachedOut info)
 outcome_of A (NoExport s name) = Some NoExportOut
 outcome_of A (Crowded s name) = Some CrowdedOut
 outcome_of A (Left s e) = Some LeftOut
-outcome_of A (Detached s e) = moved_out (graph_note Detach DetachedReply)
-outcome_of A (NotAttached s e) = moved_out (graph_note Detach NotAttachedReply)
+outcome_of A (Detached s e) = moved_out (graph_note Detach DetachedNote)
+outcome_of A (NotAttached s e) = moved_out (graph_note Detach NotAttachedNote)
 outcome_of A (Asked r c) = Some (Made r)
 outcome_of A (Did r q act) = row_outcome A q.client q.dropped act
 outcome_of A _ = None

@@ -1,8 +1,9 @@
 -- A padded write as a run: two bytes at 3 of an image of two blocks of 4 bytes.
-use Rattle.std.specs.Prelude.{ℕ, true, false, List, [], ◌∷◌, Option, Some, None}
+use Rattle.std.specs.Prelude.{ℕ, true, false, List, [], ◌∷◌, replicate, Option, Some, None}
 use Rattle.qs_bytes.specs.declared.ask.Ask.{Ask}
 use Rattle.qs_bytes.specs.declared.ask.Kind.TheVariants.{Write}
 use Rattle.qs_bytes.specs.declared.ask.Verdict.TheVariants.{Fine}
+use Rattle.qs_outside.specs.Rigged.{no_plans}
 use Rattle.qs_part.specs.declared.event.OpKind.TheVariants.{Enter, List as ListOp, Start, End, Hold as HoldOp, Store, Route as RouteOp}
 use Rattle.qs_part.specs.declared.event.StripeNote.TheVariants.{Filled, Done}
 use Rattle.qs_part.specs.declared.event.NoteReply.{NoteReply}
@@ -11,22 +12,21 @@ use Rattle.qs_part.specs.declared.event.OpKind.{OpKind}
 use Rattle.qs_part.specs.declared.event.Outcome.{Outcome}
 use Rattle.qs_part.specs.declared.event.Outcome.TheVariants.{Attached as AttachedOut, Made, Moved, Answered}
 use Rattle.qs_part.specs.declared.tracker.TrackerReply.TheVariants.{Entered, Listed, Started, Ended}
-use Rattle.qs_part.specs.declared.graph.GraphReply.TheVariants.{Routed}
+use Rattle.qs_part.specs.declared.graph.GraphOp.TheVariants.{ExportAdd}
+use Rattle.qs_part.specs.declared.event.GraphNote.TheVariants.{Routed}
 use Rattle.qs_part.specs.declared.graph.ExportInfo.{ExportInfo}
 use Rattle.qs_part.specs.declared.graph.Route.{Route}
 use Rattle.qs_part.specs.declared.stripe.Side.TheVariants.{Head, Tail}
-use Rattle.qs_model.specs.Puts.{put}
 use Rattle.qs_model.specs.Requests.{Client, Pads, Req, Stage, no_route, ToRoute, ToList, ToStart, ToHold, ToStore, ToEnd, Entering, In}
-use Rattle.qs_model.specs.Worlds.{Tracker, Vacant, Present}
+use Rattle.qs_model.specs.Worlds.{Opening}
 use Rattle.qs_model.specs.Acts.{Enters, Routes, Lists, Starts, Holds, Stores, Ends, Element, Attached, Asked, Did, Exported}
-use Rattle.qs_model.specs.Steps.{listing}
 
 abbrev pub zeros : List ℕ
 zeros = 0 ∷ 0 ∷ 0 ∷ 0 ∷ []
 
 -- the way of an export that is the whole image
 abbrev pub whole : Route
-whole = record { offset = 0; size = 8; writable = true; groups = []; count = 0 }
+whole = record { offset = 0; size = 8; writable = true; groups = replicate 8 (0, 0); count = 0 }
 
 abbrev pub info : ExportInfo
 info = record { e = 0; size = 8; writable = true }
@@ -43,20 +43,29 @@ pads head tail = record { head = head; tail = tail }
 abbrev pub request : Route → Pads → Stage → Req
 request route p stage = record { client = client route; dropped = false; pads = p; stage = stage }
 
--- the tracker with the request at place 0
-abbrev pub entered : Tracker
-entered = record { quiesced = false; number = 0; seat = put (λ k. Vacant) 0 Present }
+-- the core over an image of two blocks of zeros
+abbrev pub opened : Opening
+opened = record {
+  tells = true;
+  plans = λ j. no_plans;
+  now = λ b. zeros;
+  past = λ b. zeros ∷ [];
+  clean = λ s. true;
+  size = 8;
+  file = 102 ∷ [];
+  read_only = false;
+}
 
 -- a session attaches, asks, and its request goes its way to the answer
 abbrev pub padded : List Element
 padded =
-    Exported 0 (record { name = 100 ∷ []; route = whole })
+    Exported (ExportAdd (101 ∷ []) (100 ∷ []) (102 ∷ []) true false) 0
     ∷ Attached 1 (100 ∷ []) info
     ∷ Asked 0 (client no_route)
     ∷ Did 0 (request no_route (pads [] []) Entering) (Enters 0)
     ∷ Did 0 (request no_route (pads [] []) (In 0 ToRoute)) (Routes whole)
-    ∷ Did 0 (request whole (pads [] []) (In 0 ToList)) (Lists entered)
-    ∷ Did 0 (request whole (pads [] []) (In 0 ToStart)) (Starts (listing 4 (client whole) 0))
+    ∷ Did 0 (request whole (pads [] []) (In 0 ToList)) (Lists 0)
+    ∷ Did 0 (request whole (pads [] []) (In 0 ToStart)) Starts
     ∷ Did 0 (request whole (pads [] []) (In 0 (ToHold Head))) (Holds zeros)
     ∷ Did 0 (request whole (pads zeros []) (In 0 (ToHold Tail))) (Holds zeros)
     ∷ Did 0 (request whole (pads zeros zeros) (In 0 (ToStore 0))) (Stores (0 ∷ 0 ∷ 0 ∷ 7 ∷ []) (zeros ∷ (0 ∷ 0 ∷ 0 ∷ 7 ∷ []) ∷ []))

@@ -5,21 +5,26 @@ use Rattle.qs_bytes.specs.Spans.{Covers, aligned_out}
 use Rattle.qs_cells.specs.declared.cell.CellEntry.{CellEntry}
 use Rattle.qs_cells.specs.declared.cell.CellEntry.TheVariants.{Read, Write}
 use Rattle.qs_cells.specs.Cells.{value_after, Legal}
-use Rattle.qs_outside.specs.declared.rigged_disk.Plans.{Plans}
 use Rattle.qs_part.specs.declared.graph.Route.{Route}
+use Rattle.qs_part.specs.declared.tracker.TrackerOp.TheVariants.{Start}
+use Rattle.qs_part.specs.declared.tracker.TrackerReply.TheVariants.{Started}
+use Rattle.qs_tracker.specs.declared.seat.Listing.{Listing}
+use Rattle.qs_tracker.specs.declared.seat.Seat.TheVariants.{Vacant}
+use Rattle.qs_tracker.specs.Seats.{Conflict, seat_at}
+use Rattle.qs_tracker.specs.Table.{TrackerValue, May as TrackerMay}
+use Rattle.qs_tracker.specs.History.{Goes, IsLowest}
 use Rattle.qs_model.specs.Requests.{Client, Req, Step, In, span_of, covers, serial, body_at}
-use Rattle.qs_model.specs.Worlds.{Listing, Vacant, Has, Conflict, Tracker, World, byte_at, new_world}
-use Rattle.qs_model.specs.Acts.{Element, Did, Exported, Planned, Crashed}
-use Rattle.qs_model.specs.Guards.{CanStart}
+use Rattle.qs_model.specs.Worlds.{World, Opening, byte_at, new_world}
+use Rattle.qs_model.specs.Acts.{Element, Asked, Did, Exported, Planned, Crashed}
 use Rattle.qs_model.specs.Steps.{after}
 use Rattle.qs_part.specs.declared.event.Event.{Event}
 use Rattle.qs_part.specs.declared.event.Outcome.{Outcome}
 use Rattle.qs_model.specs.Events.{outcome_of, IsEvent}
-use Rattle.qs_model.specs.Histories.{cell, is_of, Acts, Answered, IsAnswer, IsAsk, IsStore, IsStoreOf, IsRouted, IsOddStep, IsEntry}
+use Rattle.qs_model.specs.Histories.{cell, cell_at, is_of, Acts, Answered, IsAnswer, IsAsk, IsStore, IsStoreOf, IsRouted, IsOddStep, IsEntry}
 
--- the core over disks with this content and these plans, as it was made
-abbrev pub opening : Bool → (ℕ → Plans) → (ℕ → List ℕ) → World
-opening tells plans now = new_world tells 0 plans now
+-- the core as it was made
+abbrev pub opening : Opening → World
+opening o = new_world 0 o
 
 -- in the list es, e is the step behind `before`
 abbrev pub Follows : List Element → Element → List Element → Type 0
@@ -35,14 +40,16 @@ Alters A x (Did r q act) = IsStoreOf A x q.client act
 Alters A x (Crashed left) = Unit {0}
 Alters A x _ = ⊥
 
--- Each byte's reads and writes are one legal history of a single cell, and at every position the
--- byte is what that history leaves. No other step changes it.
-pub record Cells (A : ℕ) (w : World) (es : List Element) : Type 0 where
-  pub legal : (x : ℕ) → Legal (byte_at A w.image x) (cell A x es)
+-- Only a store by a write that covers it, or a crash, changes a byte; at every position it is what its history leaves.
+pub record Covered (A : ℕ) (w : World) (es : List Element) : Type 0 where
   pub now : (x : ℕ) (before : List Element) → Begins before es →
       byte_at A (after A w before).image x ≡ value_after (byte_at A w.image x) (cell A x before)
   pub still : (x : ℕ) (before : List Element) (e : Element) → Follows before e es → (Alters A x e → ⊥) →
       byte_at A (after A w (before ++ e ∷ [])).image x ≡ byte_at A (after A w before).image x
+
+-- each byte's reads and writes are one legal history of a single cell
+abbrev pub Histories : ℕ → World → List Element → Type 0
+Histories A w es = (x : ℕ) → Legal (byte_at A w.image x) (cell A x es)
 
 -- some step made the request
 abbrev pub WasAsked : ℕ → List Element → Type 0
@@ -105,12 +112,10 @@ abbrev pub Writable : List Element → Type 0
 Writable es = (r : ℕ) (c : Client) (before : List Element) (e : Element) → Follows before e es → IsStore r c e →
     (c.route.writable ≡ true) × WasRouted r c.route before
 
--- Of the started spans no two conflict, and of all listed spans the one of lowest number can start.
-pub record Ordered (t : Tracker) : Type 0 where
-  pub apart : (j k : ℕ) (l m : Listing) → t.seat j ≡ Has l → t.seat k ≡ Has m →
-      l.started ≡ true → m.started ≡ true → Conflict l m → j ≡ k
-  pub lowest : (k : ℕ) (l : Listing) → t.seat k ≡ Has l →
-      ((j : ℕ) (m : Listing) → t.seat j ≡ Has m → l.number ≤ m.number) → CanStart t k l
+-- Of the spans that go no two conflict, and of all listed spans the one of lowest number can start.
+pub record Ordered (t : TrackerValue) : Type 0 where
+  pub apart : (j k : ℕ) (l m : Listing) → Goes t j l → Goes t k m → Conflict l m → j ≡ k
+  pub lowest : (k : ℕ) (l : Listing) → IsLowest t k l → TrackerMay t (Start k) Started
 
 -- and so at every position
 abbrev pub Tracked : ℕ → World → List Element → Type 0
@@ -130,10 +135,10 @@ IsDrained w = (r k : ℕ) → InFlight w r k → ⊥
 -- Requests in flight have distinct places, each of these is taken, and no other place is. So no
 -- place is taken exactly where the tracker is drained.
 pub record Placed (w : World) : Type 0 where
-  pub taken : (r k : ℕ) → InFlight w r k → w.tracker.seat k ≢ Vacant
+  pub taken : (r k : ℕ) → InFlight w r k → seat_at w.tracker.seats k ≢ Vacant
   pub one : (r s k : ℕ) → InFlight w r k → InFlight w s k → r ≡ s
-  pub manned : (k : ℕ) → w.tracker.seat k ≢ Vacant → (r : ℕ) × InFlight w r k
-  pub drained : ((k : ℕ) → w.tracker.seat k ≡ Vacant) ↔ IsDrained w
+  pub manned : (k : ℕ) → seat_at w.tracker.seats k ≢ Vacant → (r : ℕ) × InFlight w r k
+  pub drained : ((k : ℕ) → seat_at w.tracker.seats k ≡ Vacant) ↔ IsDrained w
 
 -- and so at every position
 abbrev pub InPlace : ℕ → World → List Element → Type 0
@@ -141,7 +146,7 @@ InPlace A w es = (before : List Element) → Begins before es → Placed (after 
 
 -- the making of an export, a planned failure, and a crash
 abbrev pub IsOutside : Element → Type 0
-IsOutside (Exported e x) = Unit {0}
+IsOutside (Exported op e) = Unit {0}
 IsOutside (Planned j fail) = Unit {0}
 IsOutside (Crashed left) = Unit {0}
 IsOutside _ = ⊥
@@ -151,15 +156,60 @@ abbrev pub Evented : ℕ → List Element → Type 0
 Evented A es = (before : List Element) (e : Element) → Follows before e es →
     IsOutside e ⊎ ((event : Event) × (outcome : Outcome) × (IsEvent event e × (outcome_of A e ≡ Some outcome)))
 
--- The laws together. Where the disks tell no content, nothing is said of the bytes.
+-- a step is a READ's entry of the byte at x
+abbrev pub IsRead : ℕ → ℕ → ℕ → Element → Type 0
+IsRead A x r e = (v : ℕ) × (cell_at A x e ≡ Read r v ∷ [])
+
+-- a step is an entry of the byte at x by the request of this number
+pub record IsEntryOf (A x r : ℕ) (e : Element) : Type 0 where
+  pub entry : CellEntry
+  pub is : cell_at A x e ≡ entry ∷ []
+  pub own : is_of r entry ≡ true
+
+-- some step answered the request
+abbrev pub WasAnswered : ℕ → List Element → Type 0
+WasAnswered r [] = ⊥
+WasAnswered r (e ∷ es) = IsAnswer r e ⊎ WasAnswered r es
+
+-- Behind these steps a session has seen the entry e of the byte at x, which stands behind `front`: it is an entry of one of its
+-- requests, and that request was answered.
+pub record HasSeen (A x session : ℕ) (steps front : List Element) (e : Element) : Type 0 where
+  pub stands : Follows front e steps
+  pub number : ℕ
+  pub entry : IsEntryOf A x number e
+  pub made : List Element
+  pub client : Client
+  pub asked : Follows made (Asked number client) steps
+  pub own : client.session ≡ session
+  pub answered : WasAnswered number steps
+
+-- A read behind these steps stands behind every entry that its session had seen when it asked.
+pub record IsNoneOlder (A x r : ℕ) (before : List Element) : Type 0 where
+  pub made : List Element
+  pub client : Client
+  pub asked : Follows made (Asked r client) before
+  pub seen : (front : List Element) (e : Element) → HasSeen A x client.session made front e → Follows front e before
+
+abbrev pub NoneOlder : ℕ → List Element → Type 0
+NoneOlder A es = (x r : ℕ) (before : List Element) (e : Element) → Follows before e es → IsRead A x r e → IsNoneOlder A x r before
+
+-- The headline, clause by clause: each byte's reads and writes form one legal history of a single cell, none older than its session
+-- had seen; only a write covering a byte changes it; a padded write is undivided. Where the disks tell no content, nothing is
+-- said of the bytes.
 pub record Headline (A : ℕ) (w : World) (es : List Element) : Type 0 where
-  pub cells : IsTrue w.tells → Cells A w es
+  pub one_history : IsTrue w.tells → Histories A w es
+  pub none_older : NoneOlder A es
+  pub covered : IsTrue w.tells → Covered A w es
+  pub undivided : Undivided A es
+
+-- What is kept besides: when requests act, what each READ and WRITE has done once, no odd answer, no store without leave, the order
+-- of spans, places, and that each step is an event's.
+pub record Besides (A : ℕ) (w : World) (es : List Element) : Type 0 where
   pub between : Between es
   pub reads_once : ReadsOnce A es
   pub writes_once : WritesOnce A es
-  pub undivided : Undivided A es
   pub never_odd : NeverOdd es
   pub writable : Writable es
   pub tracked : Tracked A w es
-  pub evented : Evented A es
   pub in_place : InPlace A w es
+  pub evented : Evented A es

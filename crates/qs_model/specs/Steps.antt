@@ -2,14 +2,19 @@
 use Rattle.std.specs.Prelude.{ℕ, ◌+◌, Bool, true, false, List, [], ◌∷◌, ◌==◌, Option, Some, None, if◌then◌else◌}
 use Rattle.qs_bytes.specs.declared.ask.Verdict.TheVariants.{Refused}
 use Rattle.qs_bytes.specs.declared.ask.Errno.TheVariants.{Io, Shutdown}
-use Rattle.qs_bytes.specs.Spans.{aligned_out}
 use Rattle.qs_outside.specs.declared.rigged_disk.Plans.{Plans}
 use Rattle.qs_outside.specs.Rigged.{no_plans, planned_too}
+use Rattle.qs_part.specs.declared.graph.GraphOp.TheVariants.{Attach, Detach}
+use Rattle.qs_part.specs.declared.graph.GraphReply.TheVariants.{Added, Attached as AttachedReply, Detached as DetachedReply}
+use Rattle.qs_part.specs.declared.tracker.TrackerOp.TheVariants.{Enter, Start, End}
+use Rattle.qs_part.specs.declared.tracker.TrackerReply.TheVariants.{Entered, Listed, Started, Ended}
+use Rattle.qs_graph.specs.Table.{after as graph_after}
+use Rattle.qs_tracker.specs.Table.{TrackerValue, after as tracker_after}
 use Rattle.qs_model.specs.Puts.{put, without}
-use Rattle.qs_model.specs.Requests.{Client, Pads, Req, Stage, ToRoute, ToStart, ToEnd, In, edge, span_of, serial, keep, asked, routed, started, loaded, held, hold_failed, stored, store_failed, abandon}
-use Rattle.qs_model.specs.Worlds.{Tracker, Listing, Vacant, Present, Has, Image, stripe_of, Away, Live, Leaving, World, new_world}
+use Rattle.qs_model.specs.Requests.{Client, Pads, Req, Stage, ToRoute, ToStart, ToEnd, In, edge, keep, asked, routed, started, loaded, held, hold_failed, stored, store_failed, abandon}
+use Rattle.qs_model.specs.Worlds.{Image, stripe_of, Away, Live, Leaving, World, Opening, new_world}
 use Rattle.qs_model.specs.Acts.{Act, Answers, Waits, Enters, Routes, Shuts, Lists, Starts, Loads, LoadFails, Holds, HoldFails, Stores, StoreFails, Frees, Ends, Element, Attached, NoExport, Crowded, Left, Detached, NotAttached, Asked, Did, Exported, Planned, Crashed}
-use Rattle.qs_model.specs.Guards.{May}
+use Rattle.qs_model.specs.Guards.{list_op, May}
 
 abbrev pub request : Client → Bool → Pads → Stage → Option Req
 request c dropped p stage = Some (record { client = c; dropped = dropped; pads = p; stage = stage })
@@ -21,8 +26,8 @@ moved A c d p (Waits {stage = stage} wait) = request c d p stage
 moved A c d p (Enters k) = request c d p (In k ToRoute)
 moved A c d p (Routes {k = k} route) = request (record c { route = route }) d p (In k (routed (record c { route = route })))
 moved A c d p (Shuts {k = k}) = request c d p (In k (ToEnd (Refused Shutdown)))
-moved A c d p (Lists {k = k} numbered) = request c d p (In k ToStart)
-moved A c d p (Starts {k = k} l) = request c d p (In k (started A c))
+moved A c d p (Lists {k = k} n) = request c d p (In k ToStart)
+moved A c d p (Starts {k = k}) = request c d p (In k (started A c))
 moved A c d p (Loads {k = k} {b = b} {got = got} bytes) = request c d p (In k (loaded A c b got bytes))
 moved A c d p (LoadFails {k = k}) = request c d p (In k (ToEnd (Refused Io)))
 moved A c d p (Holds {k = k} {side = side} bytes) = request c d (keep p side bytes) (In k (held A c side))
@@ -32,17 +37,12 @@ moved A c d p (StoreFails {k = k} {b = b} bytes took past) = request c d p (In k
 moved A c d p (Frees {k = k}) = request c d p (In k (ToEnd (Refused Io)))
 moved A c d p Ends = None
 
--- what the tracker keeps of a span: the whole blocks that the request reaches
-abbrev pub listing : ℕ → Client → ℕ → Listing
-listing A c n = record { span = aligned_out (span_of c) A; serial = serial A c; number = n; started = false }
-
 -- the tracker after a row of the request table
-abbrev pub tracked : ℕ → Tracker → Client → {stage : Stage} → Act stage → Tracker
-tracked A t c (Enters k) = record t { seat = put t.seat k Present }
-tracked A t c (Lists {k = k} numbered) =
-    record numbered { number = numbered.number + 1; seat = put numbered.seat k (Has (listing A c numbered.number)) }
-tracked A t c (Starts {k = k} l) = record t { seat = put t.seat k (Has (record l { started = true })) }
-tracked A t c (Ends {k = k}) = record t { seat = put t.seat k Vacant }
+abbrev pub tracked : ℕ → TrackerValue → Client → {stage : Stage} → Act stage → TrackerValue
+tracked A t c (Enters k) = tracker_after t Enter (Entered k)
+tracked A t c (Lists {k = k} n) = tracker_after t (list_op A c k) (Listed n)
+tracked A t c (Starts {k = k}) = tracker_after t (Start k) Started
+tracked A t c (Ends {k = k}) = tracker_after t (End k) Ended
 tracked A t c _ = t
 
 -- a block was written, or the disk refused and it has `now` all the same; the hold on it is gone
@@ -85,18 +85,33 @@ abbrev pub leaves : ℕ → Option Req → Option Req
 leaves s None = None
 leaves s (Some q) = Some (if q.client.session == s then abandon q else q)
 
+-- the disks and the file node as a crash leaves them: each block is what was left, and nothing is planned
+abbrev pub crashed : World → (ℕ → List ℕ) → Opening
+crashed w left = record {
+  tells = w.tells;
+  plans = λ j. no_plans;
+  now = left;
+  past = λ b. left b ∷ [];
+  clean = λ s. true;
+  size = w.graph.size;
+  file = w.graph.file;
+  read_only = w.graph.read_only;
+}
+
 -- the core after a step
 abbrev pub happens : ℕ → World → Element → World
 happens A w (Attached s name info) = record w {
   session = put w.session s (Live info.e);
-  graph = record w.graph { clients = put w.graph.clients info.e (s ∷ w.graph.clients info.e) };
+  graph = graph_after w.graph (Attach name) (AttachedReply info);
+  clients = put w.clients info.e (s ∷ w.clients info.e);
 }
 happens A w (NoExport s name) = w
 happens A w (Crowded s name) = w
 happens A w (Left s e) = record w { session = put w.session s (Leaving e); req = λ r. leaves s (w.req r) }
 happens A w (Detached s e) = record w {
   session = put w.session s Away;
-  graph = record w.graph { clients = put w.graph.clients e (without s (w.graph.clients e)) };
+  graph = graph_after w.graph (Detach e) DetachedReply;
+  clients = put w.clients e (without s (w.clients e));
 }
 happens A w (NotAttached s e) = w
 happens A w (Asked r c) = record w { next = w.next + 1; req = put w.req r (Some (asked c)) }
@@ -106,9 +121,9 @@ happens A w (Did r q act) = record w {
   image = imaged A w.image q.client act;
   plans = spent A w.plans q.client act;
 }
-happens A w (Exported e x) = record w { graph = record w.graph { export = put w.graph.export e (Some x) } }
+happens A w (Exported op e) = record w { graph = graph_after w.graph op (Added e) }
 happens A w (Planned j fail) = record w { plans = put w.plans j (planned_too fail (w.plans j)) }
-happens A w (Crashed left) = new_world w.tells w.next (λ j. no_plans) left
+happens A w (Crashed left) = new_world w.next (crashed w left)
 
 -- the core after a list of steps
 abbrev pub after : ℕ → World → List Element → World

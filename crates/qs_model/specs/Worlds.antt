@@ -1,33 +1,10 @@
 -- The state of the core: sessions, requests, graph, tracker, image and planned failures.
-use Rattle.std.specs.Prelude.{ℕ, ◌/◌, ◌%◌, ◌⊎◌, Bool, true, false, List, [], ◌∷◌, Option, None, IsTrue, get_or}
-use Rattle.qs_bytes.specs.Spans.{Places, Overlap}
+use Rattle.std.specs.Prelude.{ℕ, ◌/◌, ◌%◌, Bool, List, [], Option, None, get_or}
 use Rattle.qs_outside.specs.declared.rigged_disk.Plans.{Plans}
-use Rattle.qs_part.specs.declared.graph.Route.{Route}
 use Rattle.qs_part.specs.declared.stripe.Side.{Side}
+use Rattle.qs_graph.specs.Table.{GraphValue, fresh as new_graph}
+use Rattle.qs_tracker.specs.Table.{TrackerValue, fresh as new_tracker}
 use Rattle.qs_model.specs.Requests.{Req}
-
--- a listed span: whole blocks, whether it is serialising, its number in the order of listing
-pub record Listing : Type 0 where
-  pub span : Places
-  pub serial : Bool
-  pub number : ℕ
-  pub started : Bool
-
--- a place of the tracker
-pub data Seat : Type 0 where
-  Vacant : Seat
-  Present : Seat
-  Has : Listing → Seat
-
--- the tracker of requests in flight: whether a quiesce stands, the next number, and the 256 places
-pub record Tracker : Type 0 where
-  pub quiesced : Bool
-  pub number : ℕ
-  pub seat : ℕ → Seat
-
--- two listed spans conflict: they overlap, and one of them is serialising (QEMU block/io.c)
-abbrev pub Conflict : Listing → Listing → Type 0
-Conflict l m = Overlap l.span m.span × (IsTrue l.serial ⊎ IsTrue m.serial)
 
 -- who holds a block, and for which end of its span
 pub record Hold : Type 0 where
@@ -50,54 +27,50 @@ stripe_of b = (b / 16) % 8
 abbrev pub byte_at : ℕ → Image → ℕ → ℕ
 byte_at A image x = get_or (image.now (x / A)) (x % A) 0
 
--- a standing export: its name, and its way to the image
-pub record Export : Type 0 where
-  pub name : List ℕ
-  pub route : Route
-
--- the exports by place, and the sessions that are their clients
-pub record Graph : Type 0 where
-  pub export : ℕ → Option Export
-  pub clients : ℕ → List ℕ
-
 -- a session that isn't there, one that is attached to the export at a place, or one that has left it
 pub data Session : Type 0 where
   Away : Session
   Live : (e : ℕ) → Session
   Leaving : (e : ℕ) → Session
 
--- All of the core. `tells` says whether the disks tell their content, `next` is the number of the
--- next request; a request that has ended is None. `plans` has the failures that are planned for the
--- disk of each stripe.
+-- All of the core. The graph and the tracker are those parts' own values; `clients` has the sessions that are
+-- clients of the export at each place, which the graph counts. `tells` says whether the disks tell their content,
+-- `next` is the number of the next request; a request that has ended is None. `plans` has the failures that are
+-- planned for the disk of each stripe.
 pub record World : Type 0 where
   pub tells : Bool
   pub next : ℕ
   pub req : ℕ → Option Req
   pub session : ℕ → Session
-  pub graph : Graph
-  pub tracker : Tracker
+  pub graph : GraphValue
+  pub clients : ℕ → List ℕ
+  pub tracker : TrackerValue
   pub image : Image
   pub plans : ℕ → Plans
 
-abbrev pub new_tracker : Tracker
-new_tracker = record { quiesced = false; number = 0; seat = λ k. Vacant }
+-- What the core is opened over. Of the disks: whether they tell their content, the failures that are planned for
+-- them, what each block holds, what a crash may leave of it, and the stripes that stored nothing since their last
+-- sync. Of the file node: its bytes, its name, and whether it is read-only.
+pub record Opening : Type 0 where
+  pub tells : Bool
+  pub plans : ℕ → Plans
+  pub now : ℕ → List ℕ
+  pub past : ℕ → List (List ℕ)
+  pub clean : ℕ → Bool
+  pub size : ℕ
+  pub file : List ℕ
+  pub read_only : Bool
 
-abbrev pub new_graph : Graph
-new_graph = record { export = λ e. None; clients = λ e. [] }
-
--- the blocks as a crash or a sync of all stripes leaves them
-abbrev pub settled : (ℕ → List ℕ) → Image
-settled now = record { now = now; past = λ b. now b ∷ []; holder = λ b. None; clean = λ s. true }
-
--- the core over disks with this content and these plans, after n requests were made
-abbrev pub new_world : Bool → ℕ → (ℕ → Plans) → (ℕ → List ℕ) → World
-new_world tells n plans now = record {
-  tells = tells;
+-- the core over these, after n requests were made
+abbrev pub new_world : ℕ → Opening → World
+new_world n o = record {
+  tells = o.tells;
   next = n;
   req = λ r. None;
   session = λ s. Away;
-  graph = new_graph;
-  tracker = new_tracker;
-  image = settled now;
-  plans = plans;
+  graph = new_graph o.size o.file o.read_only;
+  clients = λ e. [];
+  tracker = new_tracker 0;
+  image = record { now = o.now; past = o.past; holder = λ b. None; clean = o.clean };
+  plans = o.plans;
 }

@@ -39,7 +39,8 @@ pub trait Disk {
         ensures cause { HasCause (seen self.old).faults (seen self.new).faults result };
 
     /// Writes block `b`. A refused store left the old content or the new; other blocks stay. Where a
-    /// failure is planned it fails, and on a disk that isn't full it does what the plan says.
+    /// failure is planned it fails: a disk that isn't full then does what the plan says, and a crash may
+    /// leave the bytes all the same; a full one stores nothing.
     fn store(&mut self, b: u64, bytes: &[u8]) -> Result<(), Failed>
         requires block { IsBlock (seen self.old) b }
         requires whole { length bytes.now ≡ (seen self.old).align }
@@ -63,5 +64,6 @@ pub trait Disk {
         ensures fixed { Fixed (seen self.old) (seen self.new) }
         ensures works { OnOk result (MaySync (seen self.old)) }
         ensures planned { (seen self.new).planned ≡ sync_spent (seen self.old).planned }
+        ensures full { OnErr result ((seen self.new).full ≡ (seen self.old).full) }
         ensures cause { HasCause (seen self.old).faults (seen self.new).faults result };
 }

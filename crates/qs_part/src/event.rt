@@ -1,4 +1,4 @@
-use crate::graph::{ExportInfo, GraphReply};
+use crate::graph::{ExportInfo, Route};
 use crate::tracker::TrackerReply;
 use qs_bytes::{Ask, Bytes, Name, Verdict};
 
@@ -61,16 +61,25 @@ pub enum StripeNote {
     NotHeld,
 }
 
-/// A part's answer without buffers.
+/// What the graph answers to a request or to a session that has left.
 #[derive(Clone, Copy, Debug, PartialEq, Eq)]
+pub enum GraphNote {
+    NotAttached,
+    Detached,
+    Shutting,
+    Routed(Route),
+}
+
+/// A part's answer without buffers and tables.
+#[derive(Debug, PartialEq, Eq, Drop)]
 pub enum NoteReply {
     Tracker(TrackerReply),
-    Graph(GraphReply),
+    Graph(GraphNote),
     Stripe(StripeNote),
 }
 
 /// One operation and its answer; `at` is the block of Load, Hold, Store and Free.
-#[derive(Clone, Copy, Debug, PartialEq, Eq)]
+#[derive(Debug, PartialEq, Eq, Drop)]
 pub struct Note {
     pub kind: OpKind,
     pub at: Option<u64>,

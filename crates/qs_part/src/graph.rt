@@ -57,7 +57,7 @@ pub enum GraphOp {
 }
 
 /// What the graph answers.
-#[derive(Clone, Copy, Debug, PartialEq, Eq)]
+#[derive(Debug, PartialEq, Eq, Drop)]
 pub enum GraphReply {
     /// ExportAdd: the lowest place of an export with that id or name.
     Duplicate(u8),

@@ -6,15 +6,7 @@ pub mod Coming
 pub mod Spelling
 pub mod Replaying
 pub mod Turning
-pub mod Laws
 pub mod Reaching
-pub mod Twins
-pub mod TwinEvents
-pub mod TwinLines
-pub mod TwinEnds
-pub mod TwinStarts
-pub mod TwinFronts
-pub mod Functions
 pub mod Running
 pub mod Falling
 pub mod Known

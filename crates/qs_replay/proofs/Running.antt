@@ -1,30 +1,30 @@
 -- From the disks to the run.
-use Rattle.std.proofs.Common.{◌≡◌, ℕ, List, [], ◌∷◌, ◌++◌, refl, sym, subst, ap, ◌∙◌, inr}
-use Rattle.std.specs.Prelude.{Bool, Option, map}
+use Rattle.std.proofs.Common.{◌≡◌, ℕ, ◌<◌, List, [], ◌∷◌, ◌++◌, refl, sym, subst, ap, ◌∙◌, inl, inr, true, codes, arith}
+use Rattle.std.specs.Prelude.{false, Option, map}
 use Rattle.qs_bytes.specs.declared.status.Status.{Status}
 use Rattle.qs_bytes.specs.declared.status.Status.TheVariants as status
 use Rattle.qs_outside.specs.Blocks.{Seen}
-use Rattle.qs_image.specs.Image.{align_of, block_now}
-use Rattle.qs_image.specs.Opening.{IsImage}
-use Rattle.qs_model.specs.Acts.{Exported}
-use Rattle.qs_model.specs.Laws.{opening}
+use Rattle.qs_graph.specs.Table.{GraphValue}
+use Rattle.qs_image.specs.Image.{align_of}
+use Rattle.qs_image.specs.Opening.{IsAlign}
+use Rattle.qs_model.specs.Acts.{Element, Exported}
 use Rattle.qs_model.specs.Guards.{May}
 use Rattle.qs_model.specs.Steps.{happens}
-use Rattle.qs_model.specs.Worlds.{Export, World}
+use Rattle.qs_model.proofs.Headline.{besides, headline}
+use Rattle.qs_model.specs.Worlds.{Opening as OpenedOver}
+use Rattle.qs_verdicts.proofs.Judged.{judged}
+use Rattle.qs_part.specs.declared.graph.GraphOp.TheVariants.{ExportAdd}
 use Rattle.qs_request.specs.declared.shape.Shape.{Shape}
 use Rattle.qs_world.specs.Events.{Does}
-use Rattle.qs_world.specs.Images.{all_tell}
-use Rattle.qs_world.specs.Openings.{AreSettled, planned_of}
+use Rattle.qs_world.specs.Openings.{opening_over}
 use Rattle.qs_world.specs.Stands.{Stands}
-use Rattle.qs_world.specs.Values.{WorldValue, stripes_of}
+use Rattle.qs_world.specs.Values.{WorldValue}
 use Rattle.qs_replay.specs.Calls.{Call, Plays}
-use Rattle.qs_replay.specs.Runs.{Begins, HasRun, IsReplayed, Opening, most_lines, no_names}
+use Rattle.qs_replay.specs.Runs.{Begins, HasRun, IsReplayed, Opening, export, most_lines, no_names, opened}
 use Rattle.qs_replay.specs.Scripts.{AllDone, Replays, Scene, SoFar}
 use Rattle.qs_replay.specs.Tables.{Names}
-use Rattle.qs_replay.proofs.Laws.{headline, positive}
 use Rattle.qs_replay.proofs.Plays.{leads, plays_more}
 use Rattle.qs_replay.proofs.Reaching.{reaches}
-use Rattle.qs_replay.proofs.Functions.{same_replays}
 
 pub so_far_at : {D : Type 0} (seen : D → Seen) (a b : Scene D) (n m : ℕ) → n ≡ m → SoFar seen a n b → SoFar seen a m b
 so_far_at seen a b n m same so = subst (λ (k : ℕ). SoFar seen a k b) same so
@@ -38,33 +38,50 @@ plays_done {D} seen w t (text ∷ texts) calls printed w' t' done =
     (plays_more seen w done.first done.world done.later w' done.does.is.plays
     (plays_done seen done.world done.names texts done.later done.more w' t' done.rest))
 
--- a run behind the making of the export
-run_of : {D : Type 0} (seen : D → Seen) (disks : List Seen) (fresh start w : WorldValue D) (calls : List Call) (tells : Bool) (place : ℕ) (x : Export) →
-    IsImage disks → fresh.shape.align ≡ align_of disks → start.shape ≡ fresh.shape → Stands seen fresh (opening tells (planned_of disks) (block_now disks)) →
-    Does seen fresh (Exported place x) start → Plays seen start calls w → HasRun seen disks calls w
-run_of seen disks fresh start w calls tells place x image align shape stands does plays =
-    let A : ℕ = align_of disks in
-    let m : World = opening tells (planned_of disks) (block_now disks) in
-    let first : May A m (Exported place x) × Stands seen start (happens A m (Exported place x)) =
-    subst (λ (a : ℕ). May a m (Exported place x) × Stands seen start (happens a m (Exported place x))) align (does m stands) in
-    let on = leads seen A start calls w (happens A m (Exported place x)) (ap (λ (s : Shape). s.align) shape ∙ align) first.1 plays in
-    record {
-      tells = tells;
-      place = place;
-      export = x;
-      elements = on.elements;
-      are = on.are;
-      run = (first.0, on.run);
-      laws = headline A tells (planned_of disks) (block_now disks) (Exported place x ∷ on.elements) (positive A image.1.0) (first.0, on.run);
-      stands = on.stands;
-    }
+-- a block has bytes
+pub positive : (A : ℕ) → IsAlign A → 0 < A
+positive A (inl e) = omega arith
+positive A (inr e) = omega arith
+
+-- what a core that began stands for: the opening, and the making of its export
+pub record Starts {D : Type 0} (seen : D → Seen) (disks : List D) (place : ℕ) (w : WorldValue D) : Type 0 where
+  pub align : w.shape.align ≡ align_of (map seen disks)
+  pub may : May (align_of (map seen disks)) (opened (map seen disks)) (Exported export place)
+  pub stands : Stands seen w (happens (align_of (map seen disks)) (opened (map seen disks)) (Exported export place))
+
+pub starts : {D : Type 0} (seen : D → Seen) (disks : List D) (w : WorldValue D) (begins : Begins seen disks w) → Starts seen disks begins.exports.place w
+starts {D} seen disks w begins =
+    let place : ℕ = begins.exports.place in
+    let align : begins.fresh.shape.align ≡ align_of (map seen disks) = ap (λ (s : Shape). s.align) begins.opened.shape in
+    let file : begins.fresh.graph.file ≡ codes "file0" = ap (λ (g : GraphValue). g.file) begins.opened.graph in
+    let does : Does seen begins.fresh (Exported export place) w =
+    subst (λ (n : List ℕ). Does seen begins.fresh (Exported (ExportAdd (codes "disk") (codes "disk") n true true) place) w) file begins.exports.does in
+    let first : May (align_of (map seen disks)) (opened (map seen disks)) (Exported export place)
+        × Stands seen w (happens (align_of (map seen disks)) (opened (map seen disks)) (Exported export place)) =
+    subst (λ (a : ℕ). May a (opened (map seen disks)) (Exported export place) × Stands seen w (happens a (opened (map seen disks)) (Exported export place))) align
+    (does (opened (map seen disks)) begins.opened.stands) in
+    record { align = ap (λ (v : WorldValue D). v.shape.align) begins.exports.same ∙ align; may = first.0; stands = first.1 }
 
 pub has_run : {D : Type 0} (seen : D → Seen) (disks : List D) (start w : WorldValue D) (calls : List Call) → Begins seen disks start → Plays seen start calls w →
-    AreSettled (map seen disks) → HasRun seen (map seen disks) calls w
-has_run {D} seen disks start w calls begins plays settled =
-    run_of seen (map seen disks) begins.fresh start w calls (all_tell (stripes_of seen begins.fresh)) begins.exports.place _ begins.opened.image
-    (ap (λ (s : Shape). s.align) begins.opened.shape) (ap (λ (v : WorldValue D). v.shape) begins.exports.same) (begins.opened.stands settled)
-    begins.exports.does plays
+    HasRun seen (map seen disks) calls w
+has_run {D} seen disks start w calls begins plays =
+    let A : ℕ = align_of (map seen disks) in
+    let place : ℕ = begins.exports.place in
+    let s : Starts seen disks place start = starts seen disks start begins in
+    let on = leads seen A start calls w (happens A (opened (map seen disks)) (Exported export place)) s.align s.stands plays in
+    let o : OpenedOver = opening_over (map seen disks) (codes "file0") false in
+    let steps : List Element = Exported export place ∷ on.elements in
+    let some : 0 < A = positive A begins.opened.image.1.0 in
+    record {
+      place = place;
+      elements = on.elements;
+      are = on.are;
+      run = (s.may, on.run);
+      headline = headline A o steps some (s.may, on.run);
+      besides = besides A o steps some (s.may, on.run);
+      judged = judged A o steps some (s.may, on.run);
+      stands = on.stands;
+    }
 
 -- where nothing waited at first
 pub replays_from : {D : Type 0} (seen : D → Seen) (left sent : Option (List ℕ)) (waiting out : List ℕ) (w : WorldValue D) (t : Names) (n : ℕ) (result : Status) (after_all : Scene D) →
@@ -99,4 +116,4 @@ pub opening_of : {D : Type 0} (seen : D → Seen) (disks disks' : List D) (left 
 opening_of seen disks disks' left sent left' sent' status.Usage is = absurd is.replays.ends
 opening_of seen disks disks' left sent left' sent' (status.OpenBad bad) is = absurd is.replays.ends
 opening_of seen disks disks' left sent left' sent' status.Memory is = inr is
-opening_of seen disks disks' left sent left' sent' other is = (is, λ others sent'' result' others1 left2 sent2 two compared. same_replays is two compared)
+opening_of seen disks disks' left sent left' sent' other is = is

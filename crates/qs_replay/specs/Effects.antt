@@ -16,8 +16,8 @@ use Rattle.qs_part.specs.declared.event.Outcome.{Outcome}
 use Rattle.qs_part.specs.declared.event.Outcome.TheVariants as outcome
 use Rattle.qs_part.specs.declared.event.StripeNote.TheVariants as stripe
 use Rattle.qs_part.specs.declared.tracker.TrackerReply.TheVariants as tracker
-use Rattle.qs_part.specs.declared.graph.GraphReply.{GraphReply}
-use Rattle.qs_part.specs.declared.graph.GraphReply.TheVariants as graph
+use Rattle.qs_part.specs.declared.event.GraphNote.{GraphNote}
+use Rattle.qs_part.specs.declared.event.GraphNote.TheVariants as graph
 use Rattle.qs_script.specs.declared.actor.ScriptActor.{ScriptActor}
 use Rattle.qs_script.specs.declared.actor.ScriptActor.TheVariants as who
 use Rattle.qs_script.specs.declared.line.Line.{Line}
@@ -130,7 +130,7 @@ Notes (line.Run actor now) made o t t' = Settles actor o t t'
 Notes other made o t t' = Adds made o t t'
 
 -- an answer of the graph to a request
-abbrev pub is_way : GraphReply → Bool
+abbrev pub is_way : GraphNote → Bool
 is_way (graph.Routed route) = true
 is_way graph.Shutting = true
 is_way other = false

@@ -11,8 +11,7 @@ use crate::stop::Stop;
 use crate::table::Table;
 use qs_bytes::{Bytes, Memory, Verdict};
 use qs_outside::Disk;
-use qs_part::event::{Actor, Event, Note, NoteReply, Outcome, StripeNote};
-use qs_part::graph::GraphReply;
+use qs_part::event::{Actor, Event, GraphNote, Note, NoteReply, Outcome, StripeNote};
 use qs_part::tracker::TrackerReply;
 use qs_script::{ScriptActor, put_answer, put_step};
 use qs_world::world::World;
@@ -46,8 +45,8 @@ pub fn happen<D: Disk + Drop>(world: &mut World<D>, event: Event) -> Result<Outc
 }
 
 /// Whether an answer of a part lets its actor go on in a run.
-fn reply_moves_on(reply: NoteReply) -> bool
-    ensures { result ≡ moves_on reply }
+fn reply_moves_on(reply: &NoteReply) -> bool
+    ensures { result ≡ moves_on reply.now }
 {
     match reply {
         NoteReply::Tracker(answer) => !matches!(
@@ -58,7 +57,7 @@ fn reply_moves_on(reply: NoteReply) -> bool
                 | TrackerReply::Strange
         ),
         NoteReply::Graph(answer) => {
-            matches!(answer, GraphReply::Routed(_) | GraphReply::Shutting)
+            matches!(answer, GraphNote::Routed(_) | GraphNote::Shutting)
         }
         NoteReply::Stripe(answer) => !matches!(
             answer,
@@ -72,7 +71,7 @@ fn outcome_goes_on(outcome: &Outcome) -> bool
     ensures { result ≡ goes_on outcome.now }
 {
     match outcome {
-        Outcome::Moved(note) => reply_moves_on(note.reply),
+        Outcome::Moved(note) => reply_moves_on(&note.reply),
         _ => false,
     }
 }

@@ -36,8 +36,8 @@ row_leads A c d p (Enters k) (Tracker (Entered j)) is = ap (λ (n : ℕ). as_it_
 row_leads A c d p (Routes {k = k} route) (Graph (Routed way)) is =
     ap (λ (r : Route). as_it_stands (record c { route = r }) d p (In k (routed (record c { route = r })))) (sym is)
 row_leads A c d p Shuts (Graph Shutting) is = refl
-row_leads A c d p (Lists numbered) (Tracker (Listed n)) is = refl
-row_leads A c d p (Starts l) (Tracker Started) is = refl
+row_leads A c d p (Lists m) (Tracker (Listed n)) is = refl
+row_leads A c d p Starts (Tracker Started) is = refl
 row_leads A c d p (Loads {k = k} {b = b} {got = got} bytes) (Stripe (Filled buf)) is =
     ap (λ (xs : List ℕ). as_it_stands c d p (In k (loaded A c b got xs))) (sym is)
 row_leads A c d p LoadFails (Stripe (Fault back)) is = refl

@@ -20,16 +20,15 @@ IsWait (Stripe (Taken b buf)) (WasTaken c) = c ≡ b
 IsWait (Stripe NotHeld) WasNotHeld = Unit {0}
 IsWait _ _ = ⊥
 
--- The row that a reply stands for. What the part or its disk chose beside the reply is free in it:
--- the numbering of the tracker, the listing that starts, what a crash may leave, and whether a
--- refused store took.
+-- The row that a reply stands for. What a disk chose beside the reply is free in it: what a crash may leave, and
+-- whether a refused store took.
 abbrev pub IsRow : {stage : Stage} → PartReply → Act stage → Type 0
 IsRow reply (Waits wait) = IsWait reply wait
 IsRow (Tracker (Entered k)) (Enters j) = j ≡ k
 IsRow (Graph (Routed route)) (Routes way) = way ≡ route
 IsRow (Graph Shutting) Shuts = Unit {0}
-IsRow (Tracker (Listed n)) (Lists numbered) = numbered.number ≡ n
-IsRow (Tracker Started) (Starts listing) = Unit {0}
+IsRow (Tracker (Listed n)) (Lists m) = m ≡ n
+IsRow (Tracker Started) Starts = Unit {0}
 IsRow (Stripe (Filled buf)) (Loads bytes) = bytes ≡ buf
 IsRow (Stripe (Fault back)) LoadFails = Unit {0}
 IsRow (Stripe (Filled buf)) (Holds bytes) = bytes ≡ buf

@@ -12,8 +12,8 @@ use Rattle.qs_part.specs.declared.event.OpKind.{OpKind}
 use Rattle.qs_part.specs.declared.event.OpKind.TheVariants as op
 use Rattle.qs_part.specs.declared.event.StripeNote.{StripeNote}
 use Rattle.qs_part.specs.declared.event.StripeNote.TheVariants as stripe
-use Rattle.qs_part.specs.declared.graph.GraphReply.{GraphReply}
-use Rattle.qs_part.specs.declared.graph.GraphReply.TheVariants as graph
+use Rattle.qs_part.specs.declared.event.GraphNote.{GraphNote}
+use Rattle.qs_part.specs.declared.event.GraphNote.TheVariants as graph
 use Rattle.qs_part.specs.declared.tracker.TrackerReply.{TrackerReply}
 use Rattle.qs_part.specs.declared.tracker.TrackerReply.TheVariants as tracker
 use Rattle.qs_script.specs.declared.actor.ScriptActor.{ScriptActor}
@@ -41,12 +41,11 @@ tracker_words (tracker.InFlight k) = counted (codes "in-flight") k
 tracker_words tracker.Resumed = codes "resumed"
 
 -- an answer to a request or a session, or else to a command
-abbrev pub graph_words : GraphReply → List ℕ
+abbrev pub graph_words : GraphNote → List ℕ
 graph_words (graph.Routed route) = counted (counted (codes "route") route.offset) route.size
 graph_words graph.Shutting = codes "shutting"
 graph_words graph.Detached = codes "detached"
 graph_words graph.NotAttached = codes "strange"
-graph_words _ = codes "graph"
 
 -- what was read, by an operation that holds its block or doesn't
 abbrev pub filled_word : OpKind → List ℕ

@@ -5,8 +5,7 @@ ghost use Rattle.qs_script.specs.Prints.{actor_text, answer_line, counted, data_
 use crate::actor::ScriptActor;
 use crate::session_name::SessionName;
 use qs_bytes::{Bytes, Memory, Verdict};
-use qs_part::event::{Note, NoteReply, OpKind, StripeNote};
-use qs_part::graph::GraphReply;
+use qs_part::event::{GraphNote, Note, NoteReply, OpKind, StripeNote};
 use qs_part::tracker::TrackerReply;
 use std::alloc::Global;
 
@@ -142,18 +141,17 @@ fn put_tracker(alloc: Global, out: &mut Bytes, reply: TrackerReply) -> Result<()
     }
 }
 
-fn put_graph(alloc: Global, out: &mut Bytes, reply: GraphReply) -> Result<(), Memory>
+fn put_graph(alloc: Global, out: &mut Bytes, reply: GraphNote) -> Result<(), Memory>
     ensures { OnOk result (out.new ≡ out.old ++ graph_words reply) }
 {
     match reply {
-        GraphReply::Routed(route) => {
+        GraphNote::Routed(route) => {
             put_counted(alloc, out, b"route", route.offset)?;
             put_counted(alloc, out, b"", route.size)
         }
-        GraphReply::Shutting => out.append(b"shutting"),
-        GraphReply::Detached => out.append(b"detached"),
-        GraphReply::NotAttached => out.append(b"strange"),
-        _ => out.append(b"graph"),
+        GraphNote::Shutting => out.append(b"shutting"),
+        GraphNote::Detached => out.append(b"detached"),
+        GraphNote::NotAttached => out.append(b"strange"),
     }
 }
 

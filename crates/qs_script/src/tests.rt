@@ -1,8 +1,8 @@
 use super::*;
 use qs_bytes::{Bytes, Errno, Memory, Verdict};
 use qs_outside::Fail as Failing;
-use qs_part::event::{Note, NoteReply, OpKind, StripeNote};
-use qs_part::graph::{GraphReply, Route};
+use qs_part::event::{GraphNote, Note, NoteReply, OpKind, StripeNote};
+use qs_part::graph::Route;
 use qs_part::tracker::TrackerReply;
 use std::alloc::Global;
 use std::test::Fail;
@@ -225,7 +225,7 @@ fn lines_are_printed(rt: HostRuntime) -> Result<(), Fail> {
         (
             OpKind::Route,
             None,
-            NoteReply::Graph(GraphReply::Routed(route)),
+            NoteReply::Graph(GraphNote::Routed(route)),
         ),
         (
             OpKind::Start,

@@ -4,3 +4,4 @@ pub mod Ranks
 pub mod Sound
 pub mod Dense
 pub mod Renumbering
+pub mod Rows

@@ -9,7 +9,7 @@ use Rattle.qs_part.specs.declared.event.Outcome.{Outcome}
 use Rattle.qs_part.specs.declared.event.Outcome.TheVariants.{Moved, Answered}
 use Rattle.qs_model.specs.Puts.{put}
 use Rattle.qs_model.specs.Requests.{Client, Pads, Req, Stage, Ready, verdict}
-use Rattle.qs_model.specs.Worlds.{Tracker, Image, World}
+use Rattle.qs_model.specs.Worlds.{Image, World}
 use Rattle.qs_model.specs.Acts.{Act, Answers, Waits, Enters, Routes, Shuts, Lists, Starts, Loads, LoadFails, Holds, HoldFails, Stores, StoreFails, Frees, Ends, Did}
 use Rattle.qs_model.specs.Guards.{MayDo}
 use Rattle.qs_outside.specs.declared.rigged_disk.Plans.{Plans}
@@ -28,7 +28,6 @@ use Rattle.qs_world.specs.Images.{StandsImage, StandsPlans, stripe_at, all_tell}
 use Rattle.qs_world.specs.Keyed.{AreDistinct}
 use Rattle.qs_world.specs.Sound.{IsSound, IsIdle, IsStripe}
 use Rattle.qs_world.specs.Stands.{Stands}
-use Rattle.qs_world.specs.Trackers.{StandsTracker, HasHistory}
 use Rattle.qs_world.specs.Values.{WorldValue, request_at, stripes_of}
 use Rattle.qs_world.proofs.Doing.{Leaves, did_does}
 use Rattle.qs_world.proofs.Keyed.{find_set, find_gone, find_at, distinct_set, distinct_gone, all_set, all_gone, all_at, remove_set}
@@ -55,10 +54,10 @@ finishes A c d p (Routes {k = k} route) reply note going is noted =
     let led = row_leads A c d p (Routes {k = k} route) reply is in inl (ap Some (sym led), subst (λ (q : Req). IsReady q.stage → ⊥) (sym led) (λ h. h), ap moved_out noted)
 finishes A c d p (Shuts {k = k}) reply note going is noted =
     let led = row_leads A c d p (Shuts {k = k}) reply is in inl (ap Some (sym led), subst (λ (q : Req). IsReady q.stage → ⊥) (sym led) (λ h. h), ap moved_out noted)
-finishes A c d p (Lists {k = k} numbered) reply note going is noted =
-    let led = row_leads A c d p (Lists {k = k} numbered) reply is in inl (ap Some (sym led), subst (λ (q : Req). IsReady q.stage → ⊥) (sym led) (λ h. h), ap moved_out noted)
-finishes A c d p (Starts {k = k} l) reply note going is noted =
-    let led = row_leads A c d p (Starts {k = k} l) reply is in inl (ap Some (sym led), subst (λ (q : Req). IsReady q.stage → ⊥) (sym led) (λ h. h), ap moved_out noted)
+finishes A c d p (Lists {k = k} n) reply note going is noted =
+    let led = row_leads A c d p (Lists {k = k} n) reply is in inl (ap Some (sym led), subst (λ (q : Req). IsReady q.stage → ⊥) (sym led) (λ h. h), ap moved_out noted)
+finishes A c d p (Starts {k = k}) reply note going is noted =
+    let led = row_leads A c d p (Starts {k = k}) reply is in inl (ap Some (sym led), subst (λ (q : Req). IsReady q.stage → ⊥) (sym led) (λ h. h), ap moved_out noted)
 finishes A c d p (Loads {k = k} {b = b} {got = got} bytes) reply note going is noted =
     let led = row_leads A c d p (Loads {k = k} {b = b} {got = got} bytes) reply is in
     inl (ap Some (sym led), subst (λ (q : Req). IsReady q.stage → ⊥) (sym led) (λ h. h), ap moved_out noted)
@@ -107,7 +106,7 @@ pub record Others {D : Type 0} (seen : D → Seen) (old new : WorldValue D) : Ty
   pub leaves : Leaves seen old new
   pub count : length new.stripes ≡ 8
   pub stripes : (j : ℕ) → j < 8 → IsStripe seen new j
-  pub history : HasHistory new.tracker
+  pub seats : length new.tracker.seats ≡ 256
 
 -- the list of requests after a reply: what the model has of each, that each is idle, and the outcome
 pub record Listed {D : Type 0} (w : WorldValue D) (l : Live) (act : Act (req l).stage) (outcome : Outcome) (requests : List Live) : Type 0 where
@@ -192,7 +191,7 @@ stays_sound seen old new r q act sound others idle apart does = record {
   stripes = others.stripes;
   size = rw (others.leaves.graph, others.leaves.shape) sound.size;
   places = rw others.leaves.graph sound.places;
-  tracker = others.history;
+  seats = others.seats;
   requests = rw (others.leaves.shape, others.leaves.next) idle;
   numbers = apart;
   sessions = rw others.leaves.sessions sound.sessions;
@@ -202,7 +201,7 @@ stays_sound seen old new r q act sound others idle apart does = record {
 pub did_answers : {D : Type 0} (seen : D → Seen) (old new : WorldValue D) (at : ℕ) (l : Live) (act : Act (req l).stage) (reply : PartReply) (note : Note) (outcome : Outcome) →
     IsSound seen old → IsElement old.requests at l → (IsReady (req l).stage → ⊥) → IsRow reply act → note_of old.shape.align (req l).client act ≡ Some note → Others seen old new →
     ((m : World) → Stands seen old m → MayDo old.shape.align m (req l).client (req l).pads act) →
-    ((t : Tracker) → StandsTracker old.tracker t → StandsTracker new.tracker (tracked old.shape.align t (req l).client act)) →
+    tracked old.shape.align old.tracker (req l).client act ≡ new.tracker →
     ((i : Image) → StandsImage (stripe_at (stripes_of seen old)) (all_tell (stripes_of seen old)) i →
     StandsImage (stripe_at (stripes_of seen new)) (all_tell (stripes_of seen old)) (imaged old.shape.align i (req l).client act)) →
     ((p : ℕ → Plans) → StandsPlans (stripe_at (stripes_of seen old)) p → StandsPlans (stripe_at (stripes_of seen new)) (spent old.shape.align p (req l).client act)) →

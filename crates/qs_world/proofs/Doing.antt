@@ -4,16 +4,16 @@ use Rattle.std.specs.Prelude.{Some}
 use Rattle.qs_outside.specs.Blocks.{Seen}
 use Rattle.qs_model.specs.Puts.{put}
 use Rattle.qs_model.specs.Requests.{Req}
-use Rattle.qs_model.specs.Worlds.{Tracker, Image, World}
+use Rattle.qs_model.specs.Worlds.{Image, World}
 use Rattle.qs_model.specs.Acts.{Act, Did}
 use Rattle.qs_model.specs.Guards.{MayDo}
 use Rattle.qs_outside.specs.declared.rigged_disk.Plans.{Plans}
 use Rattle.qs_model.specs.Steps.{moved, tracked, imaged, spent}
 use Rattle.qs_model.proofs.Basics.{put_here, put_other, same_or}
+use Rattle.qs_tracker.specs.Table.{TrackerValue}
 use Rattle.qs_world.specs.Events.{Does}
 use Rattle.qs_world.specs.Images.{StandsImage, StandsPlans, stripe_at, all_tell}
 use Rattle.qs_world.specs.Stands.{Stands}
-use Rattle.qs_world.specs.Trackers.{StandsTracker}
 use Rattle.qs_world.specs.Values.{WorldValue, request_at, stripes_of}
 
 -- one value changed in two functions that agree
@@ -34,7 +34,7 @@ pub record Leaves {D : Type 0} (seen : D → Seen) (old new : WorldValue D) : Ty
 
 pub did_does : {D : Type 0} (seen : D → Seen) (old new : WorldValue D) (r : ℕ) (q : Req) (act : Act q.stage) → request_at old.requests r ≡ Some q → Leaves seen old new →
     ((m : World) → Stands seen old m → MayDo old.shape.align m q.client q.pads act) →
-    ((t : Tracker) → StandsTracker old.tracker t → StandsTracker new.tracker (tracked old.shape.align t q.client act)) →
+    tracked old.shape.align old.tracker q.client act ≡ new.tracker →
     ((i : Image) → StandsImage (stripe_at (stripes_of seen old)) (all_tell (stripes_of seen old)) i →
     StandsImage (stripe_at (stripes_of seen new)) (all_tell (stripes_of seen old)) (imaged old.shape.align i q.client act)) →
     ((p : ℕ → Plans) → StandsPlans (stripe_at (stripes_of seen old)) p → StandsPlans (stripe_at (stripes_of seen new)) (spent old.shape.align p q.client act)) →
@@ -47,9 +47,8 @@ did_does seen old new r q act is leaves may tracks images plans requests m stand
     next = stands.next ∙ sym leaves.next;
     request = λ j. put_same m.req (request_at old.requests) r (moved old.shape.align q.client q.dropped q.pads act) stands.request j ∙ sym (requests j);
     session = λ s. rw leaves.sessions (stands.session s);
-    graph = rw leaves.graph stands.graph;
-    clients = stands.clients;
-    tracker = tracks m.tracker stands.tracker;
+    graph = stands.graph ∙ sym leaves.graph;
+    tracker = ap (λ (t : TrackerValue). tracked old.shape.align t q.client act) stands.tracker ∙ tracks;
     image = subst (λ (t : Bool). StandsImage (stripe_at (stripes_of seen new)) t (imaged old.shape.align m.image q.client act)) (sym stands.tells)
         (images m.image (subst (λ (t : Bool). StandsImage (stripe_at (stripes_of seen old)) t m.image) stands.tells stands.image));
     plans = plans m.plans stands.plans;

@@ -9,6 +9,7 @@ use Rattle.qs_part.specs.declared.event.Outcome.{Outcome}
 use Rattle.qs_part.specs.declared.event.Outcome.TheVariants.{Attached as AttachedOut, NoExport as NoExportOut, Crowded as CrowdedOut, Left as LeftOut, Made, Moved, Answered, NotNext, Memory}
 use Rattle.qs_model.specs.Puts.{put}
 use Rattle.qs_part.specs.declared.event.OpKind.TheVariants.{End, Detach as DetachOp}
+use Rattle.qs_part.specs.declared.event.GraphNote.TheVariants.{Detached as GoneNote, NotAttached as NotGoneNote}
 use Rattle.qs_part.specs.declared.graph.GraphReply.TheVariants.{Detached as Gone, NotAttached as NotGone}
 use Rattle.qs_part.specs.declared.tracker.TrackerReply.TheVariants.{Ended}
 use Rattle.qs_model.specs.Requests.{Client, Stage, Req, abandon, verdict}
@@ -64,8 +65,8 @@ told_row A c d (Waits {stage = stage} wait) out is = told_moved (note_of A c (Wa
 told_row A c d (Enters k) out is = told_moved (note_of A c (Enters k)) out is
 told_row A c d (Routes {k = k} route) out is = told_moved (note_of A c (Routes {k = k} route)) out is
 told_row A c d (Shuts {k = k}) out is = told_moved (note_of A c (Shuts {k = k})) out is
-told_row A c d (Lists {k = k} numbered) out is = told_moved (note_of A c (Lists {k = k} numbered)) out is
-told_row A c d (Starts {k = k} l) out is = told_moved (note_of A c (Starts {k = k} l)) out is
+told_row A c d (Lists {k = k} n) out is = told_moved (note_of A c (Lists {k = k} n)) out is
+told_row A c d (Starts {k = k}) out is = told_moved (note_of A c (Starts {k = k})) out is
 told_row A c d (Loads {k = k} {b = b} {got = got} bytes) out is = told_moved (note_of A c (Loads {k = k} {b = b} {got = got} bytes)) out is
 told_row A c d (LoadFails {k = k} {b = b} {got = got}) out is = told_moved (note_of A c (LoadFails {k = k} {b = b} {got = got})) out is
 told_row A c d (Holds {k = k} {side = side} bytes) out is = told_moved (note_of A c (Holds {k = k} {side = side} bytes)) out is
@@ -81,11 +82,11 @@ told A (Attached s name info) out is = told_some (AttachedOut info) out is tt
 told A (NoExport s name) out is = told_some NoExportOut out is tt
 told A (Crowded s name) out is = told_some CrowdedOut out is tt
 told A (Left s e) out is = told_some LeftOut out is tt
-told A (Detached s e) out is = told_moved (graph_note DetachOp Gone) out is
-told A (NotAttached s e) out is = told_moved (graph_note DetachOp NotGone) out is
+told A (Detached s e) out is = told_moved (graph_note DetachOp GoneNote) out is
+told A (NotAttached s e) out is = told_moved (graph_note DetachOp NotGoneNote) out is
 told A (Asked r c) out is = told_some (Made r) out is tt
 told A (Did r q act) out is = told_row A q.client q.dropped act out is
-told A (Exported e x) out is = absurd (never is)
+told A (Exported op e) out is = absurd (never is)
   where
     never : None ≡ Some out → ⊥
     never e = cc
@@ -338,7 +339,7 @@ renewed seen old new e sound r does = record {
   stripes = λ j h. same_stripes seen old new r.shape r.stripes j (sound.stripes j h);
   size = r.size ∙ sound.size ∙ sym (ap (λ (s : Shape). s.size) r.shape);
   places = r.places ∙ sound.places;
-  tracker = rw r.tracker sound.tracker;
+  seats = rw r.tracker sound.seats;
   requests = rw r.shape r.requests;
   numbers = r.numbers;
   sessions = r.sessions;

@@ -1,8 +1,6 @@
 pub mod Keyed
-pub mod TrackerRows
 pub mod PlanRows
 pub mod StripeRows
-pub mod GraphRows
 pub mod RequestRows
 pub mod Replies
 pub mod Doing

@@ -1,37 +1,34 @@
 -- The core as it is made is sound, and stands for the opening state of the model.
-use Rattle.std.proofs.Common.{◌≡◌, get_or, ℕ, zero, suc, ◌<◌, List, [], ◌∷◌, length, map, Bool, true, refl, sym, ◌∙◌, ap, subst, arith}
-use Rattle.std.specs.Prelude.{Some, None, IsTrue}
+use Rattle.std.proofs.Common.{◌≡◌, get_or, ℕ, zero, suc, ◌<◌, List, [], ◌∷◌, length, map, Bool, true, ◌&&◌, refl, sym, ◌∙◌, ap, subst, arith}
+use Rattle.std.specs.Prelude.{Some, None}
 use Rattle.std.specs.List.{AllByRecursion}
 use Rattle.std.proofs.lemmas.List.{length-map}
 use Rattle.qs_outside.specs.Blocks.{Seen}
 use Rattle.qs_outside.specs.Rigged.{plans_of}
 use Rattle.qs_part.specs.declared.stripe.Side.{Side}
-use Rattle.qs_image.specs.Image.{disk, align_of, size_of, block_now}
+use Rattle.qs_image.specs.Image.{disk, align_of, size_of}
 use Rattle.qs_image.specs.Opening.{IsImage, IsAlike}
+use Rattle.qs_part.specs.declared.graph.GraphOp.{GraphOp}
 use Rattle.qs_part.specs.declared.graph.GraphOp.TheVariants.{ExportAdd}
 use Rattle.qs_part.specs.declared.graph.GraphReply.TheVariants.{Added}
-use Rattle.qs_graph.specs.Exports.{export_at, clients_of, made}
-use Rattle.qs_graph.specs.Table.{GraphValue, fresh as fresh_graph, answers as graph_answers, route_of}
+use Rattle.qs_graph.specs.Exports.{export_at}
+use Rattle.qs_graph.specs.Table.{GraphValue, fresh as fresh_graph, answers as graph_answers}
 use Rattle.qs_graph.proofs.Rows.{after_length}
 use Rattle.qs_model.specs.Acts.{Exported}
 use Rattle.qs_world.specs.Events.{Does}
 use Rattle.qs_world.proofs.Coming.{Keeps, exported_does}
 use Rattle.qs_world.proofs.Handling.{renewed}
 use Rattle.qs_graph.proofs.Standing.{nobody as no_export}
-use Rattle.qs_model.specs.Worlds.{Hold, World, stripe_of, settled}
+use Rattle.qs_model.specs.Worlds.{Hold, stripe_of}
 use Rattle.qs_model.specs.Laws.{opening}
 use Rattle.qs_request.specs.declared.shape.Shape.{Shape}
 use Rattle.qs_stripe.specs.Table.{StripeState, value_of as stripe_value, Opened}
-use Rattle.qs_tracker.specs.Table.{fresh as fresh_tracker}
-use Rattle.qs_tracker.proofs.Seats.{nobody as no_seat}
-use Rattle.qs_world.specs.Graphs.{export_of}
+use Rattle.qs_tracker.specs.Table.{TrackerValue, fresh as fresh_tracker}
 use Rattle.qs_world.specs.Images.{stripe_at, all_tell}
-use Rattle.qs_world.specs.Openings.{Exports, HasNoExport, IsOpened, planned_of}
+use Rattle.qs_world.specs.Openings.{Exports, HasNoExport, IsOpened, opening_over, tells_of}
 use Rattle.qs_world.specs.Sound.{IsSound, IsStripe}
 use Rattle.qs_world.specs.Stands.{Stands}
-use Rattle.qs_world.specs.Trackers.{seat_of}
 use Rattle.qs_world.specs.Values.{WorldValue, stripes_of}
-use Rattle.qs_world.proofs.PartSteps.{all_tell_at}
 
 -- a core without requests and sessions, over these disks
 pub record IsFresh {D : Type 0} (seen : D → Seen) (disks : List D) (file : List ℕ) (read_only : Bool) (w : WorldValue D) : Type 0 where
@@ -67,31 +64,27 @@ none_some b e = cc
 none_hold : (h : Hold) → None ≡ Some h → ⊥
 none_hold h e = cc
 
--- the state of the model, whatever a crash may leave
-abbrev pub made_state : {D : Type 0} → (D → Seen) → List D → WorldValue D → (ℕ → List (List ℕ)) → World
-made_state seen disks w past =
-    record (opening (all_tell (stripes_of seen w)) (planned_of (map seen disks)) (block_now (map seen disks))) { image = record (settled (block_now (map seen disks))) { past = past } }
-
 disk_here : {D : Type 0} (seen : D → Seen) (disks : List D) (w : WorldValue D) (j : ℕ) → map (λ s. s.disk) w.stripes ≡ disks →
     (stripe_at (stripes_of seen w) j).disk ≡ disk (map seen disks) j
 disk_here seen disks w j is = disk_of seen w.stripes j ∙ ap (λ (ds : List _). disk (map seen ds) j) is
 
-pub fresh_stands : {D : Type 0} (seen : D → Seen) (disks : List D) (file : List ℕ) (read_only : Bool) (w : WorldValue D) (past : ℕ → List (List ℕ)) → IsFresh seen disks file read_only w →
-    (IsTrue (all_tell (stripes_of seen w)) → (b : ℕ) → past b ≡ (disk (map seen disks) (stripe_of b)).past b) → Stands seen w (made_state seen disks w past)
-fresh_stands seen disks file read_only w past f pasts = record {
-  tells = refl;
+-- the stripes tell their content where the disks do
+tells_same : {D : Type 0} (seen : D → Seen) (ss : List (StripeState D)) → tells_of (map seen (map (λ s. s.disk) ss)) ≡ all_tell (map (stripe_value seen) ss)
+tells_same seen [] = refl
+tells_same seen (s ∷ ss) = ap (λ (b : Bool). (seen s.disk).tells && b) (tells_same seen ss)
+
+pub fresh_stands : {D : Type 0} (seen : D → Seen) (disks : List D) (file : List ℕ) (read_only : Bool) (w : WorldValue D) → IsFresh seen disks file read_only w →
+    Stands seen w (opening (opening_over (map seen disks) file read_only))
+fresh_stands seen disks file read_only w f = record {
+  tells = sym (ap (λ (ds : List _). tells_of (map seen ds)) f.stripes) ∙ tells_same seen w.stripes;
   next = sym f.next;
   request = λ r. rw f.requests refl;
   session = λ s. rw f.sessions refl;
-  graph = rw f.graph (record {
-    export = λ e. sym (ap (export_of (size_of (map seen disks))) (no_export 64 e));
-    clients = λ e. sym (ap clients_of (no_export 64 e));
-  });
-  clients = λ s e at. absurd at;
-  tracker = rw f.tracker (record { quiesced = refl; number = refl; seat = λ k. sym (ap seat_of (no_seat 256 k)) });
+  graph = sym f.graph;
+  tracker = sym f.tracker;
   image = record {
     now = λ tell b. sym (ap (λ (d : Seen). d.now b) (disk_here seen disks w (stripe_of b) f.stripes));
-    past = λ tell b. pasts tell b ∙ sym (ap (λ (d : Seen). d.past b) (disk_here seen disks w (stripe_of b) f.stripes));
+    past = λ tell b. sym (ap (λ (d : Seen). d.past b) (disk_here seen disks w (stripe_of b) f.stripes));
     held = λ b h. (
       λ e. absurd (none_hold h e),
       λ e. absurd (none_some b (sym (hold_of seen w.stripes (stripe_of b) h.place h.side f.free) ∙ e)),
@@ -111,14 +104,11 @@ fresh_sound seen disks file read_only w f = record {
   stripes = λ j h. stripe j (f.image.0.1 j h);
   size = ap (λ (v : _). v.size) f.graph ∙ sym (ap (λ (s : Shape). s.size) f.shape);
   places = ap (λ (v : _). length v.places) f.graph;
-  tracker = rw f.tracker ([], (tt, refl));
+  seats = ap (λ (v : TrackerValue). length v.seats) f.tracker;
   requests = rw f.requests tt;
   numbers = rw f.requests tt;
   sessions = rw f.sessions tt;
-  model = (
-    made_state seen disks w (λ b. (disk (map seen disks) (stripe_of b)).past b),
-    fresh_stands seen disks file read_only w (λ b. (disk (map seen disks) (stripe_of b)).past b) f (λ tell b. refl),
-  );
+  model = (opening (opening_over (map seen disks) file read_only), fresh_stands seen disks file read_only w f);
 }
   where
     stripe : (j : ℕ) → IsAlike (map seen disks) j → IsStripe seen w j
@@ -141,14 +131,8 @@ fresh_opened seen disks file read_only w f = record {
   tracker = f.tracker;
   stripes = f.stripes;
   free = f.free;
-  stands = λ calm. fresh_stands seen disks file read_only w (λ b. block_now (map seen disks) b ∷ []) f
-      (λ tell b. sym (calm (stripe_of b) b
-      (subst (λ (d : Seen). IsTrue d.tells) (disk_here seen disks w (stripe_of b) f.stripes)
-      (all_tell_at (stripes_of seen w) (stripe_of b) (inside (stripe_of b) (omega arith)) tell))));
+  stands = fresh_stands seen disks file read_only w f;
 }
-  where
-    inside : (j : ℕ) → j < 8 → j < length (stripes_of seen w)
-    inside j h = omega (arith, h, length-map w.stripes (stripe_value seen), many seen disks w f.image.0.0 f.stripes)
 
 -- the first disk, by index
 pub first_disk : {D : Type 0} (seen : D → Seen) (disks : List D) (d : D) → 0 < length disks → d ≡ get_or disks 0 d → disk (map seen disks) 0 ≡ seen d
@@ -161,20 +145,19 @@ pub exported_all : {D : Type 0} (seen : D → Seen) (old : WorldValue D) (name :
     Exports seen old name writable (record old { graph = graph }) × IsSound seen (record old { graph = graph })
 exported_all {D = D} seen old name writable e graph sound row size =
     let new : WorldValue D = record old { graph = graph } in
-    let keeps : Keeps old new = record { shape = refl; tracker = refl; stripes = refl } in
-    let does : Does seen old (Exported e (record { name = name; route = route_of old.graph.size (made name name writable true) })) new =
-    exported_does seen old new name name old.graph.file writable true e keeps refl refl refl sound.places row in (
+    let op : GraphOp = ExportAdd name name old.graph.file writable true in
+    let does : Does seen old (Exported op e) new = exported_does seen old new op e (record { shape = refl; tracker = refl; stripes = refl }) refl refl refl row in (
       record {
         place = e;
         does = does;
         same = ap (λ (v : GraphValue). record old { graph = v }) row.1;
       },
-      renewed seen old new (Exported e (record { name = name; route = route_of old.graph.size (made name name writable true) })) sound (record {
+      renewed seen old new (Exported op e) sound (record {
         shape = refl;
         tracker = refl;
         stripes = refl;
         size = size;
-        places = ap (λ (v : GraphValue). length v.places) row.1 ∙ after_length old.graph (ExportAdd name name old.graph.file writable true) (Added e);
+        places = ap (λ (v : GraphValue). length v.places) row.1 ∙ after_length old.graph op (Added e);
         requests = sound.requests;
         numbers = sound.numbers;
         sessions = sound.sessions;

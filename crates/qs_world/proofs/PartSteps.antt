@@ -30,8 +30,7 @@ use Rattle.qs_request.specs.declared.todo.Todo.TheVariants.{Tracker as OnTracker
 use Rattle.qs_request.specs.Table.{WantsAt, FitsStripe}
 use Rattle.qs_request.specs.Value.{IsReady}
 use Rattle.qs_stripe.specs.Table.{StripeState, StripeValue, answers as stripe_answers, geometry, value_of as stripe_value}
-use Rattle.qs_tracker.specs.Table.{TrackerValue, Fits, May, answers, after, fresh}
-use Rattle.qs_tracker.specs.History.{Entry}
+use Rattle.qs_tracker.specs.Table.{TrackerValue, answers}
 use Rattle.qs_world.specs.declared.live.Live.{Live}
 use Rattle.qs_world.specs.Cores.{StepsRequest}
 use Rattle.qs_world.specs.Events.{HasCause}
@@ -39,11 +38,10 @@ use Rattle.qs_world.specs.Follows.{Follows, IsElement}
 use Rattle.qs_world.specs.Images.{Changed, stripe_at, all_tell, no_stripe}
 use Rattle.qs_world.specs.Notes.{tracker_note, tracker_kind, route_note, stripe_note, stripe_kind, block_of, short}
 use Rattle.qs_world.specs.Sound.{IsSound, IsStripe}
-use Rattle.qs_world.specs.Trackers.{HasHistory}
 use Rattle.qs_world.specs.Values.{WorldValue, stripes_of}
 use Rattle.qs_world.proofs.Answering.{did_answers, req, waiting}
 use Rattle.qs_world.proofs.RequestRows.{Steps, tracker_row, graph_row, stripe_row}
-use Rattle.qs_world.proofs.TrackerRows.{history_sound, runs_more, left_more}
+use Rattle.qs_tracker.proofs.Rows.{after_length}
 
 -- a request that wants an operation isn't ready to answer
 tracker_going : (A : ℕ) (c : Client) (p : Pads) (stage : Stage) (op : TrackerOp) → WantsAt A c p stage (OnTracker op) → IsReady stage → ⊥
@@ -70,35 +68,24 @@ no_cause seen old new l reply note at requests _ none follows = tt
 no_block : (b : ℕ) → None ≡ Some b → ⊥
 no_block b e = cc
 
--- one entry more of the tracker's history
-pub history_more : (v w : TrackerValue) (op : TrackerOp) (reply : TrackerReply) → HasHistory v → Fits op → answers v op reply w → HasHistory w
-history_more v w op reply h fits row =
-    let e : Entry = record { op = op; reply = reply } in (
-      h.0 ++ e ∷ [],
-      (
-        runs_more (fresh 0) h.0 e h.1.0 (subst (λ (x : TrackerValue). Fits op × May x op reply × Unit {0}) (sym h.1.1) (fits, row.0, tt)),
-        left_more (fresh 0) h.0 e ∙ ap (λ (x : TrackerValue). after x op reply) h.1.1 ∙ sym row.1,
-      ),
-    )
-
 -- the disks of a core whose stripes are as they were
 pub same_stripes : {D : Type 0} (seen : D → Seen) (old new : WorldValue D) → new.shape ≡ old.shape → new.stripes ≡ old.stripes → (j : ℕ) → IsStripe seen old j → IsStripe seen new j
 same_stripes seen old new shape same j is = rw (same, shape) is
 
 pub tracker_steps : {D : Type 0} (seen : D → Seen) (old new : WorldValue D) (at : ℕ) (l : Live) (op : TrackerOp) (reply : TrackerReply) (outcome : Outcome) →
-    IsSound seen old → IsElement old.requests at l → WantsAt old.shape.align (req l).client (req l).pads (req l).stage (OnTracker op) → Fits op →
+    IsSound seen old → IsElement old.requests at l → WantsAt old.shape.align (req l).client (req l).pads (req l).stage (OnTracker op) →
     answers old.tracker op reply new.tracker → new.shape ≡ old.shape → new.next ≡ old.next → new.sessions ≡ old.sessions → new.graph ≡ old.graph → new.stripes ≡ old.stripes →
     Follows (waiting l) (ByTracker reply) (tracker_note (tracker_kind op) reply) at (slice_set old.requests at (waiting l)) outcome new.requests →
     StepsRequest seen old l.number outcome new
-tracker_steps seen old new at l op reply outcome sound e wants fits row shape next sessions graph stripes follows =
-    let r = tracker_row old.shape.align (req l).client (req l).pads (req l).stage op reply old.tracker new.tracker wants (history_sound old.tracker sound.tracker) row in
+tracker_steps seen old new at l op reply outcome sound e wants row shape next sessions graph stripes follows =
+    let r = tracker_row old.shape.align (req l).client (req l).pads (req l).stage op reply old.tracker new.tracker wants row in
     did_answers seen old new at l r.act (ByTracker reply) (tracker_note (tracker_kind op) reply) outcome sound e
     (tracker_going old.shape.align (req l).client (req l).pads (req l).stage op wants) r.is_row r.note
     (record {
       leaves = record { shape = shape; next = next; sessions = sessions; graph = graph; tells = ap (λ (s : List (StripeState _)). all_tell (map (stripe_value seen) s)) stripes };
       count = rw stripes sound.count;
       stripes = λ j h. same_stripes seen old new shape stripes j (sound.stripes j h);
-      history = history_more old.tracker new.tracker op reply sound.tracker fits row;
+      seats = ap (λ (v : TrackerValue). length v.seats) row.1 ∙ after_length old.tracker op reply ∙ sound.seats;
     })
     (λ m stands. r.guard m stands.tracker) r.tracks
     (λ i stands. rw (r.images i, stripes) stands) (λ p stands. rw (r.plans p, stripes) stands) (r.as_planned (stripe_at (stripes_of seen old)))
@@ -119,10 +106,10 @@ graph_steps seen old new at l op reply outcome sound e wants row shape next sess
       leaves = record { shape = shape; next = next; sessions = sessions; graph = both.1; tells = ap (λ (s : List (StripeState _)). all_tell (map (stripe_value seen) s)) stripes };
       count = rw stripes sound.count;
       stripes = λ j h. same_stripes seen old new shape stripes j (sound.stripes j h);
-      history = rw tracker sound.tracker;
+      seats = rw tracker sound.seats;
     })
     (λ m stands. r.guard m stands.graph)
-    (λ t stands. rw (r.tracks t, tracker) stands)
+    (r.tracks old.tracker ∙ sym tracker)
     (λ i stands. rw (r.images i, stripes) stands) (λ p stands. rw (r.plans p, stripes) stands) (r.as_planned (stripe_at (stripes_of seen old)))
     (λ b is. absurd (no_block b (sym r.off ∙ is))) follows
     (no_cause seen old new (waiting l) (ByGraph reply) (route_note reply) at (slice_set old.requests at (waiting l)) outcome refl follows)
@@ -280,10 +267,10 @@ stripe_steps seen old new at l z op reply s t outcome sound e wants fits below w
       };
       count = ap length is ∙ length-set old.stripes z t ∙ sound.count;
       stripes = λ j h. changed_stripes seen old new z s t c shape same j (sound.stripes j h);
-      history = rw tracker sound.tracker;
+      seats = rw tracker sound.seats;
     })
     (λ m stands. r.guard m stands.tells stands.image stands.plans)
-    (λ k stands. rw (r.tracks k, tracker) stands)
+    (r.tracks old.tracker ∙ sym tracker)
     r.images r.plans r.as_planned
     (λ b on. (some_bytes old.shape.align sound.shape.align, subst (λ (x : ℕ). (x + 1) * old.shape.align ≤ old.shape.size) (sym (r.on b on)) (block_inside old.shape z op fits))) follows
     (stripe_cause seen old new (waiting l) (ByStripe reply) (stripe_kind op) (block_of op) reply at (slice_set old.requests at (waiting l)) outcome

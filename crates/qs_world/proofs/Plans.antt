@@ -61,7 +61,6 @@ planned_all {D = D} seen old z s t fail sound below at places disk =
         request = st.request;
         session = st.session;
         graph = st.graph;
-        clients = st.clients;
         tracker = st.tracker;
         image = kept_image z (stripe_value seen t) (stripe_at (stripes_of seen old)) (stripe_at (stripes_of seen new)) m.tells m.image change
             (λ b. ap (λ (d : Seen). d.now b) disk ∙ sym (ap (λ (v : StripeValue). v.disk.now b) here))
@@ -83,7 +82,7 @@ planned_all {D = D} seen old z s t fail sound below at places disk =
             (ap (λ (d : Seen). record { stripe = d.stripe; align = d.align; size = d.size }) disk) j (sound.stripes j h);
         size = sound.size;
         places = sound.places;
-        tracker = sound.tracker;
+        seats = sound.seats;
         requests = sound.requests;
         numbers = sound.numbers;
         sessions = sound.sessions;

@@ -10,7 +10,8 @@ use Rattle.qs_part.specs.declared.stripe.StripeOp.TheVariants.{Load as LoadOp, H
 use Rattle.qs_part.specs.declared.tracker.TrackerOp.TheVariants.{Enter as EnterOp, List as ListOp, Start as StartOp, End as EndOp}
 use Rattle.qs_bytes.specs.Spans.{aligned_out}
 use Rattle.qs_model.specs.Requests.{Client, Pads, Stage, ToRoute, ToList, ToStart, ToLoad, ToHold, ToStore, ToFree, ToEnd, Ready, Entering, In, edge, span_of, serial}
-use Rattle.qs_model.specs.Worlds.{stripe_of, Tracker, Image, World}
+use Rattle.qs_tracker.specs.Table.{TrackerValue}
+use Rattle.qs_model.specs.Worlds.{stripe_of, Image, World}
 use Rattle.qs_model.specs.Acts.{block_of, Act, Answers, Did}
 use Rattle.qs_model.specs.Guards.{MayDo}
 use Rattle.qs_outside.specs.declared.rigged_disk.Plans.{Plans}
@@ -35,7 +36,7 @@ pub record AnswerRow (A : ℕ) (c : Client) (d : Bool) (p : Pads) (stage : Stage
   pub outcome_is : row_outcome A c d act ≡ Some (Answered v None)
   pub gone : moved A c d p act ≡ None
   pub guard : (w : World) → MayDo A w c p act
-  pub tracks : (t : Tracker) → tracked A t c act ≡ t
+  pub tracks : (t : TrackerValue) → tracked A t c act ≡ t
   pub images : (i : Image) → imaged A i c act ≡ i
   pub plans : (q : ℕ → Plans) → spent A q c act ≡ q
   pub as_planned : (s : ℕ → StripeValue) → IsRowAsPlanned s act
@@ -78,11 +79,11 @@ answer_steps {D = D} seen old at l v requests sound e wants is =
       leaves = record { shape = refl; next = refl; sessions = refl; graph = refl; tells = refl };
       count = sound.count;
       stripes = sound.stripes;
-      history = sound.tracker;
+      seats = sound.seats;
     } in
     let does : Does seen old (Did l.number (req l) r.act) new =
     did_does seen old new l.number (req l) r.act (found old at l sound.numbers e) others.leaves (λ m stands. r.guard m)
-    (λ t stands. rw (r.tracks t) stands) (λ i stands. rw (r.images i) stands)
+    (r.tracks old.tracker) (λ i stands. rw (r.images i) stands)
     (λ q stands. rw (r.plans q) stands) list.model in
     record {
       element = Did l.number (req l) r.act;

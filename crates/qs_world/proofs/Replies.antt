@@ -21,20 +21,14 @@ use Rattle.qs_model.specs.Worlds.{stripe_of}
 use Rattle.qs_graph.specs.Table.{GraphValue, May as MayGraph, answers as graph_answers}
 use Rattle.qs_request.specs.declared.shape.Shape.{Shape}
 use Rattle.qs_request.specs.declared.todo.Todo.TheVariants.{Tracker as OnTracker, Graph as OnGraph, Stripe as OnStripe, Answer}
-use Rattle.qs_request.specs.Table.{WantsAt, FitsTracker, FitsStripe, MayTrack, MayRoute, MayStripe}
+use Rattle.qs_request.specs.Table.{WantsAt, FitsStripe, MayTrack, MayRoute, MayStripe}
 use Rattle.qs_stripe.specs.Table.{StripeValue, Fits as FitsHere, answers as stripe_answers}
 use Rattle.qs_tracker.specs.Seats.{seat_at, is_vacant}
-use Rattle.qs_tracker.specs.Table.{TrackerValue, Fits, May, MayStart, answers}
+use Rattle.qs_tracker.specs.Table.{TrackerValue, May, MayStart, answers}
 use Rattle.qs_tracker.specs.declared.seat.Seat.TheVariants.{Vacant}
-use Rattle.qs_world.proofs.TrackerRows.{nowhere}
-use Rattle.qs_world.proofs.RequestRows.{tracker_todo, graph_todo, stripe_todo}
+use Rattle.qs_world.proofs.RequestRows.{nowhere, tracker_todo, graph_todo, stripe_todo}
 
--- an operation that a request wants fits the tracker
-pub tracker_fits : (shape : Shape) (op : TrackerOp) → FitsTracker shape op → Fits op
-tracker_fits shape (ListOp k span serial) fits = (fits.1, fits.2, fits.3)
-tracker_fits shape _ fits = tt
-
--- and a stripe of the image's shape
+-- an operation that a request wants fits a stripe of the image's shape
 pub stripe_fits : (shape : Shape) (z : ℕ) (op : StripeOp) → FitsStripe shape z op → FitsHere (record { stripe = z; align = shape.align; size = shape.size }) op
 stripe_fits shape z (LoadOp b k buf) fits = record { block = record { here = sym fits.0.stripe; inside = fits.0.inside }; whole = fits.2 }
 stripe_fits shape z (HoldOp b k end buf) fits = record { block = record { here = sym fits.0.stripe; inside = fits.0.inside }; whole = fits.2 }

@@ -14,7 +14,7 @@ use Rattle.qs_part.specs.declared.tracker.TrackerOp.TheVariants.{Enter as EnterO
 use Rattle.qs_part.specs.declared.tracker.TrackerReply.{TrackerReply}
 use Rattle.qs_part.specs.declared.tracker.TrackerReply.TheVariants.{Entered, Quiesced as QuiescedReply, Full as FullReply, Listed, Strange as StrangeReply, Started, NotYet as NotYetReply, Ended}
 use Rattle.qs_model.specs.Requests.{Client, Pads, Stage, ToRoute, ToList, ToStart, ToLoad, ToHold, ToStore, ToFree, ToEnd, Ready, Entering, In, edge, span_of, serial}
-use Rattle.qs_model.specs.Worlds.{Tracker, Image, World, stripe_of}
+use Rattle.qs_model.specs.Worlds.{Image, World, stripe_of}
 use Rattle.qs_model.specs.Acts.{block_of as act_block, Act, Waits, Enters, Routes, Shuts, Lists, Starts, Loads, LoadFails, Holds, HoldFails, Stores, StoreFails, Frees, Ends, Quiesced, Full, NotYet, HeldBy, Taken, Strange, NotHeld}
 use Rattle.qs_model.specs.Guards.{MayDo}
 use Rattle.qs_model.specs.Steps.{tracked, imaged, spent}
@@ -29,19 +29,17 @@ use Rattle.qs_request.specs.Rows.{IsRow}
 use Rattle.qs_request.specs.Table.{IsMerged}
 use Rattle.qs_stripe.specs.Table.{StripeValue, answers as stripe_answers}
 use Rattle.qs_bytes.specs.declared.ask.Verdict.{Verdict}
+use Rattle.qs_tracker.specs.declared.seat.Listing.{Listing}
+use Rattle.qs_tracker.specs.declared.seat.Seat.{Seat}
+use Rattle.qs_tracker.specs.declared.seat.Seat.TheVariants.{Vacant, Present, Has}
 use Rattle.qs_tracker.specs.Seats.{seat_at}
-use Rattle.qs_tracker.specs.Table.{TrackerValue, numbered, May, MayStart, after, answers}
+use Rattle.qs_tracker.specs.Table.{TrackerValue, May, MayStart, after, answers}
 use Rattle.qs_request.specs.declared.todo.Todo.TheVariants.{Tracker as OnTracker, Graph as OnGraph, Stripe as OnStripe, Answer}
 use Rattle.qs_request.specs.Table.{WantsAt}
-use Rattle.qs_tracker.proofs.Sound.{Sound}
-use Rattle.qs_world.specs.Graphs.{StandsGraph}
 use Rattle.qs_world.specs.Events.{IsRowAsPlanned}
 use Rattle.qs_world.specs.Images.{StandsImage, StandsPlans, Changed}
-use Rattle.qs_part.specs.declared.event.OpKind.TheVariants.{List as ListKind}
 use Rattle.qs_world.specs.Notes.{tracker_note, tracker_kind, route_note, stripe_note, stripe_kind, block_of}
-use Rattle.qs_world.specs.Trackers.{StandsTracker, tracker_of, listing_of}
-use Rattle.qs_world.proofs.TrackerRows.{entered, full, listed_row, list_strange, started_row, wait_row, start_strange, ended_row, end_strange, started_listing, can_start, nowhere}
-use Rattle.qs_world.proofs.GraphRows.{routed_row, shut_row}
+use Rattle.qs_world.proofs.Coming.{graph_may}
 use Rattle.qs_world.proofs.StripeRows.{reads_stands, takes_stands, frees_stands, written_stands, told_past, can_read, can_hold, can_free, held_at, same_stands, holder_is, alone, not_held, can_store, may_keep, took, took_now, took_as_planned}
 use Rattle.qs_world.proofs.PlanRows.{plans_same, plans_load, plans_store}
 
@@ -50,150 +48,157 @@ pub record TrackerRow (A : ℕ) (c : Client) (p : Pads) (stage : Stage) (op : Tr
   pub act : Act stage
   pub is_row : IsRow (ByTracker reply) act
   pub note : note_of A c act ≡ Some (tracker_note (tracker_kind op) reply)
-  pub guard : (w : World) → StandsTracker old w.tracker → MayDo A w c p act
-  pub tracks : (t : Tracker) → StandsTracker old t → StandsTracker new (tracked A t c act)
+  pub guard : (w : World) → w.tracker ≡ old → MayDo A w c p act
+  pub tracks : tracked A old c act ≡ new
   pub images : (i : Image) → imaged A i c act ≡ i
   pub plans : (p : ℕ → Plans) → spent A p c act ≡ p
   pub as_planned : (s : ℕ → StripeValue) → IsRowAsPlanned s act
   pub off : act_block A c act ≡ None
 
-enter_row : (A : ℕ) (c : Client) (p : Pads) (reply : TrackerReply) (v : TrackerValue) → Sound v → May v EnterOp reply →
+-- what holds of no place
+pub nowhere : (P : Seat → Type 0) → (P Vacant → ⊥) → (P Present → ⊥) → ((l : Listing) → P (Has l) → ⊥) → (s : Seat) → P s → ⊥
+nowhere P vacant present has Vacant h = vacant h
+nowhere P vacant present has Present h = present h
+nowhere P vacant present has (Has l) h = has l h
+
+-- what the tracker may answer, the model's may
+may_here : (v t : TrackerValue) (op : TrackerOp) (reply : TrackerReply) → t ≡ v → May v op reply → May t op reply
+may_here v t op reply same may = subst (λ (x : TrackerValue). May x op reply) (sym same) may
+
+enter_row : (A : ℕ) (c : Client) (p : Pads) (reply : TrackerReply) (v : TrackerValue) → May v EnterOp reply →
     TrackerRow A c p Entering EnterOp reply v (after v EnterOp reply)
-enter_row A c p (Entered k) v sound may = record {
+enter_row A c p (Entered k) v may = record {
   act = Enters k;
   is_row = refl;
   note = refl;
-  guard = λ w stands. (entered v w.tracker k sound stands may).0;
-  tracks = λ t stands. (entered v t k sound stands may).1;
+  guard = λ w same. may_here v w.tracker EnterOp (Entered k) same may;
+  tracks = refl;
   images = λ i. refl;
   plans = λ p. refl;
   as_planned = λ s. tt;
   off = refl;
 }
-enter_row A c p QuiescedReply v sound may = record {
+enter_row A c p QuiescedReply v may = record {
   act = Waits Quiesced;
   is_row = tt;
   note = refl;
-  guard = λ w stands. stands.quiesced ∙ may;
-  tracks = λ t stands. stands;
+  guard = λ w same. may_here v w.tracker EnterOp QuiescedReply same may;
+  tracks = refl;
   images = λ i. refl;
   plans = λ p. refl;
   as_planned = λ s. tt;
   off = refl;
 }
-enter_row A c p FullReply v sound may = record {
+enter_row A c p FullReply v may = record {
   act = Waits Full;
   is_row = tt;
   note = refl;
-  guard = λ w stands. full v w.tracker sound stands may;
-  tracks = λ t stands. stands;
+  guard = λ w same. may_here v w.tracker EnterOp FullReply same may;
+  tracks = refl;
   images = λ i. refl;
   plans = λ p. refl;
   as_planned = λ s. tt;
   off = refl;
 }
-enter_row A c p _ v sound may = absurd may
+enter_row A c p _ v may = absurd may
 
-list_row : (A : ℕ) (c : Client) (p : Pads) (k : ℕ) (reply : TrackerReply) (v : TrackerValue) → Sound v →
-    May v (ListOp k (aligned_out (span_of c) A) (serial A c)) reply →
+list_row : (A : ℕ) (c : Client) (p : Pads) (k : ℕ) (reply : TrackerReply) (v : TrackerValue) → May v (ListOp k (aligned_out (span_of c) A) (serial A c)) reply →
     TrackerRow A c p (In k ToList) (ListOp k (aligned_out (span_of c) A) (serial A c)) reply v (after v (ListOp k (aligned_out (span_of c) A) (serial A c)) reply)
-list_row A c p k (Listed n) v sound may = record {
-  act = Lists (tracker_of (numbered v));
-  is_row = sym may.1;
-  note = ap (λ (i : ℕ). Some (tracker_note ListKind (Listed i))) (sym may.1);
-  guard = λ w stands. let r = listed_row v w.tracker k n (aligned_out (span_of c) A) (serial A c) sound stands may in (r.0, r.1);
-  tracks = λ t stands. (listed_row v t k n (aligned_out (span_of c) A) (serial A c) sound stands may).3;
+list_row A c p k (Listed n) v may = record {
+  act = Lists n;
+  is_row = refl;
+  note = refl;
+  guard = λ w same. may_here v w.tracker (ListOp k (aligned_out (span_of c) A) (serial A c)) (Listed n) same may;
+  tracks = refl;
   images = λ i. refl;
   plans = λ p. refl;
   as_planned = λ s. tt;
   off = refl;
 }
-list_row A c p k StrangeReply v sound may = record {
+list_row A c p k StrangeReply v may = record {
   act = Waits Strange;
   is_row = tt;
   note = refl;
-  guard = λ w stands. list_strange v w.tracker k (aligned_out (span_of c) A) (serial A c) stands may;
-  tracks = λ t stands. stands;
+  guard = λ w same. may_here v w.tracker (ListOp k (aligned_out (span_of c) A) (serial A c)) StrangeReply same may;
+  tracks = refl;
   images = λ i. refl;
   plans = λ p. refl;
   as_planned = λ s. tt;
   off = refl;
 }
-list_row A c p k _ v sound may = absurd may
+list_row A c p k _ v may = absurd may
 
-start_row : (A : ℕ) (c : Client) (p : Pads) (k : ℕ) (reply : TrackerReply) (v : TrackerValue) → Sound v → May v (StartOp k) reply →
+start_row : (A : ℕ) (c : Client) (p : Pads) (k : ℕ) (reply : TrackerReply) (v : TrackerValue) → May v (StartOp k) reply →
     TrackerRow A c p (In k ToStart) (StartOp k) reply v (after v (StartOp k) reply)
-start_row A c p k Started v sound may =
-    let l = started_listing v k may in
-    record {
-      act = Starts (listing_of l.0);
-      is_row = tt;
-      note = refl;
-      guard = λ w stands. can_start v w.tracker k l.0 stands l.1.0 l.1.1;
-      tracks = λ t stands. started_row v t k l.0 stands l.1.0;
-      images = λ i. refl;
-      plans = λ p. refl;
-      as_planned = λ s. tt;
-      off = refl;
-    }
-start_row A c p k (NotYetReply n) v sound may = record {
+start_row A c p k Started v may = record {
+  act = Starts;
+  is_row = tt;
+  note = refl;
+  guard = λ w same. may_here v w.tracker (StartOp k) Started same may;
+  tracks = refl;
+  images = λ i. refl;
+  plans = λ p. refl;
+  as_planned = λ s. tt;
+  off = refl;
+}
+start_row A c p k (NotYetReply n) v may = record {
   act = Waits (NotYet n);
   is_row = refl;
   note = refl;
-  guard = λ w stands. wait_row v w.tracker k n stands may;
-  tracks = λ t stands. stands;
+  guard = λ w same. may_here v w.tracker (StartOp k) (NotYetReply n) same may;
+  tracks = refl;
   images = λ i. refl;
   plans = λ p. refl;
   as_planned = λ s. tt;
   off = refl;
 }
-start_row A c p k StrangeReply v sound may = record {
+start_row A c p k StrangeReply v may = record {
   act = Waits Strange;
   is_row = tt;
   note = refl;
-  guard = λ w stands. start_strange v w.tracker k stands may;
-  tracks = λ t stands. stands;
+  guard = λ w same. may_here v w.tracker (StartOp k) StrangeReply same may;
+  tracks = refl;
   images = λ i. refl;
   plans = λ p. refl;
   as_planned = λ s. tt;
   off = refl;
 }
-start_row A c p k reply v sound may =
+start_row A c p k reply v may =
     absurd (nowhere (λ s. MayStart v.seats s reply) (λ h. h) (λ h. h) (λ l h. h) (seat_at v.seats k) may)
 
-end_row : (A : ℕ) (c : Client) (p : Pads) (k : ℕ) (answer : Verdict) (reply : TrackerReply) (v : TrackerValue) → Sound v → May v (EndOp k) reply →
+end_row : (A : ℕ) (c : Client) (p : Pads) (k : ℕ) (answer : Verdict) (reply : TrackerReply) (v : TrackerValue) → May v (EndOp k) reply →
     TrackerRow A c p (In k (ToEnd answer)) (EndOp k) reply v (after v (EndOp k) reply)
-end_row A c p k answer Ended v sound may = record {
+end_row A c p k answer Ended v may = record {
   act = Ends;
   is_row = tt;
   note = refl;
-  guard = λ w stands. (ended_row v w.tracker k stands may).0;
-  tracks = λ t stands. (ended_row v t k stands may).1;
+  guard = λ w same. may_here v w.tracker (EndOp k) Ended same may;
+  tracks = refl;
   images = λ i. refl;
   plans = λ p. refl;
   as_planned = λ s. tt;
   off = refl;
 }
-end_row A c p k answer StrangeReply v sound may = record {
+end_row A c p k answer StrangeReply v may = record {
   act = Waits Strange;
   is_row = tt;
   note = refl;
-  guard = λ w stands. end_strange v w.tracker k stands may;
-  tracks = λ t stands. stands;
+  guard = λ w same. may_here v w.tracker (EndOp k) StrangeReply same may;
+  tracks = refl;
   images = λ i. refl;
   plans = λ p. refl;
   as_planned = λ s. tt;
   off = refl;
 }
-end_row A c p k answer _ v sound may = absurd may
+end_row A c p k answer _ v may = absurd may
 
 pub tracker_todo : (op other : TrackerOp) → OnTracker op ≡ OnTracker other → op ≡ other
 tracker_todo op other e = cc
 
 -- the tracker answered the operation that a request wanted
 pub tracker_row : (A : ℕ) (c : Client) (p : Pads) (stage : Stage) (op : TrackerOp) (reply : TrackerReply) (old new : TrackerValue) →
-    WantsAt A c p stage (OnTracker op) → Sound old → answers old op reply new → TrackerRow A c p stage op reply old new
-tracker_row A c p stage op reply old new wants sound row =
+    WantsAt A c p stage (OnTracker op) → answers old op reply new → TrackerRow A c p stage op reply old new
+tracker_row A c p stage op reply old new wants row =
     subst (λ (v : TrackerValue). TrackerRow A c p stage op reply old v) (sym row.1) (go stage wants)
   where
     by : (stage : Stage) (wanted : TrackerOp) → op ≡ wanted → (May old wanted reply → TrackerRow A c p stage wanted reply old (after old wanted reply)) →
@@ -203,23 +208,23 @@ tracker_row A c p stage op reply old new wants sound row =
 
     go : (stage : Stage) → WantsAt A c p stage (OnTracker op) → TrackerRow A c p stage op reply old (after old op reply)
     go (Ready v) w = let e : OnTracker op ≡ Answer v = w in absurd (cc)
-    go Entering w = by Entering EnterOp (tracker_todo op _ w) (λ may. enter_row A c p reply old sound may)
+    go Entering w = by Entering EnterOp (tracker_todo op _ w) (λ may. enter_row A c p reply old may)
     go (In k ToRoute) w = let e : OnTracker op ≡ OnGraph (RouteOp c.export) = w in absurd (cc)
-    go (In k ToList) w = by (In k ToList) (ListOp k (aligned_out (span_of c) A) (serial A c)) (tracker_todo op _ w) (λ may. list_row A c p k reply old sound may)
-    go (In k ToStart) w = by (In k ToStart) (StartOp k) (tracker_todo op _ w) (λ may. start_row A c p k reply old sound may)
+    go (In k ToList) w = by (In k ToList) (ListOp k (aligned_out (span_of c) A) (serial A c)) (tracker_todo op _ w) (λ may. list_row A c p k reply old may)
+    go (In k ToStart) w = by (In k ToStart) (StartOp k) (tracker_todo op _ w) (λ may. start_row A c p k reply old may)
     go (In k (ToLoad b got)) w = let e : OnTracker op ≡ OnStripe (stripe_of b) (LoadOp b k w.0) = w.1.1 in absurd (cc)
     go (In k (ToHold side)) w = let e : OnTracker op ≡ OnStripe (stripe_of (edge A c side)) (HoldOp (edge A c side) k side w.0) = w.1.1 in absurd (cc)
     go (In k (ToStore b)) w = let e : OnTracker op ≡ OnStripe (stripe_of b) (StoreOp b k w.0) = w.1.1.0 in absurd (cc)
     go (In k (ToFree side)) w = let e : OnTracker op ≡ OnStripe (stripe_of (edge A c side)) (FreeOp (edge A c side) k) = w in absurd (cc)
-    go (In k (ToEnd v)) w = by (In k (ToEnd v)) (EndOp k) (tracker_todo op _ w) (λ may. end_row A c p k v reply old sound may)
+    go (In k (ToEnd v)) w = by (In k (ToEnd v)) (EndOp k) (tracker_todo op _ w) (λ may. end_row A c p k v reply old may)
 
 -- an answer of the graph, as a row
 pub record GraphRow (A : ℕ) (c : Client) (p : Pads) (stage : Stage) (reply : GraphReply) (v : GraphValue) : Type 0 where
   pub act : Act stage
   pub is_row : IsRow (ByGraph reply) act
   pub note : note_of A c act ≡ Some (route_note reply)
-  pub guard : (w : World) → StandsGraph v w.graph → MayDo A w c p act
-  pub tracks : (t : Tracker) → tracked A t c act ≡ t
+  pub guard : (w : World) → w.graph ≡ v → MayDo A w c p act
+  pub tracks : (t : TrackerValue) → tracked A t c act ≡ t
   pub images : (i : Image) → imaged A i c act ≡ i
   pub plans : (p : ℕ → Plans) → spent A p c act ≡ p
   pub as_planned : (s : ℕ → StripeValue) → IsRowAsPlanned s act
@@ -231,7 +236,7 @@ route_row A c p k (Routed way) v may = record {
   act = Routes way;
   is_row = refl;
   note = refl;
-  guard = λ w stands. routed_row v w.graph c.export way stands may;
+  guard = λ w same. graph_may v w.graph (RouteOp c.export) (Routed way) same may;
   tracks = λ t. refl;
   images = λ i. refl;
   plans = λ p. refl;
@@ -242,7 +247,7 @@ route_row A c p k Shutting v may = record {
   act = Shuts;
   is_row = tt;
   note = refl;
-  guard = λ w stands. shut_row v w.graph c.export stands may;
+  guard = λ w same. graph_may v w.graph (RouteOp c.export) Shutting same may;
   tracks = λ t. refl;
   images = λ i. refl;
   plans = λ p. refl;
@@ -282,7 +287,7 @@ pub record StripeRow (A : ℕ) (c : Client) (p : Pads) (stage : Stage) (op : Str
   pub note : note_of A c act ≡ Some (stripe_note (stripe_kind op) (block_of op) reply)
   pub guard : (w : World) → w.tells ≡ tells → StandsImage s w.tells w.image → StandsPlans s w.plans → MayDo A w c p act
   pub images : (i : Image) → StandsImage s tells i → StandsImage t tells (imaged A i c act)
-  pub tracks : (r : Tracker) → tracked A r c act ≡ r
+  pub tracks : (r : TrackerValue) → tracked A r c act ≡ r
   pub plans : (q : ℕ → Plans) → StandsPlans s q → StandsPlans t (spent A q c act)
   pub as_planned : IsRowAsPlanned s act
   pub on : (d : ℕ) → act_block A c act ≡ Some d → d ≡ block_of op

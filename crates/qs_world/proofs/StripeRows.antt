@@ -445,7 +445,7 @@ took_now tells b bytes now old new told may same tell = go old.full (plans_of ol
 
     go : (full plan : Option Bool) → old.full ≡ full → (plans_of old.planned).store ≡ plan →
         (new.now b ≡ cond (planned_or full plan (decided tells b bytes old new told may)) bytes now) × ((c : ℕ) → c ≢ b → new.now c ≡ old.now c)
-    go (Some false) (Some writes) is_full is = left writes (may.as_planned writes (told tell) is_full is)
+    go (Some false) (Some writes) is_full is = left writes ((may.as_planned writes (told tell) is).left is_full)
     go (Some false) None is_full is = decided_now tells b bytes now old new told may same tell
     go (Some true) plan is_full is = decided_now tells b bytes now old new told may same tell
     go None plan is_full is = decided_now tells b bytes now old new told may same tell

@@ -1,7 +1,5 @@
 pub mod Keyed
-pub mod Trackers
 pub mod Images
-pub mod Graphs
 pub mod Values
 pub mod Stands
 pub mod Sound

@@ -1,4 +1,4 @@
--- The note of an operation: its kind, its block, and its answer without buffers.
+-- The note of an operation: its kind, its block, and its answer without buffers and tables.
 use Rattle.std.specs.Prelude.{ℕ, Some, None}
 use Rattle.qs_part.specs.declared.event.OpKind.{OpKind}
 use Rattle.qs_part.specs.declared.event.OpKind.TheVariants.{Enter, List, Start, End, Load, Hold, Store, Free, Route, Detach}
@@ -6,7 +6,10 @@ use Rattle.qs_part.specs.declared.event.StripeNote.{StripeNote}
 use Rattle.qs_part.specs.declared.event.StripeNote.TheVariants.{Filled, Fault, HeldBy, Taken, Done, Freed, NotHeld}
 use Rattle.qs_part.specs.declared.event.Note.{Note}
 use Rattle.qs_part.specs.declared.event.NoteReply.TheVariants.{Tracker as OfTracker, Graph as OfGraph, Stripe as OfStripe}
+use Rattle.qs_part.specs.declared.event.GraphNote.{GraphNote}
+use Rattle.qs_part.specs.declared.event.GraphNote.TheVariants.{NotAttached, Detached, Shutting, Routed}
 use Rattle.qs_part.specs.declared.graph.GraphReply.{GraphReply}
+use Rattle.qs_part.specs.declared.graph.GraphReply.TheVariants.{Detached as DetachedReply, Routed as RoutedReply}
 use Rattle.qs_part.specs.declared.tracker.TrackerOp.{TrackerOp}
 use Rattle.qs_part.specs.declared.tracker.TrackerOp.TheVariants.{Enter as EnterOp, List as ListOp, Start as StartOp}
 use Rattle.qs_part.specs.declared.tracker.TrackerReply.{TrackerReply}
@@ -47,11 +50,21 @@ short NotHeldReply = NotHeld
 abbrev pub tracker_note : OpKind → TrackerReply → Note
 tracker_note kind reply = record { kind = kind; at = None; reply = OfTracker reply }
 
+-- a Route is answered by the way, or by Shutting
+abbrev pub route_answer : GraphReply → GraphNote
+route_answer (RoutedReply way) = Routed way
+route_answer _ = Shutting
+
 abbrev pub route_note : GraphReply → Note
-route_note reply = record { kind = Route; at = None; reply = OfGraph reply }
+route_note reply = record { kind = Route; at = None; reply = OfGraph (route_answer reply) }
+
+-- a Detach by Detached, or by NotAttached
+abbrev pub detach_answer : GraphReply → GraphNote
+detach_answer DetachedReply = Detached
+detach_answer _ = NotAttached
 
 abbrev pub detach_note : GraphReply → Note
-detach_note reply = record { kind = Detach; at = None; reply = OfGraph reply }
+detach_note reply = record { kind = Detach; at = None; reply = OfGraph (detach_answer reply) }
 
 abbrev pub stripe_note : OpKind → ℕ → StripeReply → Note
 stripe_note kind b reply = record { kind = kind; at = Some b; reply = OfStripe (short reply) }

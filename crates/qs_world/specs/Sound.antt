@@ -9,7 +9,6 @@ use Rattle.qs_stripe.specs.Table.{geometry}
 use Rattle.qs_world.specs.declared.live.Live.{Live}
 use Rattle.qs_world.specs.Keyed.{AreDistinct}
 use Rattle.qs_world.specs.Images.{stripe_at}
-use Rattle.qs_world.specs.Trackers.{HasHistory}
 use Rattle.qs_world.specs.Values.{WorldValue, stripes_of}
 use Rattle.qs_world.specs.Stands.{Stands}
 
@@ -32,7 +31,7 @@ pub record IsSound {D : Type 0} (seen : D → Seen) (w : WorldValue D) : Type 0 
   pub stripes : (j : ℕ) → j < 8 → IsStripe seen w j
   pub size : w.graph.size ≡ w.shape.size
   pub places : length w.graph.places ≡ 64
-  pub tracker : HasHistory w.tracker
+  pub seats : length w.tracker.seats ≡ 256
   pub requests : AllByRecursion (IsIdle w.shape w.next) w.requests
   pub numbers : AreDistinct (λ l. l.number) w.requests
   pub sessions : AreDistinct (λ m. m.session) w.sessions

@@ -1,7 +1,7 @@
 ghost use Rattle.std.specs.Prelude.{◌≡◌};
 ghost use Rattle.qs_world.specs.Notes.{block_of, detach_note, route_note, short, stripe_kind, stripe_note, tracker_kind, tracker_note};
 
-use qs_part::event::{Note, NoteReply, OpKind, StripeNote};
+use qs_part::event::{GraphNote, Note, NoteReply, OpKind, StripeNote};
 use qs_part::graph::GraphReply;
 use qs_part::stripe::{StripeOp, StripeReply};
 use qs_part::tracker::{TrackerOp, TrackerReply};
@@ -33,10 +33,14 @@ pub fn tracker_note(kind: OpKind, reply: TrackerReply) -> Note
 pub fn route_note(reply: &GraphReply) -> Note
     ensures { result ≡ route_note reply.now }
 {
+    let answer = match reply {
+        GraphReply::Routed(way) => GraphNote::Routed(*way),
+        _ => GraphNote::Shutting,
+    };
     Note {
         kind: OpKind::Route,
         at: None,
-        reply: NoteReply::Graph(*reply),
+        reply: NoteReply::Graph(answer),
     }
 }
 
@@ -83,9 +87,13 @@ pub fn stripe_note(kind: OpKind, b: u64, reply: &StripeReply) -> Note
 pub fn detach_note(reply: &GraphReply) -> Note
     ensures { result ≡ detach_note reply.now }
 {
+    let answer = match reply {
+        GraphReply::Detached => GraphNote::Detached,
+        _ => GraphNote::NotAttached,
+    };
     Note {
         kind: OpKind::Detach,
         at: None,
-        reply: NoteReply::Graph(*reply),
+        reply: NoteReply::Graph(answer),
     }
 }

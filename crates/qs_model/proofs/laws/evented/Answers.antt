@@ -3,4 +3,4 @@ use Rattle.qs_model.proofs.Evented.{evented as law}
 use Rattle.qs_model.proofs.laws.evented.Goals as goal
 
 pub returns : goal.returns
-returns c = λ A tells plans now es run. law A (opening tells plans now) es run
+returns c = λ A o es run. law A (opening o) es run

@@ -4,4 +4,4 @@ use Rattle.qs_model.proofs.Between.{in_place as law}
 use Rattle.qs_model.proofs.laws.in_place.Goals as goal
 
 pub returns : goal.returns
-returns c = λ A tells plans now es pos run. law A (opening tells plans now) es pos (new_ok A tells 0 plans now) run
+returns c = λ A o es pos run. law A (opening o) es pos (new_ok A 0 o) run

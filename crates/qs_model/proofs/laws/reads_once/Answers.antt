@@ -5,4 +5,4 @@ use Rattle.qs_model.proofs.ReadsOnce.{reads_once as law}
 use Rattle.qs_model.proofs.laws.reads_once.Goals as goal
 
 pub returns : goal.returns
-returns c = λ A tells plans now es pos run. law A (opening tells plans now) es pos (new_ok A tells 0 plans now) (λ r. refl) refl run
+returns c = λ A o es pos run. law A (opening o) es pos (new_ok A 0 o) (λ r. refl) refl run

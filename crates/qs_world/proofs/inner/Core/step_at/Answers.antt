@@ -17,8 +17,7 @@ use Rattle.qs_world.proofs.Indexing.{awaits_reply, follow_tells, given, one_elem
 use Rattle.qs_world.proofs.Keyed.{element, remove_set}
 use Rattle.qs_world.proofs.PartSteps.{tracker_steps, graph_steps, stripe_steps}
 use Rattle.qs_world.proofs.Ready.{answer_steps}
-use Rattle.qs_world.proofs.Replies.{tracker_fits, tracker_may, graph_may, stripe_may, stripe_fits, stripe_below}
-use Rattle.qs_world.proofs.TrackerRows.{history_sound}
+use Rattle.qs_world.proofs.Replies.{tracker_may, graph_may, stripe_may, stripe_fits, stripe_below}
 use Rattle.qs_world.proofs.inner.Core.step_at.Goals as goal
 
 pub follow-requires-clause-awaits : goal.follow-requires-clause-awaits
@@ -28,7 +27,7 @@ follow-requires-clause-awaits g c = λ l e.
     let idle = idle_at (value_of c.args.self.now) c.args.at x c.requires.sound.requests at in
     awaits_reply c.args.self.now.requests.items c.args.at x l c.next.new.self (ByTracker c.step-reply.result) c.requires.inside c.in-Tracker.ensures.leaves idle.answered
     (tracker_may x.request.shape.align x.request.request.client x.request.request.pads x.request.request.stage c.in-Tracker.op c.step-reply.result
-    c.args.self.now.tracker c.step-reply.new.self (history_sound c.args.self.now.tracker c.requires.sound.tracker).size
+    c.args.self.now.tracker c.step-reply.new.self c.requires.sound.seats
     c.in-Tracker.ensures.wants c.step-reply.ensures.legal) e
 
 pub follow-requires-in-Graph-clause-awaits : goal.follow-requires-in-Graph-clause-awaits
@@ -84,7 +83,7 @@ returns-in-Tracker g c = λ l e.
     (record (value_of c.args.self.now) { requests = c.follow.new.requests.items; tracker = c.step-reply.new.self }))
     (one_element c.args.self.now.requests.items c.args.at x l at e)
     (tracker_steps g.D.Disk.seen (value_of c.args.self.now) (record (value_of c.args.self.now) { requests = c.follow.new.requests.items; tracker = c.step-reply.new.self })
-    c.args.at x c.in-Tracker.op c.step-reply.result c.follow.result c.requires.sound at wants (tracker_fits x.request.shape c.in-Tracker.op c.in-Tracker.ensures.fits)
+    c.args.at x c.in-Tracker.op c.step-reply.result c.follow.result c.requires.sound at wants
     c.step-reply.ensures.legal refl refl refl refl refl
     (follow_tells c.args.self.now.requests.items c.args.at x c.next.new.self (ByTracker c.step-reply.result) (tracker_note (tracker_kind c.in-Tracker.op) c.step-reply.result)
     c.tracker_note.result c.follow.result c.follow.new.requests.items c.requires.inside c.in-Tracker.ensures.leaves

@@ -1,0 +1,223 @@
+-- A line that one replay does isn't the one that another breaks off at.
+use Rattle.std.proofs.Common.{◌≡◌, ℕ, inl, inr, List, [], ◌∷◌, ◌++◌, refl, sym, subst, ap, ◌∙◌, arith}
+use Rattle.std.specs.Prelude.{All, Bool, Option, None, Some}
+use Rattle.std.proofs.lemmas.List.Elements.{All-head}
+use Rattle.std.specs.FinMap as map
+use Rattle.std.proofs.lemmas.Option.{none-some}
+use Rattle.qs_bytes.specs.declared.ask.Ask.{Ask}
+use Rattle.qs_outside.specs.Blocks.{Seen}
+use Rattle.qs_part.specs.declared.event.Actor.{Actor}
+use Rattle.qs_part.specs.declared.event.Actor.TheVariants.{Session as ASession, Request as ARequest}
+use Rattle.qs_part.specs.declared.event.Event.{Event}
+use Rattle.qs_part.specs.declared.event.Event.TheVariants as event
+use Rattle.qs_part.specs.declared.event.Outcome.{Outcome}
+use Rattle.qs_part.specs.declared.event.Outcome.TheVariants as outcome
+use Rattle.qs_script.specs.declared.actor.ScriptActor.{ScriptActor}
+use Rattle.qs_script.specs.declared.actor.ScriptActor.TheVariants as who
+use Rattle.qs_script.specs.declared.line.Line.{Line}
+use Rattle.qs_script.specs.declared.line.Line.TheVariants as line
+use Rattle.qs_script.proofs.OneLine.{one_line}
+use Rattle.qs_model.specs.Acts.{Element, Attached, NoExport, Crowded, Left, Detached, NotAttached, Asked, Did}
+use Rattle.qs_model.specs.Events.{IsEvent}
+use Rattle.qs_model.specs.Guards.{May, HasRequest}
+use Rattle.qs_model.specs.Requests.{Req}
+use Rattle.qs_model.specs.Worlds.{Session, Away, Live, Leaving, World}
+use Rattle.qs_world.specs.Events.{IsNotNext, Steps}
+use Rattle.qs_world.specs.Values.{WorldValue, request_at, session_at}
+use Rattle.qs_replay.specs.Calls.{Call, Happened, Makes, Plays}
+use Rattle.qs_replay.specs.Effects.{Does, DrivesNotLive, GoesOn, IsActor, IsEventOf, IsNotLive, Adds, RunsOut, UsesAgain, bytes_or, read_ask, write_ask}
+use Rattle.qs_replay.specs.Readings.{IsText}
+use Rattle.qs_replay.specs.Scripts.{DoesText, IsBad, IsUntimely}
+use Rattle.qs_replay.specs.Tables.{IsUsed, Names}
+use Rattle.qs_replay.proofs.Playing.{asks_once}
+use Rattle.qs_same_replay.proofs.TwinEvents.{actor_one, gives_one}
+use Rattle.qs_same_replay.proofs.Twins.{Twins}
+
+-- a cookie that a request was noted by wasn't used before
+note_fresh : (made : Event) (o : Outcome) (n : ℕ) (ask : Ask) (body : Option (List ℕ)) (t t' : Names) → made ≡ event.Ask n ask body → Adds made o t t' →
+    IsUsed t n ask.cookie → ⊥
+note_fresh made o n ask body t t' is notes = go o (subst (λ (e : Event). Adds e o t t') is notes)
+  where
+    go : (x : Outcome) → Adds (event.Ask n ask body) x t t' → IsUsed t n ask.cookie → ⊥
+    go (outcome.Made r) notes = notes.0
+    go _ notes = absurd notes
+
+-- a line that was done doesn't use a cookie again
+used_never : (t t1 : Names) (l : Line) (lost : Bool) (calls : List Call) (printed : List ℕ) → Does t l lost calls printed t1 → UsesAgain t l → ⊥
+used_never t t1 (line.Read s c offset long) lost calls printed does again =
+    let (n, body, (gives, room, made_is)) = does.event_is in
+    asks_once t does.mid (line.Read s c offset long) lost n s (read_ask c offset long) body (refl, refl, room) gives
+    (note_fresh does.made does.outcome n (read_ask c offset long) body does.mid t1 made_is does.notes) again
+used_never t t1 (line.Write s c offset bytes) lost calls printed does again =
+    let (n, (gives, made_is)) = does.event_is in
+    asks_once t does.mid (line.Write s c offset bytes) lost n s (write_ask c offset bytes) _ (refl, refl, refl) gives
+    (note_fresh does.made does.outcome n (write_ask c offset bytes) _ does.mid t1 made_is does.notes) again
+used_never t t1 line.Nothing lost calls printed does again = again
+used_never t t1 (line.Session s e) lost calls printed does again = again
+used_never t t1 (line.End s) lost calls printed does again = again
+used_never t t1 (line.Step a now) lost calls printed does again = again
+used_never t t1 (line.Run a now) lost calls printed does again = again
+used_never t t1 (line.Fail j k) lost calls printed does again = again
+
+-- so a line that was done isn't bad
+pub bad_never : {D : Type 0} (seen : D → Seen) (w v : WorldValue D) (t t1 : Names) (text : List ℕ) (calls : List Call) (printed : List ℕ) → IsText text →
+    DoesText seen w t text calls printed v t1 → IsBad t text → ⊥
+bad_never seen w v t t1 text calls printed is_text does (inl long) = omega (arith, long, is_text.short)
+bad_never seen w v t t1 text calls printed is_text does (inr (inl none)) = none does.line does.reads
+bad_never seen w v t t1 text calls printed is_text does (inr (inr again)) =
+    used_never t t1 does.line does.lost calls printed does.is.does
+    (subst (λ (l : Line). UsesAgain t l) (one_line text again.0 does.line again.1.0 does.reads) again.1.1)
+
+-- an actor that was found isn't gone
+found_never : (t mid : Names) (w : ScriptActor) (a : Actor) → IsActor t w a mid → IsNotLive t w → ⊥
+found_never t mid (who.Session s) a is gone = gone
+found_never t mid (who.Request s c) a is gone =
+    let same = gives_one t mid gone.1 s is.0 gone.0 is.2.0 gone.2.0 in
+    none-some is.1 (sym gone.2.1
+    ∙ subst (λ (u : Names). map.get u.live (gone.0, c) ≡ Some is.1) (sym same.1) (subst (λ (n : ℕ). map.get mid.live (n, c) ≡ Some is.1) (sym same.0) is.2.1))
+
+driven_never : (t t1 : Names) (l : Line) (lost : Bool) (calls : List Call) (printed : List ℕ) → Does t l lost calls printed t1 → DrivesNotLive t l → ⊥
+driven_never t t1 (line.Step a now) lost calls printed does unmade = found_never t does.mid a does.event_is.0 does.event_is.1.0 unmade
+driven_never t t1 (line.Run a now) lost calls printed does unmade = found_never t does.mid a does.event_is.0 does.event_is.1.0 unmade
+driven_never t t1 line.Nothing lost calls printed does unmade = unmade
+driven_never t t1 (line.Session s e) lost calls printed does unmade = unmade
+driven_never t t1 (line.End s) lost calls printed does unmade = unmade
+driven_never t t1 (line.Read s c offset long) lost calls printed does unmade = unmade
+driven_never t t1 (line.Write s c offset bytes) lost calls printed does unmade = unmade
+driven_never t t1 (line.Fail j k) lost calls printed does unmade = unmade
+
+-- whether a line's event can come hangs on no body
+same_target : {D : Type 0} (w : WorldValue D) (t mid mid' : Names) (l : Line) (lost lost' : Bool) (made made' : Event) → IsEventOf t l lost made mid → IsEventOf t l lost' made' mid' →
+    IsNotNext w made → IsNotNext w made'
+same_target w t mid mid' (line.Session s e) lost lost' made made' is at not_next =
+    let same = gives_one t mid mid' s is.0 at.0 is.1.0 at.1.0 in
+    subst (IsNotNext w) (is.1.1 ∙ ap (λ (n : ℕ). event.Attach n e) (sym same.0) ∙ sym at.1.1) not_next
+same_target w t mid mid' (line.End s) lost lost' made made' is at not_next =
+    let same = gives_one t mid mid' s is.0 at.0 is.1.0 at.1.0 in
+    subst (IsNotNext w) (is.1.1 ∙ ap (λ (n : ℕ). event.Leave n) (sym same.0) ∙ sym at.1.1) not_next
+same_target w t mid mid' (line.Read s c offset long) lost lost' made made' is at not_next =
+    let same = gives_one t mid mid' s is.0 at.0 is.2.0 at.2.0 in
+    subst (IsNotNext w) (sym at.2.2)
+    (subst (λ (n : ℕ). IsNotNext w (event.Ask n (read_ask c offset long) at.1)) (sym same.0) (subst (IsNotNext w) is.2.2 not_next))
+same_target w t mid mid' (line.Write s c offset bytes) lost lost' made made' is at not_next =
+    let same = gives_one t mid mid' s is.0 at.0 is.1.0 at.1.0 in
+    subst (IsNotNext w) (sym at.1.1)
+    (subst (λ (n : ℕ). IsNotNext w (event.Ask n (write_ask c offset bytes) (bytes_or lost bytes))) (sym same.0) (subst (IsNotNext w) is.1.1 not_next))
+same_target w t mid mid' (line.Step a now) lost lost' made made' is at not_next =
+    let same = actor_one t mid mid' a is.0 at.0 is.1.0 at.1.0 in
+    subst (IsNotNext w) (is.1.1 ∙ ap (λ (x : Actor). event.Step x now) (sym same.0) ∙ sym at.1.1) not_next
+same_target w t mid mid' (line.Run a now) lost lost' made made' is at not_next =
+    let same = actor_one t mid mid' a is.0 at.0 is.1.0 at.1.0 in
+    subst (IsNotNext w) (is.1.1 ∙ ap (λ (x : Actor). event.Step x now) (sym same.0) ∙ sym at.1.1) not_next
+same_target w t mid mid' line.Nothing lost lost' made made' is at not_next = absurd is
+same_target w t mid mid' (line.Fail j k) lost lost' made made' is at not_next = absurd is
+
+-- an event that came to one of two twins can come to the other
+comes_never : {D : Type 0} (seen : D → Seen) (A : ℕ) (o o' : World) (w w' v' : WorldValue D) (made : Event) (x : Outcome) → Twins seen A o o' w w' → Steps seen w' made x v' →
+    IsNotNext w made → ⊥
+comes_never {D} seen A o o' w w' v' made x t steps not_next = go made steps.element steps.answers_event (steps.does t.model_too t.stands_too).0 not_next
+  where
+    -- what the first of the twins has, by what the second has
+    session_is : (s : ℕ) (found : Session) → t.model_too.session s ≡ found → session_at w.sessions s ≡ found
+    session_is s found is = sym (t.stands.session s) ∙ sym (t.alike.session s) ∙ is
+
+    request_is : (r : ℕ) (q : Req) → t.model_too.req r ≡ Some q → request_at w.requests r ≡ Some q
+    request_is r q is = sym (t.stands.request r) ∙ sym (t.alike.req r) ∙ is
+
+    none_some : (q : Req) → None ≡ Some q → ⊥
+    none_some q e = cc
+
+    one_request : (r n : ℕ) → ARequest n ≡ ARequest r → r ≡ n
+    one_request r n e = cc
+
+    one_session : (r n : ℕ) → ASession n ≡ ASession r → r ≡ n
+    one_session r n e = cc
+
+    request_session : (r n : ℕ) → ARequest n ≡ ASession r → ⊥
+    request_session r n e = cc
+
+    session_request : (r n : ℕ) → ASession n ≡ ARequest r → ⊥
+    session_request r n e = cc
+
+    stands_still : (s e : ℕ) → t.model_too.session s ≡ Leaving e → (HasRequest t.model_too s → ⊥) → IsNotNext w (event.Step (ASession s) 0) → ⊥
+    stands_still s e is none (inl f) = f e (session_is s (Leaving e) is)
+    stands_still s e is none (inr h) =
+        none (h.0, h.1, (t.alike.req h.0 ∙ t.stands.request h.0 ∙ h.2.0, h.2.1))
+
+    go : (made : Event) (e : Element) → IsEvent made e → May w'.shape.align t.model_too e → IsNotNext w made → ⊥
+    go (event.Attach n name) (Attached s given info) is may f = f (ap (session_at w.sessions) is.0 ∙ session_is s Away may.0)
+    go (event.Attach n name) (NoExport s given) is may f = f (ap (session_at w.sessions) is.0 ∙ session_is s Away may.0)
+    go (event.Attach n name) (Crowded s given) is may f = f (ap (session_at w.sessions) is.0 ∙ session_is s Away may.0)
+    go (event.Leave n) (Left s e) is may f = f e (ap (session_at w.sessions) is ∙ session_is s (Live e) may)
+    go (event.Ask n ask body) (Asked r c) is may (inl f) = f c.export (ap (session_at w.sessions) is.0 ∙ session_is c.session (Live c.export) may.live)
+    go (event.Ask n ask body) (Asked r c) is may (inr f) = omega (arith, f, may.room, may.next, t.alike.next, t.stands.next)
+    go (event.Step (ARequest n) now) (Did r q act) is may f =
+        none_some q (sym (subst (λ (k : ℕ). request_at w.requests k ≡ None) (sym (one_request r n is)) f) ∙ request_is r q may.0)
+    go (event.Step (ASession n) now) (Detached s e) is may f =
+        stands_still s e may.0.0 may.0.1 (subst (λ (k : ℕ). IsNotNext w (event.Step (ASession k) 0)) (sym (one_session s n is)) f)
+    go (event.Step (ASession n) now) (NotAttached s e) is may f =
+        stands_still s e may.0.0 may.0.1 (subst (λ (k : ℕ). IsNotNext w (event.Step (ASession k) 0)) (sym (one_session s n is)) f)
+    go (event.Step (ARequest n) now) (Detached s e) is may f = request_session s n is
+    go (event.Step (ARequest n) now) (NotAttached s e) is may f = request_session s n is
+    go (event.Step (ASession n) now) (Did r q act) is may f = session_request r n is
+    go _ _ is may f = absurd is
+
+-- the first step of a line with events
+pub record Begun {D : Type 0} (seen : D → Seen) (w : WorldValue D) (t : Names) (l : Line) : Type 0 where
+  pub made : Event
+  pub mid : Names
+  pub lost : Bool
+  pub outcome : Outcome
+  pub world : WorldValue D
+  pub event_is : IsEventOf t l lost made mid
+  pub steps : Steps seen w made outcome world
+
+begun_one : {D : Type 0} (seen : D → Seen) (w v : WorldValue D) (t mid : Names) (l : Line) (lost : Bool) (made : Event) (x : Outcome) (calls : List Call) →
+    IsEventOf t l lost made mid → calls ≡ Happened made x ∷ [] → Plays seen w calls v → Begun seen w t l
+begun_one {D} seen w v t mid l lost made x calls is calls_are plays =
+    let first = subst (λ (cs : List Call). Plays seen w cs v) calls_are plays in
+    record { made = made; mid = mid; lost = lost; outcome = x; world = first.0; event_is = is; steps = first.1.0.0 }
+
+begun_run : {D : Type 0} (seen : D → Seen) (w v : WorldValue D) (t mid : Names) (l : Line) (lost : Bool) (made : Event) (final : Outcome) (calls : List Call) →
+    IsEventOf t l lost made mid → RunsOut made calls final → Plays seen w calls v → Begun seen w t l
+begun_run {D} seen w v t mid l lost made final calls is out plays =
+    go out.front out.on (subst (λ (cs : List Call). Plays seen w cs v) out.whole plays)
+  where
+    go : (front : List Call) → All (GoesOn made) front → Plays seen w (front ++ Happened made final ∷ []) v → Begun seen w t l
+    go [] on first = record { made = made; mid = mid; lost = lost; outcome = final; world = first.0; event_is = is; steps = first.1.0.0 }
+    go (c ∷ front) on first =
+        let head = All-head (GoesOn made) c front on in
+        let makes = subst (λ (k : Call). Makes seen w k first.0) head.is first.1.0 in
+        record { made = made; mid = mid; lost = lost; outcome = head.outcome; world = first.0; event_is = is; steps = makes.0 }
+
+begun : {D : Type 0} (seen : D → Seen) (w v : WorldValue D) (t t1 : Names) (l : Line) (lost : Bool) (calls : List Call) (printed : List ℕ) →
+    Does t l lost calls printed t1 → Plays seen w calls v → (other : Event) (mid : Names) (gone : Bool) → IsEventOf t l gone other mid → Begun seen w t l
+begun seen w v t t1 (line.Session s e) lost calls printed does plays other mid gone is =
+    begun_one seen w v t does.mid (line.Session s e) lost does.made does.outcome calls does.event_is does.calls_are plays
+begun seen w v t t1 (line.End s) lost calls printed does plays other mid gone is =
+    begun_one seen w v t does.mid (line.End s) lost does.made does.outcome calls does.event_is does.calls_are plays
+begun seen w v t t1 (line.Read s c offset long) lost calls printed does plays other mid gone is =
+    begun_one seen w v t does.mid (line.Read s c offset long) lost does.made does.outcome calls does.event_is does.calls_are plays
+begun seen w v t t1 (line.Write s c offset bytes) lost calls printed does plays other mid gone is =
+    begun_one seen w v t does.mid (line.Write s c offset bytes) lost does.made does.outcome calls does.event_is does.calls_are plays
+begun seen w v t t1 (line.Step a now) lost calls printed does plays other mid gone is =
+    begun_one seen w v t does.mid (line.Step a now) lost does.made does.outcome calls does.event_is does.calls_are plays
+begun seen w v t t1 (line.Run a now) lost calls printed does plays other mid gone is =
+    begun_run seen w v t does.mid (line.Run a now) lost does.made does.outcome calls does.event_is does.calls_are plays
+begun seen w v t t1 line.Nothing lost calls printed does plays other mid gone is = absurd is
+begun seen w v t t1 (line.Fail j k) lost calls printed does plays other mid gone is = absurd is
+
+-- a line that one of two twins did could come to the other
+pub untimely_never : {D : Type 0} (seen : D → Seen) (A : ℕ) (o o' : World) (w w' v' : WorldValue D) (t t1 : Names) (text : List ℕ) (calls : List Call) (printed : List ℕ) →
+    Twins seen A o o' w w' → DoesText seen w' t text calls printed v' t1 → IsUntimely w t text → ⊥
+untimely_never {D} seen A o o' w w' v' t t1 text calls printed twins does bad =
+    let l : Line = does.line in
+    let same : bad.0 ≡ l = one_line text bad.0 l bad.1.0 does.reads in
+    elim bad.1.2 [
+      | inl cannot ↦
+          let is : IsEventOf t l cannot.lost cannot.made cannot.mid = subst (λ (k : Line). IsEventOf t k cannot.lost cannot.made cannot.mid) same cannot.event_is in
+          let b : Begun seen w' t l = begun seen w' v' t t1 l does.lost calls printed does.is.does does.is.plays cannot.made cannot.mid cannot.lost is in
+          comes_never seen A o o' w w' b.world b.made b.outcome twins b.steps
+          (same_target w t cannot.mid b.mid l cannot.lost b.lost cannot.made b.made is b.event_is cannot.not_next)
+      | inr drives ↦ driven_never t t1 l does.lost calls printed does.is.does (subst (λ (k : Line). DrivesNotLive t k) same drives)
+    ]

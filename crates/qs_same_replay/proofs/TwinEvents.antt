@@ -1,0 +1,107 @@
+-- The event of a line, and the names after it, in one way.
+use Rattle.std.proofs.Common.{◌≡◌, ℕ, ◌<◌, inl, inr, List, [], ◌∷◌, length, Bool, true, false, nat_lt, cond, refl, sym, subst, ap, ◌∙◌, arith, true≢false}
+use Rattle.std.specs.Prelude.{Option, Some, None, replicate}
+use Rattle.std.specs.FinMap as map
+use Rattle.qs_bytes.specs.declared.ask.Ask.{Ask}
+use Rattle.qs_outside.specs.Blocks.{Seen}
+use Rattle.qs_part.specs.declared.event.Actor.{Actor}
+use Rattle.qs_part.specs.declared.event.Event.{Event}
+use Rattle.qs_part.specs.declared.event.Event.TheVariants as event
+use Rattle.qs_part.specs.declared.event.Outcome.{Outcome}
+use Rattle.qs_part.specs.declared.event.Outcome.TheVariants as outcome
+use Rattle.qs_script.specs.declared.actor.ScriptActor.{ScriptActor}
+use Rattle.qs_script.specs.declared.actor.ScriptActor.TheVariants as who
+use Rattle.qs_script.specs.declared.line.Line.{Line}
+use Rattle.qs_script.specs.declared.line.Line.TheVariants as line
+use Rattle.qs_model.specs.Acts.{Element, Asked}
+use Rattle.qs_model.specs.Events.{IsEvent, outcome_of}
+use Rattle.qs_model.specs.Requests.{form_error}
+use Rattle.qs_model.specs.Steps.{happens}
+use Rattle.qs_model.specs.Worlds.{World}
+use Rattle.qs_model.proofs.Basics.{either}
+use Rattle.qs_world.specs.Stands.{Stands}
+use Rattle.qs_world.specs.Values.{WorldValue}
+use Rattle.qs_same_replay.specs.Same.{HasBuffers}
+use Rattle.qs_replay.specs.Effects.{Adds, IsActor, IsKey, IsRoom, Notes, Settles, bytes_or, longest_request, read_ask, write_ask}
+use Rattle.qs_replay.specs.Tables.{Gives, Names, settled}
+use Rattle.qs_replay.proofs.Playing.{gives_number, known_one}
+use Rattle.qs_same_replay.proofs.Twins.{asked_buffers}
+
+-- a name has one number
+pub gives_one : (t a b : Names) (s : List ℕ) (n m : ℕ) → Gives t s n a → Gives t s m b → (m ≡ n) × (b ≡ a)
+gives_one t a b s n m (inl p) (inl q) = (gives_number t b a s m n (inl q) (inl p), q.1 ∙ sym p.1)
+gives_one t a b s n m (inl p) (inr q) = absurd (q.0 n p.0.inside p.0.here)
+gives_one t a b s n m (inr p) (inl q) = absurd (p.0 m q.0.inside q.0.here)
+gives_one t a b s n m (inr p) (inr q) = (q.1 ∙ sym p.1, q.2 ∙ sym p.2)
+
+-- an actor is one
+pub actor_one : (t a b : Names) (w : ScriptActor) (x y : Actor) → IsActor t w x a → IsActor t w y b → (y ≡ x) × (b ≡ a)
+actor_one t a b (who.Session s) x y is at =
+    let one = gives_one t a b s is.0 at.0 is.1.0 at.1.0 in (at.1.1 ∙ ap (λ (n : ℕ). Actor.Session n) one.0 ∙ sym is.1.1, one.1)
+actor_one t a b (who.Request s c) x y is at =
+    let one = gives_one t a b s is.0 at.0 is.2.0 at.2.0 in
+    let same : at.1 ≡ is.1 = found_one (map.get a.live (is.0, c)) is.1 at.1 is.2.1
+    (subst (λ (n : ℕ). map.get a.live (n, c) ≡ Some at.1) one.0 (subst (λ (u : Names). map.get u.live (at.0, c) ≡ Some at.1) one.1 at.2.1)) in
+    (at.2.2 ∙ ap (λ (r : ℕ). Actor.Request r) same ∙ sym is.2.2, one.1)
+  where
+    found_one : (o : Option ℕ) (m k : ℕ) → o ≡ Some m → o ≡ Some k → k ≡ m
+    found_one o m k p q = cc
+
+-- the buffer that a READ brings where no memory is refused
+abbrev pub room_of : ℕ → Option (List ℕ)
+room_of n = cond (nat_lt longest_request n) None (Some (replicate n 0))
+
+-- a READ brings it
+pub read_body : {D : Type 0} (seen : D → Seen) (A n cookie offset long : ℕ) (body : Option (List ℕ)) (e : Element) (o : Outcome) (m : World) (v : WorldValue D) → IsRoom body long →
+    IsEvent (event.Ask n (read_ask cookie offset long) body) e → outcome_of A e ≡ Some o → HasBuffers o v → Stands seen v (happens A m e) → body ≡ room_of long
+read_body seen A n cookie offset long None (Asked s c) o m v room is told buffers stands = elim (either (nat_lt longest_request long)) [
+  | inl big ↦ sym (ap (λ (b : Bool). cond b None (Some (replicate long 0))) big)
+  | inr fits ↦ absurd (elim is.2.wanted [
+    | inl empty ↦ let none : long ≡ 0 = ap (λ (a : Ask). a.length) is.1 ∙ empty in omega (arith, none, room)
+    | inr refused ↦ true≢false (sym (asked_buffers seen A s c o m v told buffers stands (ap form_error (sym is.1) ∙ fits)) ∙ refused)
+  ])
+]
+read_body seen A n cookie offset long (Some bytes) (Asked s c) o m v room is told buffers stands = elim (either (nat_lt longest_request long)) [
+  | inl big ↦ let above : longest_request < long = grind (arith, big) in absurd (omega (arith, above, room.1))
+  | inr fits ↦ ap Some room.0 ∙ sym (ap (λ (b : Bool). cond b None (Some (replicate long 0))) fits)
+]
+read_body seen A n cookie offset long body _ o m v room is told buffers stands = absurd is
+
+-- a WRITE brings its bytes
+pub write_body : {D : Type 0} (seen : D → Seen) (A n cookie offset : ℕ) (bytes : List ℕ) (lost : Bool) (e : Element) (o : Outcome) (m : World) (v : WorldValue D) →
+    IsEvent (event.Ask n (write_ask cookie offset bytes) (bytes_or lost bytes)) e → outcome_of A e ≡ Some o → HasBuffers o v → Stands seen v (happens A m e) →
+    bytes_or lost bytes ≡ Some bytes
+write_body seen A n cookie offset [] true e o m v is told buffers stands = refl
+write_body seen A n cookie offset [] false e o m v is told buffers stands = refl
+write_body seen A n cookie offset (b ∷ bytes) true (Asked s c) o m v is told buffers stands = absurd (elim is.2.wanted [
+  | inl empty ↦ let none : length (b ∷ bytes) ≡ 0 = ap (λ (a : Ask). a.length) is.1 ∙ empty in omega (arith, none)
+  | inr refused ↦ true≢false (sym (asked_buffers seen A s c o m v told buffers stands (ap form_error (sym is.1))) ∙ refused)
+])
+write_body seen A n cookie offset (b ∷ bytes) true _ o m v is told buffers stands = absurd is
+write_body seen A n cookie offset (b ∷ bytes) false e o m v is told buffers stands = refl
+
+-- what a request is kept under is one
+key_one : (t : Names) (w : ScriptActor) (x y : Option (ℕ × ℕ)) → IsKey t w x → IsKey t w y → y ≡ x
+key_one t (who.Session s) x y is at = at ∙ sym is
+key_one t (who.Request s c) x y is at = at.1.1 ∙ ap (λ (n : ℕ). Some (n, c)) (known_one t.sessions s at.0 is.0 at.1.0 is.1.0) ∙ sym is.1.1
+
+settles_one : (w : ScriptActor) (o : Outcome) (t a b : Names) → Settles w o t a → Settles w o t b → b ≡ a
+settles_one w o t a b p q = q.1.1 ∙ ap (λ (k : Option (ℕ × ℕ)). settled t k o) (key_one t w p.0 q.0 p.1.0 q.1.0) ∙ sym p.1.1
+
+adds_one : (made : Event) (o : Outcome) (t a b : Names) → Adds made o t a → Adds made o t b → b ≡ a
+adds_one (event.Ask n ask body) (outcome.Made r) t a b p q = q.1 ∙ sym p.1
+adds_one (event.Ask n ask body) _ t a b p q = absurd p
+adds_one (event.Attach n e) o t a b p q = q ∙ sym p
+adds_one (event.Leave n) o t a b p q = q ∙ sym p
+adds_one (event.Step a1 now) o t a b p q = q ∙ sym p
+
+-- the names after a line
+pub notes_one : (l : Line) (made : Event) (o : Outcome) (t a b : Names) → Notes l made o t a → Notes l made o t b → b ≡ a
+notes_one (line.Step w now) made o t a b p q = settles_one w o t a b p q
+notes_one (line.Run w now) made o t a b p q = settles_one w o t a b p q
+notes_one line.Nothing made o t a b p q = adds_one made o t a b p q
+notes_one (line.Session s e) made o t a b p q = adds_one made o t a b p q
+notes_one (line.End s) made o t a b p q = adds_one made o t a b p q
+notes_one (line.Read s c offset long) made o t a b p q = adds_one made o t a b p q
+notes_one (line.Write s c offset bytes) made o t a b p q = adds_one made o t a b p q
+notes_one (line.Fail j k) made o t a b p q = adds_one made o t a b p q

@@ -1,0 +1,10 @@
+pub mod Folds
+pub mod Lines
+pub mod Telling
+pub mod Stories
+pub mod Verdicts
+pub mod Clients
+pub mod Tracing
+pub mod Traces
+pub mod Kept
+pub mod Judged

@@ -1,0 +1,5 @@
+pub mod Stories
+pub mod Verdicts
+pub mod Traces
+pub mod Kept
+pub mod Judged

@@ -1,0 +1,121 @@
+-- The answer of a request, by the table of replies: the first line that applies (NBD proto.md, and this server's own order).
+use Rattle.std.specs.Prelude.{◌≡◌, ◌↔◌, ℕ, ◌+◌, ◌⊎◌, Bool, true, false, not, ◌&&◌, ◌||◌, nat_lt, if◌then◌else◌, List, [], ◌∷◌, ◌++◌, Option, Some, None}
+use Rattle.qs_bytes.specs.declared.ask.Ask.{Ask}
+use Rattle.qs_bytes.specs.declared.ask.Kind.{Kind}
+use Rattle.qs_bytes.specs.declared.ask.Errno.TheVariants.{Perm, Io, NoMem, Inval, NoSpace, Shutdown}
+use Rattle.qs_bytes.specs.declared.ask.Verdict.{Verdict}
+use Rattle.qs_bytes.specs.declared.ask.Verdict.TheVariants.{Got, Fine, Refused, Dropped}
+use Rattle.qs_part.specs.declared.graph.Route.{Route}
+use Rattle.qs_cells.specs.declared.cell.CellEntry.TheVariants.{Write, Maybe}
+use Rattle.qs_model.specs.Requests.{Client, Stage, is_read, is_write, covers, body_at}
+use Rattle.qs_model.specs.Acts.{Act, Enters, Routes, Shuts, Lists, Element, Asked, Did}
+use Rattle.qs_model.specs.Histories.{answer_of, cell_at}
+use Rattle.qs_model.specs.Laws.{Follows}
+use Rattle.qs_verdicts.specs.Stories.{Story, Tells, Way, Unknown, Shut, Given, sent}
+
+-- the kinds of request that are served
+abbrev pub is_served : Kind → Bool
+is_served kind = is_read kind || is_write kind
+
+-- EINVAL: the type is none that is served, the flags don't fit, or a READ is longer than 33,554,432 bytes
+abbrev pub is_malformed : Ask → Bool
+is_malformed a = not (is_served a.kind) || not a.flags_fit || a.fua || is_read a.kind && nat_lt 33554432 a.length
+
+-- the range passes the end of the export
+abbrev pub passes : Ask → Route → Bool
+passes a route = nat_lt route.size (a.offset + a.length)
+
+-- the answer of a request that did all it had to do
+abbrev pub done : Ask → List ℕ → Verdict
+done a got = if is_read a.kind then Got got else Fine
+
+-- The lines of a request that has its way: EPERM where a write isn't allowed; EINVAL where a READ passes the end, and ENOSPC
+-- where a WRITE does; EIO where a disk failed for it; else it is done.
+abbrev pub reply_on_way : Ask → Route → Bool → List ℕ → Verdict
+reply_on_way a route fault got =
+    if is_write a.kind && not route.writable then Refused Perm
+    else if is_read a.kind && passes a route then Refused Inval
+    else if is_write a.kind && passes a route then Refused NoSpace
+    else if fault then Refused Io
+    else done a got
+
+-- ESHUTDOWN where the export doesn't stand any more; no answer while the way isn't known
+abbrev pub reply_by_way : Ask → Way → Bool → List ℕ → Option Verdict
+reply_by_way a Unknown fault got = None
+reply_by_way a Shut fault got = Some (Refused Shutdown)
+reply_by_way a (Given route) fault got = Some (reply_on_way a route fault got)
+
+-- all lines: the form first, then memory, then those that hang on the way
+abbrev pub reply_of : Ask → Bool → Way → Bool → List ℕ → Option Verdict
+reply_of a buffered way fault got =
+    if is_malformed a then Some (Refused Inval)
+    else if not buffered then Some (Refused NoMem)
+    else reply_by_way a way fault got
+
+-- the answer that a story asks for: none but Dropped where its session has left
+abbrev pub verdict_of : Story → Option Verdict
+verdict_of n = if n.left then Some Dropped else reply_of n.client.ask n.client.buffered n.way n.fault n.got
+
+-- the answers that a request may have that did something to a block
+abbrev pub MayWork : Verdict → Type 0
+MayWork (Got bytes) = Unit {0}
+MayWork Fine = Unit {0}
+MayWork (Refused Io) = Unit {0}
+MayWork Dropped = Unit {0}
+MayWork _ = ⊥
+
+-- the request r is answered so in this step
+abbrev pub IsAnswered : ℕ → Verdict → Element → Type 0
+IsAnswered r v (Did s q act) = (s ≡ r) × (answer_of q.dropped act ≡ Some v)
+IsAnswered r v _ = ⊥
+
+-- An answer is the first line that applies. It is EIO exactly where a disk failed for the request, and Dropped exactly where
+-- its session left. A request that did something to a block isn't refused but for EIO. One whose span was listed is
+-- answered only when a disk failed for it, or its last block was loaded or stored.
+pub record IsByTable (n : Story) (v : Verdict) : Type 0 where
+  pub line : verdict_of n ≡ Some v
+  pub io : n.left ≡ false → (v ≡ Refused Io) ↔ (n.fault ≡ true)
+  pub dropped : (v ≡ Dropped) ↔ (n.left ≡ true)
+  pub idle : n.worked ≡ true → MayWork v
+  pub course : n.listed ≡ true → (n.fault ≡ true) ⊎ (n.ended ≡ true)
+
+-- every answer
+abbrev pub Verdicts : ℕ → List Element → Type 0
+Verdicts A es = (r : ℕ) (v : Verdict) (before : List Element) (e : Element) → Follows before e es → IsAnswered r v e →
+    Tells A r before (λ n. IsByTable n v)
+
+-- a row of Enter, Route or List
+abbrev pub IsEarly : {stage : Stage} → Act stage → Type 0
+IsEarly (Enters k) = Unit {0}
+IsEarly (Routes route) = Unit {0}
+IsEarly Shuts = Unit {0}
+IsEarly (Lists m) = Unit {0}
+IsEarly _ = ⊥
+
+-- some step made the request for this client
+abbrev pub WasAskedAs : ℕ → Client → List Element → Type 0
+WasAskedAs r c [] = ⊥
+WasAskedAs r c (Asked s d ∷ es) = ((s ≡ r) × (d ≡ c)) ⊎ WasAskedAs r c es
+WasAskedAs r c (e ∷ es) = WasAskedAs r c es
+
+-- A step of a request is with the client that asked it, but for its way, which is the one that the graph gave. A request whose
+-- session has left enters, asks for its way and lists no more.
+pub record IsOwn (A r : ℕ) (c : Client) (d : Bool) {stage : Stage} (act : Act stage) (before : List Element) (n : Story) : Type 0 where
+  pub client : c ≡ sent n
+  pub dropped : d ≡ n.left
+  pub asked : WasAskedAs r n.client before
+  pub early : IsEarly act → n.left ≡ false
+
+abbrev pub IsOwnStep : ℕ → Element → List Element → Type 0
+IsOwnStep A (Did r q act) before = Tells A r before (IsOwn A r q.client q.dropped act before)
+IsOwnStep A _ before = Unit {0}
+
+abbrev pub Own : ℕ → List Element → Type 0
+Own A es = (before : List Element) (e : Element) → Follows before e es → IsOwnStep A e before
+
+-- What a request writes at x is its client's own byte for x, and only where it covers x; a store that a disk refused, too.
+pub record OwnBytes (A : ℕ) (es : List Element) : Type 0 where
+  pub write : (x r v : ℕ) (before : List Element) (e : Element) → Follows before e es → cell_at A x e ≡ Write r v ∷ [] →
+      Tells A r before (λ n. (covers (sent n) x ≡ true) × (v ≡ body_at (sent n) x))
+  pub maybe : (x r v : ℕ) (took : Bool) (before : List Element) (e : Element) → Follows before e es → cell_at A x e ≡ Maybe r v took ∷ [] →
+      Tells A r before (λ n. (covers (sent n) x ≡ true) × (v ≡ body_at (sent n) x))

@@ -1,0 +1,38 @@
+ghost use Rattle.std.specs.Prelude.{ℕ, ◌<◌, List};
+ghost use Rattle.qs_model.specs.Acts.{Element};
+ghost use Rattle.qs_model.specs.Laws.{opening};
+ghost use Rattle.qs_model.specs.Steps.{Runs};
+ghost use Rattle.qs_model.specs.Worlds.{Opening};
+ghost use Rattle.qs_verdicts.specs.Judged.{Judged};
+ghost use Rattle.qs_verdicts.specs.Kept.{AlwaysKept};
+ghost use Rattle.qs_verdicts.specs.Verdicts.{Own, OwnBytes, Verdicts};
+
+/// Each answer of a request is the first line of the table of replies that applies: over its Ask, its
+/// buffers, what the graph said of its way, and its own steps on blocks. It is EIO exactly where a disk
+/// failed for it, and Dropped exactly where its session left. A request that did something to a block
+/// isn't refused but for EIO, and one whose span was listed runs on to its last block.
+pub fn verdicts()
+    ensures { (A : ℕ) (o : Opening) (es : List Element) → 0 < A → Runs A (opening o) es → Verdicts A es }
+{}
+
+/// Each step of a request is with the client that asked it, but for its way, which the graph gave. A
+/// request whose session has left doesn't enter, ask for its way or list a span.
+pub fn own()
+    ensures { (A : ℕ) (o : Opening) (es : List Element) → 0 < A → Runs A (opening o) es → Own A es }
+{}
+
+/// A request writes only places that it covers, and there its client's own bytes.
+pub fn own_bytes()
+    ensures { (A : ℕ) (o : Opening) (es : List Element) → 0 < A → Runs A (opening o) es → OwnBytes A es }
+{}
+
+/// What the core keeps at every position: of requests in flight and their places, of spans, holds and
+/// kept bytes, and of the clients of each export.
+pub fn kept()
+    ensures { (A : ℕ) (o : Opening) (es : List Element) → 0 < A → Runs A (opening o) es → AlwaysKept A (opening o) es }
+{}
+
+/// These laws together.
+pub fn judged()
+    ensures { (A : ℕ) (o : Opening) (es : List Element) → 0 < A → Runs A (opening o) es → Judged A (opening o) es }
+{}
