@@ -1,13 +1,16 @@
 -- Laws of the stores that a disk in memory keeps.
-use Rattle.std.proofs.Common.{◌≡◌, ◌≢◌, ℕ, suc, ◌*◌, ◌≤◌, ◌⊎◌, List, [], ◌∷◌, ◌++◌, ◌==◌, length, take, drop, map, refl, sym, ap, subst, ◌∙◌, inl, inr, arith, append-nil}
+use Rattle.std.proofs.Common.{◌≡◌, ◌≢◌, ℕ, suc, ◌*◌, ◌<◌, ◌≤◌, Bool, true, false, Some, None, ◌⊎◌, List, [], ◌∷◌, ◌++◌, ◌==◌, length, take, drop, map, refl, sym, ap, subst, ◌∙◌, inl, inr, arith, append-nil}
 use Rattle.std.specs.List.{AllByRecursion, Contains}
 use Rattle.std.proofs.lemmas.List.{map-append, take_all, take-append-le, length-drop}
 use Rattle.std.proofs.lemmas.List.Elements.{filter-append, recursion_from_All, All-contains_itself, Contains-push}
 use Rattle.std.proofs.lemmas.Bool.{eq-eqb, ne_eqb}
 use Rattle.std.proofs.Math.Seq.{drop-append-le}
 use Rattle.qs_outside.specs.Blocks.{MayLeave}
-use Rattle.qs_outside.specs.Held.{block_of}
-use Rattle.qs_outside.specs.Journal.{Journal, Kept, contents_of, kept_of, past_of}
+use Rattle.std.proofs.lemmas.Bool.Decides.{nat_tests}
+use Rattle.std.specs.Prelude.{nat_le}
+use Rattle.qs_outside.specs.Held.{Held, block_of}
+use Rattle.qs_outside.specs.Journal.{Journal, Kept, contents_of, journal_seen, kept_of, past_of}
+use Rattle.qs_outside.specs.Rigged.{AsPlanned, LeftAsPlanned}
 
 pub length-kept : (align : ℕ) (blocks bytes : List ℕ) → length (kept_of align blocks bytes) ≡ length blocks
 length-kept align [] bytes = refl
@@ -77,3 +80,38 @@ pub past-now : (old new : Journal) (b : ℕ) (piece : List ℕ) → new.synced �
 past-now old new b piece synced stores now =
     let last : Contains (past_of old b ++ piece ∷ []) (block_of new.now b) = rw now (Contains-push (past_of old b) piece) in
     subst (λ (xs : List (List ℕ)). Contains xs (block_of new.now b)) (sym (past-stored old new b piece synced stores)) last
+
+-- a store that wasn't planned to fail
+pub none_planned : (old new : Journal) (b : ℕ) (piece : List ℕ) → old.planned.store ≡ None → AsPlanned b piece (journal_seen old) (journal_seen new)
+none_planned old new b piece none = λ writes told is. absurd (never writes (sym none ∙ is))
+  where
+    never : (writes : Bool) → None ≡ Some writes → ⊥
+    never writes e = cc
+
+-- whether a disk is full
+not_full : (room n : ℕ) → room ≤ n → Some (nat_le room n) ≡ Some false → ⊥
+not_full room n full is = let f : nat_le room n ≡ false = cc in grind (arith, nat_tests, full, f)
+
+not_room : (room n : ℕ) → n < room → Some (nat_le room n) ≡ Some true → ⊥
+not_room room n low is = let f : nat_le room n ≡ true = cc in grind (arith, nat_tests, low, f)
+
+-- on a full disk
+pub full_planned : (old new : Journal) (b : ℕ) (piece : List ℕ) → old.room ≤ length old.stores → new.now ≡ old.now → new.synced ≡ old.synced → new.stores ≡ old.stores
+    → AsPlanned b piece (journal_seen old) (journal_seen new)
+full_planned old new b piece full now synced stores = λ writes told is. record {
+  left = λ open_. absurd (not_full old.room (length old.stores) full open_);
+  past = λ open_. absurd (not_full old.room (length old.stores) full open_);
+  full_now = λ _ c. ap (λ (h : Held). block_of h c) now;
+  full_past = λ _ c. rw (synced, stores) refl;
+}
+
+-- a planned store on a disk that isn't full
+pub store_planned : (old new : Journal) (b : ℕ) (piece : List ℕ) (writes : Bool) → length old.stores < old.room → old.planned.store ≡ Some writes
+    → LeftAsPlanned writes b piece (journal_seen old) (journal_seen new) → new.synced ≡ old.synced → new.stores ≡ old.stores ++ (record { block = b; bytes = piece }) ∷ []
+    → AsPlanned b piece (journal_seen old) (journal_seen new)
+store_planned old new b piece writes room planned left synced stores = λ other told is. record {
+  left = λ _. let same : writes ≡ other = cc in subst (λ (w : Bool). LeftAsPlanned w b piece (journal_seen old) (journal_seen new)) same left;
+  past = λ _. subst (λ (xs : List (List ℕ)). Contains xs piece) (sym (past-stored old new b piece synced stores)) (Contains-push (past_of old b) piece);
+  full_now = λ full. absurd (not_room old.room (length old.stores) room full);
+  full_past = λ full. absurd (not_room old.room (length old.stores) room full);
+}

@@ -3,7 +3,7 @@ ghost use Rattle.qs_outside.specs.Blocks.{Fixed, IsBlock, MayLeave, Stored, Stor
 ghost use Rattle.qs_outside.specs.Faults.{HasCause};
 ghost use Rattle.qs_outside.specs.Held.{IsZeros, block_of};
 ghost use Rattle.qs_outside.specs.Journal.{journal_seen};
-ghost use Rattle.qs_outside.specs.Rigged.{counted_if, no_plans, planned_too};
+ghost use Rattle.qs_outside.specs.Rigged.{AsPlanned, counted_if, no_plans, planned_too};
 ghost use Rattle.qs_outside.specs.Streams.{next_count};
 
 use crate::block_store::BlockStore;
@@ -187,6 +187,8 @@ impl Disk for MemDisk {
         ensures synced { self.new.synced ≡ self.old.synced }
         ensures room { self.new.room ≡ self.old.room }
         ensures fixed { Fixed (journal_seen self.old) (journal_seen self.new) }
+
+        ensures as_planned { AsPlanned b bytes.now (journal_seen self.old) (journal_seen self.new) }
 
         // So a crash leaves one of the contents from before, or these bytes.
         ensures past { MayLeave b bytes.now (journal_seen self.old).past (journal_seen self.new).past }

@@ -11,3 +11,4 @@ pub mod Running
 pub mod Falling
 pub mod Known
 pub mod Lives
+pub mod ZeroDisks

@@ -7,3 +7,4 @@ pub mod Waiting
 pub mod Words
 pub mod Scripts
 pub mod Runs
+pub mod ZeroDisks

@@ -3,6 +3,7 @@
 #![tactic(auto)]
 
 mod desk;
+mod disks;
 mod inbox;
 mod lines;
 mod outbox;
@@ -13,6 +14,7 @@ mod stop;
 mod table;
 mod words;
 
+pub use disks::memory_disks;
 pub use run::run_replay;
 pub use words::{ReplayWords, replay_words};
 

@@ -1,12 +1,14 @@
 -- One operation of a request on each part is a step of the core.
 use Rattle.std.proofs.Common.{◌≡◌, ℕ, ◌+◌, ◌*◌, zero, suc, ◌<◌, ◌≤◌, ◌⊎◌, inl, inr, List, [], ◌∷◌, ◌++◌, length, map, Bool, true, false, ◌&&◌, refl, sym, ◌∙◌, ap, subst, arith}
-use Rattle.std.specs.Prelude.{Some, None, IsTrue}
+use Rattle.std.specs.Prelude.{Option, Some, None, IsTrue}
 use Rattle.std.specs.List.{slice_set}
 use Rattle.std.proofs.lemmas.List.{get_or-set_same, get_or-set_other, length-set, length-map, map-set}
 use Rattle.qs_outside.specs.Blocks.{Seen}
 use Rattle.qs_outside.specs.Faults.{Rose}
 use Rattle.qs_part.specs.declared.event.Note.{Note}
 use Rattle.qs_part.specs.declared.event.NoteReply.TheVariants.{Stripe as OfStripe}
+use Rattle.qs_part.specs.declared.event.OpKind.{OpKind}
+use Rattle.qs_part.specs.declared.event.OpKind.TheVariants.{Load as LoadKind, Hold as HoldKind, Store as StoreKind, Free as FreeKind}
 use Rattle.qs_part.specs.declared.event.Outcome.{Outcome}
 use Rattle.qs_part.specs.declared.event.Outcome.TheVariants.{Moved}
 use Rattle.qs_part.specs.declared.event.StripeNote.{StripeNote}
@@ -33,7 +35,7 @@ use Rattle.qs_stripe.specs.Table.{StripeState, StripeValue, answers as stripe_an
 use Rattle.qs_tracker.specs.Table.{TrackerValue, answers}
 use Rattle.qs_world.specs.declared.live.Live.{Live}
 use Rattle.qs_world.specs.Cores.{StepsRequest}
-use Rattle.qs_world.specs.Events.{HasCause}
+use Rattle.qs_world.specs.Events.{HasCause, stripe_by}
 use Rattle.qs_world.specs.Follows.{Follows, IsElement}
 use Rattle.qs_world.specs.Images.{Changed, stripe_at, all_tell, no_stripe}
 use Rattle.qs_world.specs.Notes.{tracker_note, tracker_kind, route_note, stripe_note, stripe_kind, block_of, short}
@@ -56,10 +58,20 @@ stripe_going : (A : ℕ) (c : Client) (p : Pads) (stage : Stage) (z : ℕ) (op :
 stripe_going A c p (Ready v) z op w h = let e : OnStripe z op ≡ Answer v = w in absurd (cc)
 stripe_going A c p _ z op w h = h
 
+-- an operation is on a block of the stripe that it is by
+pub by_block : (kind : OpKind) (at : Option ℕ) (j : ℕ) → stripe_by kind at ≡ Some j → (b : ℕ) × ((at ≡ Some b) × (stripe_of b ≡ j))
+by_block LoadKind (Some b) j is = (b, (refl, cc))
+by_block HoldKind (Some b) j is = (b, (refl, cc))
+by_block StoreKind (Some b) j is = (b, (refl, cc))
+by_block FreeKind (Some b) j is = (b, (refl, cc))
+by_block _ _ j is = absurd (cc)
+
 -- an answer of a part that has no disk
 no_cause : {D : Type 0} (seen : D → Seen) (old new : WorldValue D) (l : Live) (reply : PartReply) (note : Note) (at : ℕ) (requests : List Live) (outcome : Outcome) →
     note.at ≡ None → Follows l reply note at requests outcome new.requests → HasCause seen old outcome new
-no_cause seen old new l reply note at requests (Moved n) none follows = λ b is fault. absurd (never b (sym (ap (λ (i : Note). i.at) follows.0 ∙ none) ∙ is))
+no_cause seen old new l reply note at requests (Moved n) none follows = λ j is fault.
+    let (b, (there, _)) = by_block n.kind n.at j is in
+    absurd (never b (sym (ap (λ (i : Note). i.at) follows.0 ∙ none) ∙ there))
   where
     never : (b : ℕ) → None ≡ Some b → ⊥
     never b e = cc
@@ -220,9 +232,10 @@ changed_stripes seen old new z s t c shape same j is =
 stripe_cause : {D : Type 0} (seen : D → Seen) (old new : WorldValue D) (l : Live) (reply : PartReply) (kind : _) (b : ℕ) (answer : StripeReply) (at : ℕ) (requests : List Live) (outcome : Outcome) →
     (short answer ≡ FaultNote → Rose (stripe_at (stripes_of seen old) (stripe_of b)).disk.faults (stripe_at (stripes_of seen new) (stripe_of b)).disk.faults) →
     Follows l reply (stripe_note kind b answer) at requests outcome new.requests → HasCause seen old outcome new
-stripe_cause seen old new l reply kind b answer at requests (Moved n) rose follows = λ d is fault.
-    subst (λ (x : ℕ). Rose (stripe_at (stripes_of seen old) (stripe_of x)).disk.faults (stripe_at (stripes_of seen new) (stripe_of x)).disk.faults)
-    (one_block b d (sym (ap (λ (i : Note). i.at) follows.0) ∙ is))
+stripe_cause seen old new l reply kind b answer at requests (Moved n) rose follows = λ j is fault.
+    let (d, (there, here)) = by_block n.kind n.at j is in
+    subst (λ (x : ℕ). Rose (stripe_at (stripes_of seen old) x).disk.faults (stripe_at (stripes_of seen new) x).disk.faults)
+    (ap (λ (x : ℕ). stripe_of x) (one_block b d (sym (ap (λ (i : Note). i.at) follows.0) ∙ there)) ∙ here)
     (rose (one_note (short answer) FaultNote (sym (ap (λ (i : Note). i.reply) follows.0) ∙ fault)))
   where
     one_block : (x y : ℕ) → Some x ≡ Some y → x ≡ y

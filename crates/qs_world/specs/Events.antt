@@ -1,11 +1,13 @@
 -- What an event does to the core, and when it can't come.
-use Rattle.std.specs.Prelude.{◌≡◌, ◌≢◌, ℕ, ◌+◌, ◌*◌, ◌-◌, ◌^◌, ◌<◌, ◌≤◌, ◌⊎◌, Bool, false, Some, None}
+use Rattle.std.specs.Prelude.{◌≡◌, ◌≢◌, ℕ, ◌+◌, ◌*◌, ◌-◌, ◌^◌, ◌<◌, ◌≤◌, ◌⊎◌, Bool, false, Option, Some, None}
 use Rattle.qs_outside.specs.Blocks.{Seen}
 use Rattle.qs_outside.specs.Faults.{Rose}
 use Rattle.qs_outside.specs.Rigged.{plans_of}
 use Rattle.qs_part.specs.declared.event.Actor.TheVariants.{Session as ASession, Request as ARequest}
 use Rattle.qs_part.specs.declared.event.Event.{Event}
 use Rattle.qs_part.specs.declared.event.Event.TheVariants.{Attach, Leave, Ask, Step}
+use Rattle.qs_part.specs.declared.event.OpKind.{OpKind}
+use Rattle.qs_part.specs.declared.event.OpKind.TheVariants.{Load as LoadKind, Hold as HoldKind, Store as StoreKind, Free as FreeKind}
 use Rattle.qs_part.specs.declared.event.Outcome.{Outcome}
 use Rattle.qs_part.specs.declared.event.Outcome.TheVariants.{NotNext, Memory, Moved}
 use Rattle.qs_part.specs.declared.event.NoteReply.TheVariants.{Stripe}
@@ -78,8 +80,16 @@ IsNotNext w (Ask session ask body) = ((e : ℕ) → session_at w.sessions sessio
 IsNotNext w (Step (ARequest r) now) = request_at w.requests r ≡ None
 IsNotNext w (Step (ASession s) now) = ((e : ℕ) → session_at w.sessions s ≢ Leaving e) ⊎ HasRequest w s
 
+-- the stripe whose disk an operation is on, by its kind and what it stands on: the stripe of a block
+abbrev pub stripe_by : OpKind → Option ℕ → Option ℕ
+stripe_by LoadKind (Some b) = Some (stripe_of b)
+stripe_by HoldKind (Some b) = Some (stripe_of b)
+stripe_by StoreKind (Some b) = Some (stripe_of b)
+stripe_by FreeKind (Some b) = Some (stripe_of b)
+stripe_by _ _ = None
+
 -- a fault of a disk comes only where its count rose
 abbrev pub HasCause : {D : Type 0} → (D → Seen) → WorldValue D → Outcome → WorldValue D → Type 0
-HasCause seen old (Moved note) new = (b : ℕ) → note.at ≡ Some b → note.reply ≡ Stripe Fault →
-    Rose (stripe_at (stripes_of seen old) (stripe_of b)).disk.faults (stripe_at (stripes_of seen new) (stripe_of b)).disk.faults
+HasCause seen old (Moved note) new = (j : ℕ) → stripe_by note.kind note.at ≡ Some j → note.reply ≡ Stripe Fault →
+    Rose (stripe_at (stripes_of seen old) j).disk.faults (stripe_at (stripes_of seen new) j).disk.faults
 HasCause seen old _ new = Unit {0}

@@ -1,5 +1,5 @@
-use Rattle.std.proofs.Common.{rules}
-use Rattle.qs_outside.proofs.Journals.{may_leave-stored, may_leave-kept, past-now}
+use Rattle.std.proofs.Common.{false, rules, true}
+use Rattle.qs_outside.proofs.Journals.{full_planned, may_leave-stored, may_leave-kept, none_planned, past-now, store_planned}
 use Rattle.qs_outside.proofs.mem_disk.MemDiskDisk.store.Goals as goal
 
 pub returns-then-is_full-clause-past : goal.returns-then-is_full-clause-past
@@ -25,3 +25,18 @@ returns-in-Some-true-clause-past_now c = λ held.
 pub returns-in-Some-false-clause-past : goal.returns-in-Some-false-clause-past
 returns-in-Some-false-clause-past c =
     may_leave-stored c.args.self.now c.count_fault-in-Some-false.new.self c.args.b c.args.bytes.now (search rules) (search rules)
+
+pub returns-then-is_full-clause-as_planned : goal.returns-then-is_full-clause-as_planned
+returns-then-is_full-clause-as_planned c =
+    full_planned c.args.self.now c.count_fault.new.self c.args.b c.args.bytes.now (search rules) (search rules) (search rules) (search rules)
+
+pub returns-in-None-clause-as_planned : goal.returns-in-None-clause-as_planned
+returns-in-None-clause-as_planned c = none_planned c.args.self.now c.write.new.self c.args.b c.args.bytes.now (search rules)
+
+pub returns-in-Some-true-clause-as_planned : goal.returns-in-Some-true-clause-as_planned
+returns-in-Some-true-clause-as_planned c =
+    store_planned c.args.self.now c.count_fault-in-Some-true.new.self c.args.b c.args.bytes.now true (search rules) (search rules) (search rules) (search rules) (search rules)
+
+pub returns-in-Some-false-clause-as_planned : goal.returns-in-Some-false-clause-as_planned
+returns-in-Some-false-clause-as_planned c =
+    store_planned c.args.self.now c.count_fault-in-Some-false.new.self c.args.b c.args.bytes.now false (search rules) (search rules) (λ d. search rules) (search rules) (search rules)
