@@ -1,5 +1,5 @@
 -- The limits of a group and what was admitted under them, after QEMU's util/throttle.c.
-use Rattle.std.specs.Prelude.{◌≡◌, ℕ, ◌*◌, ◌^◌, ◌<◌, ◌≤◌, ◌==◌, nat_lt, max, Bool, not, ◌&&◌, if◌then◌else◌, Option, Some, None}
+use Rattle.std.specs.Prelude.{ℕ, ◌*◌, ◌^◌, ◌<◌, ◌≤◌, ◌==◌, nat_lt, max, Bool, not, ◌&&◌, if◌then◌else◌, Option, Some, None}
 use Rattle.std.specs.Int.{div_ceil}
 use Rattle.qs_part.specs.declared.group.Dir.{Dir}
 use Rattle.qs_part.specs.declared.group.Dir.TheVariants.{Read, Write}
