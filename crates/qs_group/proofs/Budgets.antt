@@ -242,14 +242,20 @@ pub record Counts (b : LevelValue) (x : Limit) (which : Which) : Type 0 where
   pub bucket_is : IsTrue (has_pair x which) → b.bucket ≡ capacity x which
   pub some : IsTrue (has_pair x which) → 0 < rate_of x which
 
-pub counts_rate : (b : LevelValue) (x : Limit) (which : Which) → Counts b x which → IsTrue (has_pair x which) → b.rate ≡ rate_of x which
+pub counts_rate : (b : LevelValue) (x : Limit) (which : Which) → Counts b x which → IsTrue (has_pair x which) →
+    b.rate ≡ rate_of x which
 counts_rate b x which counts h = rw h at counts.rate_is
 
-pub counts_some : (b : LevelValue) (x : Limit) (which : Which) → Counts b x which → IsTrue (has_pair x which) → b.rate ≢ 0
+pub counts_some : (b : LevelValue) (x : Limit) (which : Which) → Counts b x which → IsTrue (has_pair x which) →
+    b.rate ≢ 0
 counts_some b x which counts h = λ e. absurd (omega (arith, counts.some h, counts_rate b x which counts h, e))
 
 pub bucket_counts : (x : Limit) (which : Which) → IsGood x → Counts (level_in (bucket_for x) which) x which
-bucket_counts x First good = record { rate_is = rate (x.avg == 0) refl; bucket_is = λ _. refl; some = some (x.avg == 0) refl }
+bucket_counts x First good = record {
+  rate_is = rate (x.avg == 0) refl;
+  bucket_is = λ _. refl;
+  some = some (x.avg == 0) refl;
+}
   where
     rate : (z : Bool) → (x.avg == 0) ≡ z → x.avg ≡ cond (not z) x.avg 0
     rate true e = grind (arith, nat_tests)
@@ -267,7 +273,8 @@ bucket_counts x Second good = record {
     burst : Bool → Option Burst
     burst y = cond y (Some (record { rate = x.max; bucket = x.max * 10 ^ 8 })) None
 
-    rate : (z y : Bool) → (x.avg == 0) ≡ z → nat_lt 1 x.burst_length ≡ y → (burst_level (burst y)).rate ≡ cond (not z && y) x.max 0
+    rate : (z y : Bool) → (x.avg == 0) ≡ z → nat_lt 1 x.burst_length ≡ y →
+        (burst_level (burst y)).rate ≡ cond (not z && y) x.max 0
     rate true true e f =
         let more : 0 < x.avg = good.has_avg (good.has_max (grind (arith, nat_tests))) in
         absurd (grind (arith, nat_tests))
@@ -325,7 +332,8 @@ pub run_counts : (v : GroupValue) (es : List Entry) (l : Limits) (key : Key) →
     Counts (level_of (left_by v es).budget key) (limit_of (last_set l es) key.dim) key.which
 run_counts v [] l key runs counts = counts
 run_counts v (e ∷ es) l key runs counts =
-    run_counts (after v e.op e.reply) es (set_by l e.op e.reply) key runs.2 (answer_counts v e.op e.reply l key runs.1 counts)
+    run_counts (after v e.op e.reply) es (set_by l e.op e.reply) key runs.2
+    (answer_counts v e.op e.reply l key runs.1 counts)
 
 pub fresh_counts : (es : List Entry) (key : Key) → Runs fresh es →
     Counts (level_of (left_by fresh es).budget key) (limit_of (last_set unlimited es) key.dim) key.which
@@ -350,8 +358,8 @@ run_size v [] l e = e
 run_size v (y ∷ es) l e = run_size (after v y.op y.reply) es (set_by l y.op y.reply) (answer_size v y.op y.reply l e)
 
 -- a level that is a limit asks for what its admissions ask for, and any other for nothing
-pub some_asks : (b : LevelValue) (reading : ℕ) (xs : List Admission) (r : ℕ) → reading ≤ r → Keeps b reading xs → b.rate ≢ 0 →
-    wait_at b r ≡ div_ceil (owed b.rate xs r - b.bucket) b.rate
+pub some_asks : (b : LevelValue) (reading : ℕ) (xs : List Admission) (r : ℕ) → reading ≤ r → Keeps b reading xs →
+    b.rate ≢ 0 → wait_at b r ≡ div_ceil (owed b.rate xs r - b.bucket) b.rate
 some_asks b reading xs r later keeps some = go (b.rate == 0) refl
   where
     now : max b.last r ≡ r
@@ -369,14 +377,15 @@ none_asks b r none = go (b.rate == 0) refl
     go true e = refl
     go false e = absurd (grind (arith, nat_tests))
 
-pub pair_is : (b : LevelValue) (x : Limit) (which : Which) (reading : ℕ) (xs : List Admission) (r : ℕ) → reading ≤ r → Keeps b reading xs →
-    Counts b x which → wait_at b r ≡ pair_asks x which xs r
+pub pair_is : (b : LevelValue) (x : Limit) (which : Which) (reading : ℕ) (xs : List Admission) (r : ℕ) → reading ≤ r →
+    Keeps b reading xs → Counts b x which → wait_at b r ≡ pair_asks x which xs r
 pair_is b x which reading xs r later keeps counts = go (has_pair x which) refl
   where
     go : (z : Bool) → has_pair x which ≡ z →
         wait_at b r ≡ cond z (div_ceil (owed (rate_of x which) xs r - capacity x which) (rate_of x which)) 0
     go true e =
-        rw (← counts_rate b x which counts e, ← counts.bucket_is e) (some_asks b reading xs r later keeps (counts_some b x which counts e))
+        rw (← counts_rate b x which counts e, ← counts.bucket_is e)
+        (some_asks b reading xs r later keeps (counts_some b x which counts e))
     go false e = none_asks b r (rw e at counts.rate_is)
 
 -- a level that asks for no wait is owed at most its bucket
@@ -387,31 +396,36 @@ goes b reading xs r later keeps none some =
     let within : level_at b (max b.last r) ≤ b.bucket = below_bucket b r some none in
     rw (← (keeps.stands some).owes r (omega (arith, keeps.last))) (rw now at within)
 
-pub pair_goes : (b : LevelValue) (x : Limit) (which : Which) (reading : ℕ) (xs : List Admission) (r : ℕ) → reading ≤ r → Keeps b reading xs →
-    Counts b x which → wait_at b r ≡ 0 → IsTrue (has_pair x which) → owed (rate_of x which) xs r ≤ capacity x which
+pub pair_goes : (b : LevelValue) (x : Limit) (which : Which) (reading : ℕ) (xs : List Admission) (r : ℕ) → reading ≤ r →
+    Keeps b reading xs → Counts b x which → wait_at b r ≡ 0 → IsTrue (has_pair x which) → owed (rate_of x which) xs r ≤ capacity x which
 pair_goes b x which reading xs r later keeps counts none h =
-    rw (← counts_rate b x which counts h, ← counts.bucket_is h) (goes b reading xs r later keeps none (counts_some b x which counts h))
+    rw (← counts_rate b x which counts h, ← counts.bucket_is h)
+    (goes b reading xs r later keeps none (counts_some b x which counts h))
 
 -- what a group has under these limits, pair by pair
 pub record Under (b : Budget) (l : Limits) (lists : Dim → List Admission) : Type 0 where
   pub keeps : (key : Key) → Keeps (level_of b key) b.reading (lists key.dim)
   pub counts : (key : Key) → Counts (level_of b key) (limit_of l key.dim) key.which
 
-pub limit_is : (b : Budget) (l : Limits) (lists : Dim → List Admission) (r : ℕ) (dim : Dim) → b.reading ≤ r → Under b l lists →
-    wait_of (bucket_in b dim) r ≡ limit_asks (limit_of l dim) (lists dim) r
+pub limit_is : (b : Budget) (l : Limits) (lists : Dim → List Admission) (r : ℕ) (dim : Dim) → b.reading ≤ r →
+    Under b l lists → wait_of (bucket_in b dim) r ≡ limit_asks (limit_of l dim) (lists dim) r
 limit_is b l lists r dim later under = rw (pair First, pair Second) refl
   where
-    pair : (which : Which) → wait_at (level_in (bucket_in b dim) which) r ≡ pair_asks (limit_of l dim) which (lists dim) r
+    pair : (which : Which) →
+        wait_at (level_in (bucket_in b dim) which) r ≡ pair_asks (limit_of l dim) which (lists dim) r
     pair which =
-        pair_is _ _ which b.reading (lists dim) r later (under.keeps (record { dim = dim; which = which })) (under.counts (record { dim = dim; which = which }))
+        pair_is _ _ which b.reading (lists dim) r later
+        (under.keeps (record { dim = dim; which = which })) (under.counts (record { dim = dim; which = which }))
 
 -- a request goes or waits by the admissions
-pub by_admissions : (v : GroupValue) (l : Limits) (lists : Dim → List Admission) (now : ℕ) (w : Queued) (reply : GroupReply) →
-    Under v.budget l lists → MayAdmit v now (Some w) reply → ByAdmissions l lists w.dir (reading_at v.budget now) reply
+pub by_admissions : (v : GroupValue) (l : Limits) (lists : Dim → List Admission) (now : ℕ) (w : Queued)
+    (reply : GroupReply) → Under v.budget l lists → MayAdmit v now (Some w) reply → ByAdmissions l lists w.dir (reading_at v.budget now) reply
 by_admissions v l lists now w Go under may = λ key h some.
-    pair_goes (level_of v.budget key) (limit_of l key.dim) key.which v.budget.reading (lists key.dim) (reading_at v.budget now) (omega arith)
+    pair_goes (level_of v.budget key) (limit_of l key.dim) key.which v.budget.reading (lists key.dim)
+    (reading_at v.budget now) (omega arith)
     (under.keeps key) (under.counts key)
-    (level_waits (bucket_in v.budget key.dim) key.which _ (omega (arith, applies_waits v.budget w.dir (reading_at v.budget now) key.dim h, may.1))) some
+    (level_waits (bucket_in v.budget key.dim) key.which _
+    (omega (arith, applies_waits v.budget w.dir (reading_at v.budget now) key.dim h, may.1))) some
 by_admissions v l lists now w (Wait ns) under may = (
   may.1,
   record {

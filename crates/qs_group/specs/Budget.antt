@@ -33,8 +33,8 @@ abbrev pub rate_of : Limit → Which → ℕ
 rate_of x First = x.avg
 rate_of x Second = x.max
 
--- the bucket of a pair in nano-units: for the long run a tenth of a second at the rate avg, or a whole burst at the rate
--- max; for bursts a tenth of a second at the rate max
+-- the bucket of a pair in nano-units: for the long run a tenth of a second at the rate avg, or a whole burst at the
+-- rate max; for bursts a tenth of a second at the rate max
 abbrev pub capacity : Limit → Which → ℕ
 capacity x First = if x.max == 0 then x.avg * 10 ^ 8 else x.max * x.burst_length * 10 ^ 9
 capacity x Second = x.max * 10 ^ 8
@@ -83,7 +83,7 @@ charged_side s Write t units = record { total = filled s.total t units; read = s
 abbrev pub byte_units : ℕ → ℕ
 byte_units n = n * 10 ^ 9
 
--- and 10^9 for the operation; where operations have a size, as much as the bytes have of it, if that is more
+-- and 10^9 for the operation; where operations have a size, 10^9 for each such size of bytes, if that is more
 abbrev pub op_units : Budget → ℕ → ℕ
 op_units b n = if b.iops_size == 0 then 10 ^ 9 else max (10 ^ 9) (div_ceil (n * 10 ^ 9) b.iops_size)
 

@@ -66,7 +66,8 @@ greatest_reading (a ∷ xs) = max a.reading (greatest_reading xs)
 
 -- how long what is owed at reading t takes to leak down to the bucket of a pair
 abbrev pub pair_asks : Limit → Which → List Admission → ℕ → ℕ
-pair_asks x which xs t = if has_pair x which then div_ceil (owed (rate_of x which) xs t - capacity x which) (rate_of x which) else 0
+pair_asks x which xs t =
+    if has_pair x which then div_ceil (owed (rate_of x which) xs t - capacity x which) (rate_of x which) else 0
 
 -- what a limit asks for: what its first pair does, and where that is no wait, what its second does
 abbrev pub limit_asks : Limit → List Admission → ℕ → ℕ
@@ -77,8 +78,8 @@ pub record IsGreatestWait (l : Limits) (lists : Dim → List Admission) (d : Dir
   pub longest : (dim : Dim) → IsTrue (applies dim d) → limit_asks (limit_of l dim) (lists dim) t ≤ ns
   pub asked : (dim : Dim) × IsTrue (applies dim d) × (limit_asks (limit_of l dim) (lists dim) t ≡ ns)
 
--- a request goes where each pair of each limit that applies to it is owed at most its bucket, and else waits as long as a
--- limit asks for
+-- a request goes where each pair of each limit that applies to it is owed at most its bucket, and else waits as long as
+-- a limit asks for
 abbrev pub ByAdmissions : Limits → (Dim → List Admission) → Dir → ℕ → GroupReply → Type 0
 ByAdmissions l lists d t Go =
     (key : Key) → IsTrue (applies key.dim d) → IsTrue (has_pair (limit_of l key.dim) key.which) →

@@ -138,7 +138,8 @@ impl Budget {
         self.ops.charge(dir, reading, op_units);
         self.reading = reading;
     }
-    /// One operation, or as much as the bytes have of the size of operations, if that is more.
+    /// The nano-units of a request's operation: of one whole operation, and of one for each
+    /// `iops_size` bytes, if that is more.
     fn op_units(&self, bytes: u64) -> u128
         ensures units { result ≡ op_units self.now bytes }
         ensures bound { result ≤ 2 ^ 94 }

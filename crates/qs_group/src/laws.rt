@@ -26,10 +26,13 @@ pub fn budget()
     ensures limits { (es : List Entry) (key : Key) → Runs fresh es →
         let level = level_of (left_by fresh es).budget key in
         let limit = limit_of (last_set unlimited es) key.dim in
-        IsTrue (has_pair limit key.which) → (level.rate ≡ rate_of limit key.which) × (level.bucket ≡ capacity limit key.which) }
+        IsTrue (has_pair limit key.which) →
+        (level.rate ≡ rate_of limit key.which) × (level.bucket ≡ capacity limit key.which) }
     ensures no_limit { (es : List Entry) (key : Key) → Runs fresh es →
-        has_pair (limit_of (last_set unlimited es) key.dim) key.which ≡ false → (level_of (left_by fresh es).budget key).rate ≡ 0 }
-    ensures size { (es : List Entry) → Runs fresh es → (left_by fresh es).budget.iops_size ≡ (last_set unlimited es).iops_size }
+        has_pair (limit_of (last_set unlimited es) key.dim) key.which ≡ false →
+        (level_of (left_by fresh es).budget key).rate ≡ 0 }
+    ensures size { (es : List Entry) → Runs fresh es →
+        (left_by fresh es).budget.iops_size ≡ (last_set unlimited es).iops_size }
     ensures owed { (es : List Entry) (key : Key) → Runs fresh es →
         IsTrue (has_pair (limit_of (last_set unlimited es) key.dim) key.which) →
         StandsFor (level_of (left_by fresh es).budget key) (admissions key.dim fresh es []) }
