@@ -8,11 +8,17 @@ use Rattle.qs_bucket.specs.Bucket.{BucketValue, first_wait, filled, Holds}
 use Rattle.qs_bucket.proofs.Owed.{stands_added}
 
 -- an admission changes neither rate nor bucket
-pub added_rate : (b : LevelValue) (now units : ℕ) → ((added b now units).rate ≡ b.rate) × ((added b now units).bucket ≡ b.bucket)
+pub added_rate : (b : LevelValue) (now units : ℕ) →
+    ((added b now units).rate ≡ b.rate) × ((added b now units).bucket ≡ b.bucket)
 added_rate b now units = go (b.rate == 0)
   where
     more : LevelValue
-    more = record { rate = b.rate; bucket = b.bucket; level = level_at b (effective b now) + units; last = effective b now }
+    more = record {
+      rate = b.rate;
+      bucket = b.bucket;
+      level = level_at b (effective b now) + units;
+      last = effective b now;
+    }
 
     go : (z : Bool) → ((cond z b more).rate ≡ b.rate) × ((cond z b more).bucket ≡ b.bucket)
     go true = (refl, refl)
@@ -22,7 +28,12 @@ pub added_last : (b : LevelValue) (now units : ℕ) → b.rate ≢ 0 → (added 
 added_last b now units some = go (b.rate == 0) refl
   where
     more : LevelValue
-    more = record { rate = b.rate; bucket = b.bucket; level = level_at b (effective b now) + units; last = effective b now }
+    more = record {
+      rate = b.rate;
+      bucket = b.bucket;
+      level = level_at b (effective b now) + units;
+      last = effective b now;
+    }
 
     go : (z : Bool) → (b.rate == 0) ≡ z → (cond z b more).last ≡ effective b now
     go true e = absurd (some (grind (arith, nat_tests)))
@@ -43,7 +54,8 @@ holds_filled b xs now units holds = record {
   first = λ h. let some : b.first.rate ≢ 0 = rw (added_rate b.first now units).0 at h in
       stands_added b.first xs now units some (holds.first some);
   second = λ h. let some : b.second.rate ≢ 0 = rw (added_rate b.second now units).0 at h in
-      subst (λ (t : ℕ). StandsFor (added b.second now units) (xs ++ record { reading = t; units = units } ∷ [])) (same some)
+      subst (λ (t : ℕ). StandsFor (added b.second now units) (xs ++ record { reading = t; units = units } ∷ []))
+      (same some)
       (stands_added b.second xs now units some (holds.second some));
   together = λ h. let some : b.second.rate ≢ 0 = rw (added_rate b.second now units).0 at h in (
     rw (added_rate b.first now units).0 (holds.together some).0,

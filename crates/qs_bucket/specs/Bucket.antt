@@ -27,14 +27,16 @@ opened rate bucket burst = record { first = empty rate bucket; second = burst_le
 -- a request goes where what is owed of each rate is at most its bucket, and else waits for the first level where that
 -- exceeds, or for the second
 abbrev pub AskedOf : BucketValue → ℕ → ℕ → Ask → Type 0
-AskedOf b debt burst_debt Go = Asked b.first.rate b.first.bucket debt Go × Asked b.second.rate b.second.bucket burst_debt Go
+AskedOf b debt burst_debt Go =
+    Asked b.first.rate b.first.bucket debt Go × Asked b.second.rate b.second.bucket burst_debt Go
 AskedOf b debt burst_debt (Wait w) =
     Asked b.first.rate b.first.bucket debt (Wait w)
     ⊎ (Asked b.first.rate b.first.bucket debt Go × Asked b.second.rate b.second.bucket burst_debt (Wait w))
 
 -- the answer to a request at a reading
 abbrev pub Asks : BucketValue → ℕ → Ask → Type 0
-Asks b now answer = AskedOf b (level_at b.first (effective b.first now)) (level_at b.second (effective b.second now)) answer
+Asks b now answer =
+    AskedOf b (level_at b.first (effective b.first now)) (level_at b.second (effective b.second now)) answer
 
 -- the first of two waits that isn't 0
 abbrev pub first_wait : ℕ → ℕ → ℕ

@@ -26,7 +26,8 @@ pub fn level_is_owed()
 ///
 /// It is so of a new bucket, and of one that has counted a request that it let go.
 pub fn bucket_is_owed()
-    ensures opening { (rate bucket : ℕ) (burst : Option Burst) → BurstFits rate burst → Holds (opened rate bucket burst) [] }
+    ensures opening { (rate bucket : ℕ) (burst : Option Burst) → BurstFits rate burst →
+        Holds (opened rate bucket burst) [] }
     ensures kept { (b : BucketValue) (xs : List Admission) (now units : ℕ) → Holds b xs →
         Holds (filled b now units) (xs ++ record { reading = effective b.first now; units = units } ∷ []) }
     ensures asked { (b : BucketValue) (xs : List Admission) (now : ℕ) (answer : Ask) → Holds b xs → Asks b now answer →
