@@ -85,6 +85,9 @@ impl Bucket {
     }
 
     /// How many nanoseconds a request has to wait at this reading; 0 lets it go.
+    ///
+    /// Where the first level is above its bucket, this is until it no longer is; else the same of
+    /// the second.
     pub fn wait(&self, now: u64) -> u128
         ensures wait { result ≡ wait_of self.now now }
         ensures no_limit { self.now.first.rate ≡ 0 → result ≡ 0 }
