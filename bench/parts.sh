@@ -13,7 +13,7 @@ cd "$(dirname "$0")/.."
 program=crates/qs_parts_bench/out/qs_parts_bench
 rounds=${1:-1000000}
 runs=${2:-5}
-kinds="seat list start load store"
+kinds="seat list start load store admit admit16 admit256 burst go"
 TIMEFORMAT='%U %S'
 if [ ! -x "$program" ]; then
     echo "$program isn't there; build it by: (cd crates/qs_parts_bench && rt run)"
@@ -62,3 +62,8 @@ echo "List                          $((list - seat))"
 echo "Start                         $((start - list))"
 echo "Load of 4096 bytes in memory  $(round_of load)"
 echo "Store of 4096 bytes in memory $(round_of store)"
+echo "Admit, 1 request waits        $(round_of admit)"
+echo "Admit, 16 requests wait       $(round_of admit16)"
+echo "Admit, 256 requests wait      $(round_of admit256)"
+echo "Admit, held back by a burst   $(round_of burst)"
+echo "Queue, and Admit that goes    $(round_of go)"

@@ -1,3 +1,4 @@
 pub mod Ceil
 pub mod Owed
 pub mod Windows
+pub mod Both

@@ -52,6 +52,9 @@ impl Level {
             return 0;
         }
         let excess = self.held_at(now.max(self.last)).saturating_sub(self.bucket);
+        if excess == 0 {
+            return 0;
+        }
         excess.div_ceil(u128::from(self.rate))
     }
 

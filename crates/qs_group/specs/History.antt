@@ -1,5 +1,5 @@
 -- Histories of a group, and what its limits admitted in them.
-use Rattle.std.specs.Prelude.{◌≡◌, ◌≢◌, ℕ, ◌-◌, ◌<◌, ◌≤◌, ◌==◌, max, if◌then◌else◌, List, [], ◌∷◌, ◌++◌, Option, Some, None, IsTrue}
+use Rattle.std.specs.Prelude.{◌≡◌, ℕ, ◌-◌, ◌<◌, ◌≤◌, max, if◌then◌else◌, List, [], ◌∷◌, ◌++◌, Option, Some, None, IsTrue}
 use Rattle.std.specs.Int.{div_ceil}
 use Rattle.qs_part.specs.declared.group.Dir.{Dir}
 use Rattle.qs_part.specs.declared.group.GroupOp.{GroupOp}
@@ -7,14 +7,15 @@ use Rattle.qs_part.specs.declared.group.GroupOp.TheVariants.{Admit, Set as SetTo
 use Rattle.qs_part.specs.declared.group.GroupReply.{GroupReply}
 use Rattle.qs_part.specs.declared.group.GroupReply.TheVariants.{Go, Wait, Set as IsSet}
 use Rattle.qs_part.specs.declared.limits.Dim.{Dim}
+use Rattle.qs_part.specs.declared.limits.Limit.{Limit}
 use Rattle.qs_part.specs.declared.limits.Limits.{Limits}
+use Rattle.qs_part.specs.Limits.{limit_of}
 use Rattle.qs_bucket.specs.Admissions.{Admission, owed}
-use Rattle.qs_bucket.specs.Level.{LevelValue}
+use Rattle.qs_bucket.specs.Bucket.{first_wait}
 use Rattle.qs_group.specs.declared.queue.Queued.{Queued}
-use Rattle.qs_group.specs.declared.budget.Budget.{Budget}
-use Rattle.qs_group.specs.Budget.{reading_at}
+use Rattle.qs_group.specs.Budget.{Which, First, Second, has_pair, rate_of, capacity, reading_at}
 use Rattle.qs_group.specs.Queue.{ticket_at}
-use Rattle.qs_group.specs.Levels.{Key, dim_of, level_of, applies, units_for}
+use Rattle.qs_group.specs.Levels.{Key, applies, units_for}
 use Rattle.qs_group.specs.Table.{GroupValue, Fits, May, after}
 
 -- an operation and its answer
@@ -63,23 +64,25 @@ abbrev pub greatest_reading : List Admission → ℕ
 greatest_reading [] = 0
 greatest_reading (a ∷ xs) = max a.reading (greatest_reading xs)
 
--- how long what is owed at reading t takes to leak down to the bucket; rate 0 is no limit
-abbrev pub asks : LevelValue → List Admission → ℕ → ℕ
-asks l xs t = if l.rate == 0 then 0 else div_ceil (owed l.rate xs t - l.bucket) l.rate
+-- how long what is owed at reading t takes to leak down to the bucket of a pair
+abbrev pub pair_asks : Limit → Which → List Admission → ℕ → ℕ
+pair_asks x which xs t =
+    if has_pair x which then div_ceil (owed (rate_of x which) xs t - capacity x which) (rate_of x which) else 0
 
--- what a limit asks for
-abbrev pub limit_asks : Budget → (Dim → List Admission) → Dim → ℕ → ℕ
-limit_asks b lists dim t = asks (level_of b dim) (lists dim) t
+-- what a limit asks for: what its first pair does, and where that is no wait, what its second does
+abbrev pub limit_asks : Limit → List Admission → ℕ → ℕ
+limit_asks x xs t = first_wait (pair_asks x First xs t) (pair_asks x Second xs t)
 
 -- a wait that a limit asks for which applies to a direction, and none asks for a longer one
-pub record IsGreatestWait (b : Budget) (lists : Dim → List Admission) (d : Dir) (t ns : ℕ) : Type 0 where
-  pub longest : (dim : Dim) → IsTrue (applies dim d) → limit_asks b lists dim t ≤ ns
-  pub asked : (dim : Dim) × IsTrue (applies dim d) × (limit_asks b lists dim t ≡ ns)
+pub record IsGreatestWait (l : Limits) (lists : Dim → List Admission) (d : Dir) (t ns : ℕ) : Type 0 where
+  pub longest : (dim : Dim) → IsTrue (applies dim d) → limit_asks (limit_of l dim) (lists dim) t ≤ ns
+  pub asked : (dim : Dim) × IsTrue (applies dim d) × (limit_asks (limit_of l dim) (lists dim) t ≡ ns)
 
--- a request goes where each limit that applies to it is owed at most its bucket, and else waits as long as one asks for
-abbrev pub ByAdmissions : Budget → (Dim → List Admission) → Dir → ℕ → GroupReply → Type 0
-ByAdmissions b lists d t Go =
-    (key : Key) → IsTrue (applies (dim_of key) d) → (level_of b key).rate ≢ 0 →
-    owed (level_of b key).rate (lists (dim_of key)) t ≤ (level_of b key).bucket
-ByAdmissions b lists d t (Wait ns) = (0 < ns) × IsGreatestWait b lists d t ns
-ByAdmissions b lists d t _ = Unit {0}
+-- a request goes where each pair of each limit that applies to it is owed at most its bucket, and else waits as long as
+-- a limit asks for
+abbrev pub ByAdmissions : Limits → (Dim → List Admission) → Dir → ℕ → GroupReply → Type 0
+ByAdmissions l lists d t Go =
+    (key : Key) → IsTrue (applies key.dim d) → IsTrue (has_pair (limit_of l key.dim) key.which) →
+    owed (rate_of (limit_of l key.dim) key.which) (lists key.dim) t ≤ capacity (limit_of l key.dim) key.which
+ByAdmissions l lists d t (Wait ns) = (0 < ns) × IsGreatestWait l lists d t ns
+ByAdmissions l lists d t _ = Unit {0}

@@ -7,14 +7,12 @@ use Rattle.qs_part.specs.declared.limits.Dim.TheVariants.{BpsTotal, BpsRead, Bps
 use Rattle.qs_bucket.specs.Level.{LevelValue}
 use Rattle.qs_bucket.specs.Bucket.{BucketValue}
 use Rattle.qs_group.specs.declared.budget.Budget.{Budget}
-use Rattle.qs_group.specs.Budget.{byte_units, op_units}
+use Rattle.qs_group.specs.Budget.{Which, First, Second, byte_units, op_units}
 
--- what names a level of a group: its limit, which has one level so far
-abbrev pub Key : Type 0
-Key = Dim
-
-abbrev pub dim_of : Key → Dim
-dim_of key = key
+-- what names a pair of a group's limits, and the level that counts for it
+pub record Key : Type 0 where
+  pub dim : Dim
+  pub which : Which
 
 -- the bucket of a limit
 abbrev pub bucket_in : Budget → Dim → BucketValue
@@ -25,9 +23,13 @@ bucket_in b IopsTotal = b.ops.total
 bucket_in b IopsRead = b.ops.read
 bucket_in b IopsWrite = b.ops.write
 
--- the level of a name
+abbrev pub level_in : BucketValue → Which → LevelValue
+level_in b First = b.first
+level_in b Second = b.second
+
+-- the level of a pair
 abbrev pub level_of : Budget → Key → LevelValue
-level_of b key = (bucket_in b (dim_of key)).first
+level_of b key = level_in (bucket_in b key.dim) key.which
 
 -- a read meets the limits of all and of reads, a write those of all and of writes
 abbrev pub applies : Dim → Dir → Bool

@@ -6,11 +6,18 @@
 //! - `seat`: Enter and End of a tracker in which 255 other requests have listed spans;
 //! - `list`: the same with a List between;
 //! - `start`: the same with a List and a Start between;
-//! - `load` and `store`: Load or Store of a block of 4096 bytes of a stripe in memory.
+//! - `load` and `store`: Load or Store of a block of 4096 bytes of a stripe in memory;
+//! - `admit`, `admit16` and `admit256`: Admit of a throttle group that is answered by Wait, with 1,
+//!   16 and 256 requests that wait;
+//! - `burst`: the same with 1, where limits with bursts hold it back by what bursts admit;
+//! - `go`: Queue of a throttle group, and Admit of that request, which goes and is counted.
 #![tactic(auto)]
 
 use qs_bytes::{Bytes, Memory, Span};
+use qs_group::group::Group;
 use qs_outside::QuietDisk;
+use qs_part::group::{Dir, GroupOp, GroupReply};
+use qs_part::limits::{GREATEST, Limit, Limits};
 use qs_part::part::Part;
 use qs_part::stripe::{StripeOp, StripeReply};
 use qs_part::tracker::{TrackerOp, TrackerReply};
@@ -38,14 +45,23 @@ enum Work {
     Start,
     Load,
     Store,
+    /// Of the last ticket that is out.
+    Admit(u8),
+    Burst,
+    Go,
 }
 
-const KINDS: [(&str, Work); 5] = [
+const KINDS: [(&str, Work); 10] = [
     ("seat", Work::Seat),
     ("list", Work::List),
     ("start", Work::Start),
     ("load", Work::Load),
     ("store", Work::Store),
+    ("admit", Work::Admit(0)),
+    ("admit16", Work::Admit(15)),
+    ("admit256", Work::Admit(255)),
+    ("burst", Work::Burst),
+    ("go", Work::Go),
 ];
 
 /// Does the operation where it fits the part.
@@ -145,10 +161,98 @@ fn stripe_rounds(alloc: Global, work: Work, rounds: u64) -> Result<u64, Memory> 
     Ok(fine)
 }
 
+/// A group with this limit of all bytes and of all operations.
+fn limited_group(alloc: Global, limit: Limit) -> Result<Group, Memory> {
+    let Ok(mut group) = Group::new(alloc) else {
+        return Err(Memory);
+    };
+    let limits = Limits {
+        bps_total: limit,
+        iops_total: limit,
+        ..Limits::NONE
+    };
+    let _ = step(&mut group, GroupOp::Set { limits });
+    Ok(group)
+}
+
+fn queue(group: &mut Group, member: u8, bytes: u64) {
+    let op = GroupOp::Queue {
+        member,
+        dir: Dir::Write,
+        bytes,
+    };
+    let _ = step(group, op);
+}
+
+/// A group in which a request of so many bytes went, and others wait, the last of which is next.
+fn busy_group(alloc: Global, limit: Limit, bytes: u64, last: u8) -> Result<Group, Memory> {
+    let mut group = limited_group(alloc, limit)?;
+    queue(&mut group, 63, bytes);
+    let _ = step(&mut group, GroupOp::Admit { t: 0, now: 0 });
+    for _ in 0..last {
+        queue(&mut group, 5, 1);
+    }
+    queue(&mut group, 0, 1);
+    Ok(group)
+}
+
+fn group_rounds(mut group: Group, t: u8, rounds: u64) -> u64 {
+    let mut fine: u64 = 0;
+    for now in 0..rounds {
+        let reply = step(&mut group, GroupOp::Admit { t, now });
+        if matches!(reply, Some(GroupReply::Wait(_))) {
+            fine = fine.wrapping_add(1);
+        }
+    }
+    fine
+}
+
+/// What was admitted is far above what a second admits.
+fn admit_rounds(alloc: Global, t: u8, rounds: u64) -> Result<u64, Memory> {
+    let slow = Limit {
+        avg: 1,
+        ..Limit::NONE
+    };
+    let group = busy_group(alloc, slow, 1 << 40, t)?;
+    Ok(group_rounds(group, t, rounds))
+}
+
+/// What was admitted is within a whole burst, and above a tenth of a second of it.
+fn burst_rounds(alloc: Global, rounds: u64) -> Result<u64, Memory> {
+    let bursts = Limit {
+        avg: 1_000_000,
+        max: 2_000_000,
+        burst_length: 3,
+    };
+    let group = busy_group(alloc, bursts, 1_000_000, 0)?;
+    Ok(group_rounds(group, 0, rounds))
+}
+
+/// The limits are so high that nothing has to wait.
+fn go_rounds(alloc: Global, rounds: u64) -> Result<u64, Memory> {
+    let high = Limit {
+        avg: GREATEST,
+        ..Limit::NONE
+    };
+    let mut group = limited_group(alloc, high)?;
+    let mut fine: u64 = 0;
+    for now in 0..rounds {
+        queue(&mut group, 0, 1);
+        let reply = step(&mut group, GroupOp::Admit { t: 0, now });
+        if reply == Some(GroupReply::Go) {
+            fine = fine.wrapping_add(1);
+        }
+    }
+    Ok(fine)
+}
+
 /// How many of the rounds were answered as they should be.
 fn rounds_of(alloc: Global, work: Work, rounds: u64) -> Result<u64, Memory> {
     match work {
         Work::Load | Work::Store => stripe_rounds(alloc, work, rounds),
+        Work::Admit(t) => admit_rounds(alloc, t, rounds),
+        Work::Burst => burst_rounds(alloc, rounds),
+        Work::Go => go_rounds(alloc, rounds),
         _ => tracker_rounds(alloc, work, rounds),
     }
 }
@@ -175,6 +279,6 @@ fn main(rt: HostRuntime) -> io::Result<()> {
     let rounds = words.next().and_then(|word| word.parse::<u64>().ok());
     match (work_of(kind.as_str()), rounds) {
         (Some((name, work)), Some(rounds)) => tell(&rt, name, work, rounds),
-        _ => println!(rt; "usage: qs_parts_bench [seat|list|start|load|store ROUNDS]"),
+        _ => println!(rt; "usage: qs_parts_bench [WORK ROUNDS]"),
     }
 }
