@@ -103,7 +103,10 @@ impl<R: Wait> Disk for FileDisk<R> {
     }
 
     fn sync(&mut self) -> Result<(), Failed> {
-        match self.syncs.sync(&self.rt, &self.file, usize::from(self.stripe)) {
+        match self
+            .syncs
+            .sync(&self.rt, &self.file, usize::from(self.stripe))
+        {
             Ok(()) => Ok(()),
             Err(reason) => Err(self.faults.note(reason)),
         }

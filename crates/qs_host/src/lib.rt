@@ -13,6 +13,8 @@ mod start_fault;
 mod streams;
 mod sync_log;
 mod telling;
+#[cfg(test)]
+mod tests;
 
 pub use command::{About, asked, words};
 pub use exit::exit_of;

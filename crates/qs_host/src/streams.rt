@@ -82,9 +82,7 @@ impl<W: Write + AsRawFd> Sink for Writing<W> {
     fn write(&mut self, piece: &[u8]) -> Result<usize, Failed> {
         match write_on(&mut self.inner, piece) {
             Ok(count) if count > 0 || piece.is_empty() => Ok(count),
-            Ok(_) => Err(self
-                .faults
-                .note(io::Error::from(io::ErrorKind::WriteZero))),
+            Ok(_) => Err(self.faults.note(io::Error::from(io::ErrorKind::WriteZero))),
             Err(reason) => Err(self.faults.note(reason)),
         }
     }

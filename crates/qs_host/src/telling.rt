@@ -39,13 +39,19 @@ impl fmt::Display for BrokenRule {
         match self.bad {
             OpenBad::Count(count) => write!(f, "{count} disks hold the image, and not 8"),
             OpenBad::Different(disk) => write!(f, "disk {disk} is of another image than the first"),
-            OpenBad::Align(align) => write!(f, "a block of {align} bytes, and neither 512 nor 4096"),
+            OpenBad::Align(align) => write!(
+                f,
+                "a block of {align} bytes, and neither 512 nor 4096"
+            ),
             OpenBad::Length(length) => {
                 let align = self.align;
                 write!(f, "its length, {length} bytes, is no multiple of {align}")
             }
             OpenBad::TooLarge(length) => {
-                write!(f, "its length, {length} bytes, is over 2^40, which is 1099511627776")
+                write!(
+                    f,
+                    "its length, {length} bytes, is over 2^40, which is 1099511627776"
+                )
             }
         }
     }
@@ -68,10 +74,16 @@ fn write_end<W: fmt::Write>(f: &mut fmt::Formatter<W>, end: SessionEnd) -> fmt::
     match end {
         SessionEnd::Done => f.write_str("the client left"),
         SessionEnd::Truncated => f.write_str("the input ended within a message"),
-        SessionEnd::BadMagic(magic) => write!(f, "a message begins with the magic number {magic:08x}"),
+        SessionEnd::BadMagic(magic) => write!(
+            f,
+            "a message begins with the magic number {magic:08x}"
+        ),
         SessionEnd::BadFlags(flags) => write!(f, "the client set the flags {flags:08x}"),
         SessionEnd::TooLong(length) => write!(f, "a message of {length} bytes is too long"),
-        SessionEnd::NotFixed(option) => write!(f, "option {option} came from a client of the old style"),
+        SessionEnd::NotFixed(option) => write!(
+            f,
+            "option {option} came from a client of the old style"
+        ),
         SessionEnd::Aborted => f.write_str("the client aborted"),
         SessionEnd::NoExport => f.write_str("there is no such export"),
         SessionEnd::Crowded => f.write_str("the export has too many clients"),

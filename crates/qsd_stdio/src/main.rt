@@ -16,7 +16,7 @@ use std::io::{Stdin, Stdout};
 use std::process::ExitCode;
 use std::rt::Files;
 use std::sync::Wait;
-use telling::{HELP, Served, Unserved, VERSION};
+use telling::{HELP, Served, Unserved, VERSION, image_of};
 
 /// The program's name.
 const NAME: &str = "qsd_stdio";
@@ -51,7 +51,10 @@ fn run<R: Files<File = File> + AllocGlobal + Eprint + Wait + Copy>(
 ) -> u8 {
     match serve(rt, input, output, words) {
         Ok(ended) => report(rt, NAME, exit_of(ended.status), &Served { ended, words }),
-        Err(fault) => report(rt, NAME, fault.exit(), &Unserved { fault, words }),
+        Err(fault) => {
+            let image = image_of(words);
+            report(rt, NAME, fault.exit(), &Unserved { fault, image })
+        }
     }
 }
 
@@ -59,8 +62,8 @@ fn main(rt: HostRuntime) -> ExitCode {
     let words = match words(&rt) {
         Ok(words) => words,
         Err(fault) => {
-            let words = &[];
-            let exit = report(&rt, NAME, fault.exit(), &Unserved { fault, words });
+            let image = "";
+            let exit = report(&rt, NAME, fault.exit(), &Unserved { fault, image });
             return ExitCode::from(exit);
         }
     };

@@ -25,18 +25,18 @@ without its magic number; 14 at a WRITE that is too long; 18 where the image can
 pub const VERSION: &str = "qsd_stdio 1.0.0";
 
 /// The path of the image, where the words are the command's.
-fn image_of(words: &[String]) -> &str {
+pub fn image_of(words: &[String]) -> &str {
     match stdio_words(words) {
         Some(told) => words[told.image].as_str(),
         None => "",
     }
 }
 
-/// Why the program didn't begin to serve, with the words that it was called with.
+/// Why the program didn't begin to serve the image of this path.
 #[derive(Clone, Copy)]
 pub struct Unserved<'a> {
     pub fault: StartFault,
-    pub words: &'a [String],
+    pub image: &'a str,
 }
 
 impl fmt::Display for Unserved<'_> {
@@ -44,7 +44,7 @@ impl fmt::Display for Unserved<'_> {
         let fault = self.fault;
         match fault {
             StartFault::NotOpened(_) => {
-                let image = image_of(self.words);
+                let image = self.image;
                 write!(f, "{image:?}: {fault}")
             }
             StartFault::NotText => write!(f, "{fault}\n{USAGE}"),

@@ -11,5 +11,5 @@ loop-stripe-preserved g c =
     let align : ℕ = c.args.align in
     let length : ℕ = c.in_ok-file.length in
     let more : map {B = Shape} (λ k. (k, align, length)) (range_with_len 0 (n + 1)) ≡ map {B = Shape} (λ k. (k, align, length)) (range_with_len 0 n) ++ (n, align, length) ∷ []
-        = map-range_with_len_more {X = Shape} (λ k. (k, align, length)) 0 n n (omega arith) in
+    = map-range_with_len_more {X = Shape} (λ k. (k, align, length)) 0 n n (omega arith) in
     rw (c.in_ok-push.ensures.items, map-append, more) (ap (λ (xs : List Shape). xs ++ (n, align, length) ∷ []) c.loop-stripe.invariant)

@@ -9,9 +9,9 @@ returns-then-self c = λ history in_turn idle same.
 pub returns-then-self-k : goal.returns-then-self-k
 returns-then-self-k c = λ history in_turn idle same.
     need_call history c.args.k in_turn c.requires (sym (ap (λ log. log.failed) same) ∙ c.if-self.false)
-        (sym (ap (λ log. slice_index_or log.unsynced c.args.k false) same) ∙ c.if-self-k.true)
+    (sym (ap (λ log. slice_index_or log.unsynced c.args.k false) same) ∙ c.if-self-k.true)
 
 pub returns-else-self-k : goal.returns-else-self-k
 returns-else-self-k c = λ history in_turn idle same.
     need_nothing history c.args.k in_turn idle c.requires (sym (ap (λ log. log.failed) same) ∙ c.if-self.false)
-        (sym (ap (λ log. slice_index_or log.unsynced c.args.k false) same) ∙ c.if-self-k.false)
+    (sym (ap (λ log. slice_index_or log.unsynced c.args.k false) same) ∙ c.if-self-k.false)
