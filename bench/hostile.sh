@@ -9,8 +9,8 @@
 # told as skipped: strace, flock, python3, and as root a loop device and a small tmpfs.
 set -u
 cd "$(dirname "$0")/.."
-stdio=$(realpath "${1:-crates/qsd_stdio/out}/qsd_stdio")
-replay=$(realpath "${1:-crates/qsd_replay/out}/qsd_replay")
+stdio=$(realpath "${1:-crates/qsd_stdio/out}/qsd_stdio") || exit 1
+replay=$(realpath "${1:-crates/qsd_replay/out}/qsd_replay") || exit 1
 helper=$PWD/bench/hostile.py
 tests=$PWD/crates/qs_host/out/qs_host_tests
 mkdir -p bench/out
@@ -61,7 +61,7 @@ request() {
     printf '%b' "$(printf '256095130000%04x%016x%016x%08x' "$1" "$2" $(($3 * 512)) $(($4 * 512)) | sed 's/../\\x&/g')"
 }
 
-# blocks LETTER COUNT: so many blocks of one letter.
+# blocks LETTER COUNT: so many blocks of one letter, or of \\NNN in octal.
 blocks() { head -c $(($2 * 512)) /dev/zero | tr '\0' "$1"; }
 
 read_one() { request 0 1 0 1; }
@@ -72,7 +72,9 @@ write_one() {
 disc() { request 2 9 0 0; }
 
 # errors: the error numbers of the simple replies without data in the file output, in order.
-errors() { od -A n -v -t x1 -w16 output | awk '{print strtonum("0x" $5 $6 $7 $8)}' | tr '\n' ' ' | sed 's/ $//'; }
+errors() {
+    od -A n -v -t x1 -w16 output | while read -r _ _ _ _ a b c d _; do printf '%d ' "0x$a$b$c$d"; done | sed 's/ $//'
+}
 
 words=(--transmission disk.img)
 fresh
@@ -108,9 +110,9 @@ status=0
 echo "session A disk" | "$replay" >&- 2>told || status=$?
 check "qsd_replay: standard output is closed" "5" "$status"
 if has strace; then
-    strace -f -e trace=pread64,pwrite64 -o traced "$stdio" "${words[@]}" <write 2>&- >&-
+    strace -f -e trace=pwrite64 -o traced "$stdio" "${words[@]}" <write 2>&- >&-
     check "the least number of the image's handles with output and error closed" "3 or more" \
-        "$(sed -n 's/.*p[a-z]*64(\([0-9]*\),.*/\1/p' traced | sort -n | head -n 1 |
+        "$(sed -n 's/.*pwrite64(\([0-9]*\),.*/\1/p' traced | sort -n | head -n 1 |
             awk '{print $1 < 3 ? $1 : "3 or more"}')"
     fresh
 else
@@ -156,7 +158,7 @@ else
     skip "a block device (no loop device)"
 fi
 status=0
-(ulimit -n 5; exec "$stdio" "${words[@]}" <read >output 2>told) || status=$?
+(ulimit -n 5; exec "$stdio" "${words[@]}") <read >output 2>told || status=$?
 check "too few file handles" "18" "$status"
 told "too few file handles" '"disk.img": Too many open files'
 
@@ -213,13 +215,12 @@ hindered() {
     fresh
     strace -f -o traced -P "$PWD/$2" -e trace="$3" -e inject="$3:error=EINTR:when=1+2" \
         "$stdio" "${words[@]}" <write_read >output 2>told || status=$?
-    check "$1" "0 560 Z yes" \
+    check "$1" "0 1072 Z yes" \
         "$status $(stat -c %s output) $(head -c 1 disk.img) $(grep -q INJECTED traced && echo yes || echo no)"
 }
 { write_one; read_one; read_one; disc; } >write_read
 if has strace; then
     : >output
-    head -c 1072 /dev/zero >wanted
     hindered "interrupted reads of the input" write_read read
     hindered "interrupted writes of the output" output write
     hindered "interrupted reads of the image" disk.img pread64
@@ -240,9 +241,9 @@ fi
 echo "-- at an orderly end nothing is left in the program"
 for i in $(seq 0 199); do
     request 1 "$i" $((i % 64)) 1
-    blocks "$(printf "\\$(printf '%03o' $((i % 64 + 48)))")" 1
+    blocks "\\$(printf '%03o' $((i % 64 + 48)))" 1
 done >writes
-for i in $(seq 0 63); do blocks "$(printf "\\$(printf '%03o' $((i + 48)))")" 1; done >wanted
+for i in $(seq 0 63); do blocks "\\$(printf '%03o' $((i + 48)))" 1; done >wanted
 status=0
 "$stdio" "${words[@]}" <writes >output 2>told || status=$?
 check "200 writes and the input's end" "0 3200 same" "$status $(stat -c %s output) $(same disk.img wanted)"
