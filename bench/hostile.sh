@@ -61,7 +61,7 @@ request() {
     printf '%b' "$(printf '256095130000%04x%016x%016x%08x' "$1" "$2" $(($3 * 512)) $(($4 * 512)) | sed 's/../\\x&/g')"
 }
 
-# blocks LETTER COUNT: so many blocks of one letter, or of \\NNN in octal.
+# blocks LETTER COUNT: so many blocks of one letter, or of \NNN in octal.
 blocks() { head -c $(($2 * 512)) /dev/zero | tr '\0' "$1"; }
 
 read_one() { request 0 1 0 1; }
@@ -287,7 +287,7 @@ echo "-- syncs: one covers what was stored through all handles, and one that fai
 syncs() {
     rm -f sync_test.img
     strace -f -o traced -e trace=fdatasync ${3:+-e inject=fdatasync:error=EIO:when=$3} \
-        "$tests" a_failed_sync_is_remembered >output 2>&1
+        "$tests" tests::a_failed_sync_is_remembered >output 2>&1
     check "$1" "$2" "$(grep -o 'synced [0-9 ]*' output), $(grep -c 'fdatasync(' traced) calls"
 }
 if [ -x "$tests" ] && has strace; then
