@@ -24,6 +24,21 @@ fn tells_some(words: &[String]) -> bool
     replay_words(words).is_some()
 }
 
+/// The same, where the first three of four words or more begin the command's form.
+fn stray_of_four(words: &[String]) -> Option<usize>
+    requires four { 3 < length words.now }
+    requires three { IsFront (take 3 words.now) }
+    ensures some { IfSome result (λ i. (i < length words.now) × IsFront (take i words.now) × ¬ IsFront (take (i + 1) words.now)) }
+    ensures none { IfNone result (IsFront words.now) }
+{
+    let whole = tells_some(&words[..4]);
+    match words {
+        [_, _, _, _] if whole => None,
+        [_, _, _, _, _, ..] if whole => Some(4),
+        _ => Some(3),
+    }
+}
+
 /// The first word that isn't understood: those before it begin the command's form, and with it they don't.
 /// `None` where all words begin it, so that one is missing or none.
 pub fn stray_word(words: &[String]) -> Option<usize>
@@ -38,8 +53,6 @@ pub fn stray_word(words: &[String]) -> Option<usize>
         [_, _] => None,
         [first, _, second, ..] if !may_follow(second, first) => Some(2),
         [_, _, _] => None,
-        [_, _, _, _, ..] if !tells_some(&words[..4]) => Some(3),
-        [_, _, _, _] => None,
-        _ => Some(4),
+        _ => stray_of_four(words),
     }
 }
