@@ -1,10 +1,9 @@
 -- What a log keeps of a history is what decides whether a sync is needed.
-use Rattle.std.proofs.Common.{rules, ◌≡◌, ◌≢◌, ℕ, ◌<◌, ◌⊎◌, ◌==◌, ◌||◌, ◌&&◌, Bool, true, false, not, List, [], ◌∷◌, length, replicate, if◌then◌else◌, slice_index_or, slice_set, refl, sym, ap, ◌∙◌, inl, inr, arith}
+use Rattle.std.proofs.Common.{rules, ◌≡◌, ◌≢◌, ℕ, ◌<◌, ◌⊎◌, ◌==◌, ◌||◌, ◌&&◌, Bool, true, false, not, List, [], ◌∷◌, length, slice_index_or, slice_set, refl, sym, ap, ◌∙◌, inl, inr}
 use Rattle.std.proofs.lemmas.List.{get_or-set_same, get_or-set_other, get_or-replicate, length-set}
 use Rattle.std.proofs.lemmas.Bool.{cases_eq, eq-eqb, ne_eqb}
 use Rattle.qs_host.specs.Syncs.{Act, InTurn, has_failed, is_covered, is_going, log_of, needed, stored_since}
 use Rattle.qs_host.specs.Syncs.Act.{Began, Ended, Stored}
-use Rattle.qs_host.specs.declared.sync_log.SyncNeed.{SyncNeed}
 use Rattle.qs_host.specs.declared.sync_log.SyncNeed.TheVariants.{Fails, Nothing, Call}
 
 bool_differ : false ≡ true → ⊥

@@ -1,4 +1,4 @@
-use Rattle.std.proofs.Common.{rules, subst, sym, ap, ◌∙◌, false, slice_index_or}
+use Rattle.std.proofs.Common.{sym, ap, ◌∙◌, false, slice_index_or}
 use Rattle.qs_host.proofs.SyncHistories.{need_call, need_fails, need_nothing}
 use Rattle.qs_host.proofs.sync_log.SyncLog.need.Goals as goal
 
