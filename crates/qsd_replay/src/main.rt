@@ -4,12 +4,20 @@
 //! is on standard output.
 #![tactic(auto)]
 
-use qs_bytes::{Memory, Status};
-use qs_host::{Faults, Reading, StartFault, Writing, exit_of, words};
+mod stray;
+mod telling;
+
+use qs_bytes::Memory;
+use qs_host::{About, Ended, Reading, StartFault, Writing, asked, exit_of, report, tell, words};
 use qs_outside::MemDisk;
 use qs_replay::{ReplayWords, replay_words, run_replay};
 use std::alloc::Global;
+use std::io::{Stdin, Stdout};
 use std::process::ExitCode;
+use telling::{HELP, Replayed, VERSION};
+
+/// The program's name.
+const NAME: &str = "qsd_replay";
 
 /// How many disks hold the image.
 const STRIPES: u8 = 8;
@@ -40,35 +48,38 @@ fn open_disks(alloc: Global, words: &[String]) -> Result<Vec<MemDisk>, Memory> {
 }
 
 /// Replays the script that stands at standard input.
-fn replay(rt: &HostRuntime) -> Result<Status, StartFault> {
-    let words = words(rt)?;
-    let Ok(mut disks) = open_disks(rt.alloc(), words.as_slice()) else {
+fn replay(
+    alloc: Global,
+    input: Stdin,
+    output: Stdout,
+    words: &[String],
+) -> Result<Ended, StartFault> {
+    let Ok(mut disks) = open_disks(alloc, words) else {
         return Err(StartFault::Memory);
     };
-    let mut input = Reading {
-        inner: rt.stdin(),
-        faults: Faults::NONE,
-    };
-    let mut output = Writing {
-        inner: rt.stdout(),
-        faults: Faults::NONE,
-    };
-    Ok(run_replay(
-        rt.alloc(),
-        words.as_slice(),
-        &mut input,
-        &mut output,
-        &mut disks,
-    ))
+    let mut input = Reading::new(input);
+    let mut output = Writing::new(output);
+    let status = run_replay(alloc, words, &mut input, &mut output, &mut disks);
+    Ok(Ended::of(status, &input, &output))
+}
+
+/// Replays, tells how it ended, and answers the exit status.
+fn run(rt: &HostRuntime, words: &[String]) -> u8 {
+    match replay(rt.alloc(), rt.stdin(), rt.stdout(), words) {
+        Ok(ended) => report(rt, NAME, exit_of(ended.status), &Replayed { ended, words }),
+        Err(fault) => report(rt, NAME, fault.exit(), &fault),
+    }
 }
 
 fn main(rt: HostRuntime) -> ExitCode {
-    let exit = match replay(&rt) {
-        Ok(status) => exit_of(status),
-        Err(fault) => fault.exit(),
+    let words = match words(&rt) {
+        Ok(words) => words,
+        Err(fault) => return ExitCode::from(report(&rt, NAME, fault.exit(), &fault)),
     };
-    if exit != 0 {
-        let _ = eprintln!(rt; "qsd_replay: status {exit}");
-    }
+    let exit = match asked(words.as_slice()) {
+        Some(About::Help) => tell(&rt, NAME, HELP),
+        Some(About::Version) => tell(&rt, NAME, VERSION),
+        None => run(&rt, words.as_slice()),
+    };
     ExitCode::from(exit)
 }
