@@ -7,10 +7,8 @@
 mod stray;
 mod telling;
 
-use qs_bytes::Memory;
 use qs_host::{About, Ended, Reading, StartFault, Writing, asked, exit_of, report, tell, words};
-use qs_outside::MemDisk;
-use qs_replay::{ReplayWords, replay_words, run_replay};
+use qs_replay::{memory_disks, run_replay};
 use std::alloc::Global;
 use std::io::{Stdin, Stdout};
 use std::process::ExitCode;
@@ -19,34 +17,6 @@ use telling::{HELP, Replayed, VERSION};
 /// The program's name.
 const NAME: &str = "qsd_replay";
 
-/// How many disks hold the image.
-const STRIPES: u8 = 8;
-
-/// How many stores a disk has room for.
-const ROOM: u32 = 4096;
-
-/// Disks of zeros of the shape that the words tell.
-fn disks_of(alloc: Global, told: ReplayWords) -> Result<Vec<MemDisk>, Memory> {
-    let mut disks = Vec::new(alloc);
-    if told.align == 0 || told.blocks > 65_536 {
-        return Ok(disks);
-    }
-    let length = told.blocks * u64::from(told.align);
-    for stripe in 0..STRIPES {
-        let disk = MemDisk::new(alloc, stripe, told.align, length, ROOM)?;
-        disks.push(disk)?;
-    }
-    Ok(disks)
-}
-
-/// The disks that the words name; none where they aren't of the command's form.
-fn open_disks(alloc: Global, words: &[String]) -> Result<Vec<MemDisk>, Memory> {
-    match replay_words(words) {
-        Some(told) => disks_of(alloc, told),
-        None => Ok(Vec::new(alloc)),
-    }
-}
-
 /// Replays the script that stands at standard input.
 fn replay(
     alloc: Global,
@@ -54,7 +24,7 @@ fn replay(
     output: Stdout,
     words: &[String],
 ) -> Result<Ended, StartFault> {
-    let Ok(mut disks) = open_disks(alloc, words) else {
+    let Ok(mut disks) = memory_disks(alloc, words) else {
         return Err(StartFault::Memory);
     };
     let mut input = Reading::new(input);
