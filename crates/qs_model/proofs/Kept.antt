@@ -446,8 +446,12 @@ detached_ok A w s e ok left some = record {
       (λ other is. put_cases (λ xs. Among t xs) w.clients e (without s (w.clients e)) d
       (λ f. among_without s t (w.clients e) other (ok.sessions t e (subst (λ (n : ℕ). IsClient (w.session t) n) f is))) (λ f. ok.sessions t d is));
   counts = λ d. put_cases (λ xs. length xs ≡ clients_of (export_at (graph_after w.graph (Detach e) DetachedReply).places d)) w.clients e (without s (w.clients e)) d
-      (λ f. omega (arith, ok.counts e, length_without s (w.clients e) among,
-      subst (λ (n : ℕ). clients_of (export_at (graph_after w.graph (Detach e) DetachedReply).places n) ≡ clients_of (export_at w.graph.places e) - 1) (sym f) (detach_here w.graph e some)))
+      (λ f. omega (
+        arith,
+        ok.counts e,
+        length_without s (w.clients e) among,
+        subst (λ (n : ℕ). clients_of (export_at (graph_after w.graph (Detach e) DetachedReply).places n) ≡ clients_of (export_at w.graph.places e) - 1) (sym f) (detach_here w.graph e some),
+      ))
       (λ other. ok.counts d ∙ sym (detach_other w.graph e d other));
 }
   where

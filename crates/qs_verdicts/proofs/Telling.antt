@@ -159,9 +159,11 @@ row_at A w n d p Answers may fit at = tt
 row_at A w n d p (Waits wait) may fit at = (refl, refl, at)
 row_at A w n d p (Enters k) may fit at = (refl, refl, at)
 row_at A w n d p (Routes {k = k} route) may fit at = (refl, refl, routed_at A n route at)
-row_at A w n d p (Shuts {k = k}) may fit at =
-    (ap (λ (x : Route). record n.client { route = x }) (shut_route n at.way), refl,
-    plain_end (record n { way = Shut }) _ at.listed at.fault (good_reply n.client.ask n.client.buffered Shut n.fault n.got at.good.form at.good.room))
+row_at A w n d p (Shuts {k = k}) may fit at = (
+  ap (λ (x : Route). record n.client { route = x }) (shut_route n at.way),
+  refl,
+  plain_end (record n { way = Shut }) _ at.listed at.fault (good_reply n.client.ask n.client.buffered Shut n.fault n.got at.good.form at.good.room),
+)
   where
     shut_route : (m : Story) → m.way ≡ Unknown → (sent m).route ≡ no_route
     shut_route m is = ap (λ (x : Way). route_by x) is

@@ -146,8 +146,10 @@ unfolding stored
 stored_opens A c b t reach opens =
     choose (λ g. Opens A c g (with_stored A c t b)) (b == edge A c Tail) _ _
     (λ over. (stored_head A c b t opens, ap (λ (s : Bool). cond s false t.tail) over))
-    (λ more. (stored_head A c b t opens ∙ sym (and_false (has A c Head) (b + 1 == edge A c Head) (past_edge b (edge A c Head) reach.first)),
-    ap (λ (s : Bool). cond s false t.tail) more ∙ opens.1))
+    (λ more. (
+      stored_head A c b t opens ∙ sym (and_false (has A c Head) (b + 1 == edge A c Head) (past_edge b (edge A c Head) reach.first)),
+      ap (λ (s : Bool). cond s false t.tail) more ∙ opens.1,
+    ))
 
 pub store_failed_opens : (A : ℕ) (c : Client) (b : ℕ) (t : Trace) → Opens A c (ToStore b) t → Opens A c (store_failed A c b) (with_stored A c t b)
 unfolding store_failed
