@@ -8,8 +8,7 @@ pub invariant_of-self : goal.invariant_of-self
 invariant_of-self c =
     let old = c.self.inside.seats.items in
     let is : take c.self.inside.seats.len (c.renumber.new.seats ++ drop (length c.renumber.new.seats) old) ≡ renumbered old =
-    written_back c.self.inside.seats.len old c.deref_mut.result.now c.renumber.new.seats c.deref_mut.ensures.value c.deref_mut.ensures.len c.renumber.ensures in
-    (
+    written_back c.self.inside.seats.len old c.deref_mut.result.now c.renumber.new.seats c.deref_mut.ensures.value c.deref_mut.ensures.len c.renumber.ensures in (
       ap length is ∙ length-map old (ranked old) ∙ c.self.invariant.0,
       c.self.invariant.1,
       subst (VacantFrom c.self.inside.top) (sym is) (vacant_renumbered c.self.inside.top old c.self.invariant.2),
