@@ -1,6 +1,6 @@
 #!/usr/bin/env bash
-# The exit statuses of the built program: each is brought about, and the number and the line on standard
-# error are compared with README.md's table.
+# The exit statuses of the built program: each is brought about, and the number and the first line on
+# standard error are compared with README.md's table. A line in words follows it; hostile.sh tries those.
 #
 #     bench/statuses.sh [PROGRAM]
 #
@@ -24,13 +24,17 @@ head_of() {
     printf '%b' "$(printf '25609513%s0000000000000001%s%s' "$1" "$2" "$3" | sed 's/../\\x&/g')"
 }
 
+# Nothing follows where nothing was told, and else a second line.
+told_in_words() { [ ! -s told ] || [ "$(wc -l <told)" -ge 2 ]; }
+
 # try STATUS WHAT INPUT OUTPUT WORD..: runs the program and compares.
 try() {
     local wanted=$1 what=$2 input=$3 output=$4 status=0
     shift 4
     "$program" "$@" <"$input" >"$output" 2>told || status=$?
     if [ "$wanted" -eq 0 ]; then : >line; else echo "qsd_stdio: status $wanted" >line; fi
-    if [ "$status" -eq "$wanted" ] && cmp -s told line; then
+    head -n 1 told >first
+    if [ "$status" -eq "$wanted" ] && cmp -s first line && told_in_words; then
         echo "status $wanted: $what"
     else
         echo "NOT status $wanted but $status: $what"
@@ -62,4 +66,6 @@ try 11 "a wrong magic" magic output "${words[@]}"
 try 14 "a WRITE that is too long" long output "${words[@]}"
 try 18 "no such file" empty output --transmission missing.img
 try 18 "a folder for an image" empty output --transmission .
+try 0 "the question for help" empty output --help
+try 0 "the question for the version" empty output --version
 exit "$wrong"

@@ -1,5 +1,8 @@
 -- The exit statuses of programs.
-use Rattle.std.specs.Prelude.{ℕ, Bool, true, false, if◌then◌else◌}
+use Rattle.std.specs.Prelude.{ℕ, Bool, true, false, if◌then◌else◌, ⊤}
+use Rattle.std.specs.IoError.{error_kind}
+use Rattle.std.specs.declared.io.Error.{Error}
+use Rattle.qs_host.specs.declared.start_fault.Unfit.TheVariants.{System}
 use Rattle.std.specs.declared.io.ErrorKind.{ErrorKind}
 use Rattle.std.specs.declared.io.ErrorKind.TheVariants.{OutOfMemory}
 use Rattle.qs_bytes.specs.declared.status.SessionEnd.{SessionEnd}
@@ -41,7 +44,7 @@ status_exit (status.Ended end) = end_exit end
 abbrev pub fault_exit : StartFault → ℕ
 fault_exit Memory = 9
 fault_exit NotText = 2
-fault_exit NotOpened = 18
+fault_exit (NotOpened unfit) = 18
 
 -- the one kind of error that refused memory has
 abbrev pub is_out_of_memory : ErrorKind → Bool
@@ -49,8 +52,13 @@ is_out_of_memory OutOfMemory = true
 is_out_of_memory _ = false
 
 -- refused memory apart from a file that can't be opened
-abbrev pub file_fault : ErrorKind → StartFault
-file_fault kind = if is_out_of_memory kind then Memory else NotOpened
+abbrev pub file_fault : Error → StartFault
+file_fault error = if is_out_of_memory (error_kind error) then Memory else NotOpened (System error)
+
+-- no file was at fault
+abbrev pub IsNoFile : StartFault → Type 0
+IsNoFile (NotOpened unfit) = ⊥
+IsNoFile other = ⊤
 
 -- refused memory apart from a word that isn't text
 abbrev pub word_fault : ErrorKind → StartFault

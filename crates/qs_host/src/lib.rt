@@ -6,14 +6,22 @@ mod command;
 mod exit;
 mod faults;
 mod file_disk;
+mod file_syncs;
+mod image;
+mod retry;
 mod start_fault;
 mod streams;
+mod sync_log;
+mod telling;
 #[cfg(test)]
 mod tests;
 
-pub use command::words;
+pub use command::{About, asked, words};
 pub use exit::exit_of;
 pub use faults::Faults;
-pub use file_disk::FileDisk;
-pub use start_fault::StartFault;
+pub use file_disk::{FileDisk, file_disks};
+pub use image::FileKind;
+pub use start_fault::{StartFault, Unfit};
 pub use streams::{Reading, Writing};
+pub use sync_log::{SyncLog, SyncNeed};
+pub use telling::{BrokenRule, Ended, report, tell};

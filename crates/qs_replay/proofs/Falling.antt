@@ -103,8 +103,8 @@ row_falls A size c d p (Waits {stage = stage} wait) inside on = absurd (true≢f
 row_falls A size c d p (Enters k) inside on = (omega arith, λ e. some_none e)
 row_falls A size c d p (Routes {k = k} route) inside on = (routed_falls size k (record c { route = route }), λ e. some_none e)
 row_falls A size c d p (Shuts {k = k}) inside on = (omega arith, λ e. some_none e)
-row_falls A size c d p (Lists {k = k} numbered) inside on = (omega arith, λ e. some_none e)
-row_falls A size c d p (Starts {k = k} l) inside on = (started_falls A size k c, λ e. some_none e)
+row_falls A size c d p (Lists {k = k} n) inside on = (omega arith, λ e. some_none e)
+row_falls A size c d p (Starts {k = k}) inside on = (started_falls A size k c, λ e. some_none e)
 row_falls A size c d p (Loads {k = k} {b = b} {got = got} bytes) inside on =
     let (positive, fits) = inside b refl in (loaded_falls A size k c b got bytes (block_below A size b positive fits), λ e. some_none e)
 row_falls A size c d p (LoadFails {k = k} {b = b}) inside on = (omega arith, λ e. some_none e)

@@ -6,7 +6,7 @@ use Rattle.std.proofs.lemmas.Bool.{cases_lt}
 use Rattle.qs_part.specs.declared.stripe.Side.{Side}
 use Rattle.qs_part.specs.declared.stripe.Side.TheVariants.{Head, Tail}
 use Rattle.qs_stripe.specs.declared.holds.Ends.{Ends}
-use Rattle.qs_stripe.specs.Holds.{holds_of, no_ends}
+use Rattle.qs_stripe.specs.Holds.{EmptyFrom, holds_of, no_ends}
 
 no_ends-replicate : (n k : ℕ) → slice_index_or (replicate n no_ends) k no_ends ≡ no_ends
 no_ends-replicate n k =
@@ -19,3 +19,6 @@ no_ends-replicate n k =
 pub holds_of-replicate : (n k : ℕ) (side : Side) → holds_of (replicate n no_ends) k side ≡ None
 holds_of-replicate n k Head = ap (λ (e : Ends). e.head) (no_ends-replicate n k)
 holds_of-replicate n k Tail = ap (λ (e : Ends). e.tail) (no_ends-replicate n k)
+
+pub all_empty : (n : ℕ) → EmptyFrom 0 (replicate n no_ends)
+all_empty n k h = no_ends-replicate n k

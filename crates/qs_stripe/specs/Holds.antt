@@ -1,6 +1,6 @@
 -- The blocks that requests hold: each place of a request has two places for holds, one for each end
 -- of its span.
-use Rattle.std.specs.Prelude.{◌≡◌, ◌≢◌, ℕ, ◌⊎◌, ◌==◌, if◌then◌else◌, List, Option, Some, None, slice_index_or}
+use Rattle.std.specs.Prelude.{◌≡◌, ◌≢◌, ℕ, ◌≤◌, ◌⊎◌, ◌==◌, if◌then◌else◌, List, Option, Some, None, slice_index_or}
 use Rattle.qs_part.specs.declared.stripe.Side.{Side}
 use Rattle.qs_part.specs.declared.stripe.Side.TheVariants.{Head, Tail}
 use Rattle.qs_stripe.specs.declared.holds.Ends.{Ends}
@@ -28,6 +28,10 @@ ends_without ends b = record { head = left_of ends.head b; tail = left_of ends.t
 -- the holds of a list of places
 abbrev pub holds_of : List Ends → ℕ → Side → Option ℕ
 holds_of places k side = end_at (slice_index_or places k no_ends) side
+
+-- place n and those behind it hold nothing
+abbrev pub EmptyFrom : ℕ → List Ends → Type 0
+EmptyFrom n places = (k : ℕ) → n ≤ k → slice_index_or places k no_ends ≡ no_ends
 
 -- one place holds the block
 abbrev pub HasBlock : Ends → ℕ → Type 0

@@ -1,6 +1,6 @@
-ghost use Rattle.std.specs.Prelude.{◌≡◌, ◌≢◌, ◌↔◌, ◌⊎◌, ℕ, length, IfOk, IsTrue, None, Some, MatchOption};
+ghost use Rattle.std.specs.Prelude.{◌≡◌, ◌≢◌, ◌↔◌, ◌⊎◌, ◌≤◌, ℕ, length, IfOk, IsTrue, None, Some, MatchOption};
 ghost use Rattle.qs_part.specs.declared.stripe.Side.{Side as End};
-ghost use Rattle.qs_stripe.specs.Holds.{HasBlock, IsFree, IsFreeFor, IsHeld, LetsGo, Takes, end_at, ends_with, ends_without, holds_of, left_of};
+ghost use Rattle.qs_stripe.specs.Holds.{EmptyFrom, HasBlock, IsFree, IsFreeFor, IsHeld, LetsGo, Takes, end_at, ends_with, ends_without, holds_of, left_of};
 
 use qs_part::stripe::Side;
 use std::alloc::{AllocError, Global};
@@ -85,7 +85,7 @@ impl Ends {
 }
 
 fn first_holder(places: &[Ends], b: u64) -> Option<u8>
-    requires { length places.now ≡ 256 }
+    requires { length places.now ≤ 256 }
     ensures { MatchOption result (IsFree (holds_of places.now) b) (λ j. IsHeld (holds_of places.now) j b) }
 {
     for j in 0..places.len() {
@@ -97,7 +97,7 @@ fn first_holder(places: &[Ends], b: u64) -> Option<u8>
 }
 
 fn first_other(places: &[Ends], b: u64, k: u8) -> Option<u8>
-    requires { length places.now ≡ 256 }
+    requires { length places.now ≤ 256 }
     ensures { MatchOption result (IsFreeFor (holds_of places.now) k b) (λ j. IsHeld (holds_of places.now) j b × (j ≢ k)) }
 {
     for j in 0..places.len() {
@@ -110,21 +110,36 @@ fn first_other(places: &[Ends], b: u64, k: u8) -> Option<u8>
     None
 }
 
+/// How many places there are up to the last one that holds a block.
+fn top_of(places: &[Ends]) -> usize
+    ensures inside { result ≤ length places.now }
+    ensures rest { EmptyFrom result places.now }
+    ensures least { (n : ℕ) → EmptyFrom n places.now → result ≤ n }
+{
+    match places.iter().rposition(|ends| *ends != Ends::NONE) {
+        Some(k) => k + 1,
+        None => 0,
+    }
+}
+
 /// What every place holds: of each of the 256 places of requests, the blocks of its two ends.
 #[derive(Debug, Drop)]
 pub struct Holds {
     places: Vec<Ends>,
+    /// This place and those behind it hold nothing, so that a search may end before it.
+    top: usize,
 }
 
 impl Model for Holds {
-    ghost use Rattle.std.specs.Prelude.{◌≡◌, List, length};
+    ghost use Rattle.std.specs.Prelude.{◌≡◌, ◌≤◌, List, length};
     ghost use Rattle.qs_stripe.specs.declared.holds.Ends.{Ends};
+    ghost use Rattle.qs_stripe.specs.Holds.{EmptyFrom};
 
     ghost Value = { List Ends };
 
     ghost view = { λ h. h.places.items };
 
-    ghost invariant = { λ h. length h.places.items ≡ 256 };
+    ghost invariant = { λ h. (length h.places.items ≡ 256) × (h.top ≤ 256) × EmptyFrom h.top h.places.items };
 }
 
 impl Holds {
@@ -133,7 +148,7 @@ impl Holds {
         ensures { IfOk result (λ h. (k : ℕ) (side : End) → holds_of h k side ≡ None) }
     {
         match vec![in alloc; Ends::NONE; PLACES] {
-            Ok(places) => Ok(Holds { places }),
+            Ok(places) => Ok(Holds { places, top: 0 }),
             Err(_) => Err(AllocError),
         }
     }
@@ -156,14 +171,14 @@ impl Holds {
     pub fn holder(&self, b: u64) -> Option<u8>
         ensures { MatchOption result (IsFree (holds_of self.now) b) (λ j. IsHeld (holds_of self.now) j b) }
     {
-        first_holder(&self.places, b)
+        first_holder(&self.places[..self.top], b)
     }
 
     /// A place that holds the block and isn't `k`.
     pub fn other_holder(&self, b: u64, k: u8) -> Option<u8>
         ensures { MatchOption result (IsFreeFor (holds_of self.now) k b) (λ j. IsHeld (holds_of self.now) j b × (j ≢ k)) }
     {
-        first_other(&self.places, b, k)
+        first_other(&self.places[..self.top], b, k)
     }
 
     /// Place `k` holds the block at this end from now on.
@@ -172,6 +187,7 @@ impl Holds {
     {
         let k = k as usize;
         self.places[k] = self.places[k].with(side, b);
+        self.top = self.top.max(k + 1);
     }
 
     /// Place `k` doesn't hold the block any more.
@@ -179,6 +195,9 @@ impl Holds {
         ensures { LetsGo k b (holds_of self.old) (holds_of self.new) }
     {
         let k = k as usize;
-        self.places[k] = self.places[k].without(b);
+        if k < self.top {
+            self.places[k] = self.places[k].without(b);
+            self.top = top_of(&self.places[..self.top]);
+        }
     }
 }

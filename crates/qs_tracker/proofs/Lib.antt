@@ -5,3 +5,4 @@ pub mod Sound
 pub mod Dense
 pub mod Renumbering
 pub mod Rows
+pub mod Fronts

@@ -14,6 +14,10 @@ Conflict l m = Overlap l.span m.span × (IsTrue l.serial ⊎ IsTrue m.serial)
 abbrev pub seat_at : List Seat → ℕ → Seat
 seat_at seats k = slice_index_or seats k Vacant
 
+-- nobody is at place n or behind it
+abbrev pub VacantFrom : ℕ → List Seat → Type 0
+VacantFrom n seats = (k : ℕ) → n ≤ k → seat_at seats k ≡ Vacant
+
 abbrev pub is_vacant : Seat → Bool
 is_vacant Vacant = true
 is_vacant _ = false

@@ -1,5 +1,5 @@
-ghost use Rattle.std.specs.Prelude.{◌≡◌, ◌<◌, length, count_by, position, IfSome, MatchOption};
-ghost use Rattle.qs_tracker.specs.Seats.{IsClear, IsLowestBefore, lower_of, is_vacant, is_in, is_listed, rank, ranked, renumbered};
+ghost use Rattle.std.specs.Prelude.{◌≡◌, ◌<◌, ◌≤◌, ℕ, length, count_by, position, IfSome, MatchOption};
+ghost use Rattle.qs_tracker.specs.Seats.{IsClear, IsLowestBefore, VacantFrom, lower_of, is_vacant, is_in, is_listed, rank, ranked, renumbered};
 
 use crate::seat::{Listing, Seat};
 
@@ -20,6 +20,18 @@ pub fn first_in(seats: &[Seat]) -> Option<usize>
     ensures inside { IfSome result (λ k. k < length seats.now) }
 {
     seats.iter().position(|seat| seat.is_in())
+}
+
+/// How many places there are up to the last one that a request has.
+pub fn top_of(seats: &[Seat]) -> usize
+    ensures inside { result ≤ length seats.now }
+    ensures rest { VacantFrom result seats.now }
+    ensures least { (n : ℕ) → VacantFrom n seats.now → result ≤ n }
+{
+    match seats.iter().rposition(|seat| seat.is_in()) {
+        Some(k) => k + 1,
+        None => 0,
+    }
 }
 
 fn lower(first: Option<u64>, second: Option<u64>) -> Option<u64>

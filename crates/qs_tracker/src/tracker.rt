@@ -1,5 +1,7 @@
-ghost use Rattle.std.specs.Prelude.{◌≡◌, ◌<◌, ◌-◌, ◌^◌, IfOk};
-ghost use Rattle.qs_tracker.specs.Table.{fresh, numbered, Fits, answers};
+ghost use Rattle.std.specs.Prelude.{◌≡◌, ◌<◌, ◌-◌, ◌^◌, IfOk, MatchOption};
+ghost use Rattle.qs_tracker.specs.declared.seat.Seat.TheVariants.{Vacant};
+ghost use Rattle.qs_tracker.specs.Seats.{IsClear, IsLowestBefore};
+ghost use Rattle.qs_tracker.specs.Table.{fresh, numbered, placed, Fits, answers};
 
 use crate::places::{self, PLACES};
 use crate::seat::{Listing, Seat};
@@ -17,20 +19,23 @@ use std::marker::Model;
 pub struct Tracker {
     /// The 256 places.
     seats: Vec<Seat>,
+    /// Nobody is at this place or behind it, so that a search may end before it.
+    top: usize,
     /// The number of the next span.
     number: u64,
     quiesced: bool,
 }
 
 impl Model for Tracker {
-    ghost use Rattle.std.specs.Prelude.{◌≡◌, length};
+    ghost use Rattle.std.specs.Prelude.{◌≡◌, ◌≤◌, length};
+    ghost use Rattle.qs_tracker.specs.Seats.{VacantFrom};
     ghost use Rattle.qs_tracker.specs.Table.{TrackerValue};
 
     ghost Value = { TrackerValue };
 
     ghost view = { λ t. record { seats = t.seats.items; number = t.number; quiesced = t.quiesced } };
 
-    ghost invariant = { λ t. length t.seats.items ≡ 256 };
+    ghost invariant = { λ t. (length t.seats.items ≡ 256) × (t.top ≤ 256) × VacantFrom t.top t.seats.items };
 }
 
 impl Tracker {
@@ -41,6 +46,7 @@ impl Tracker {
     {
         Ok(Tracker {
             seats: Vec::from_array(alloc, [Seat::Vacant; PLACES])?,
+            top: 0,
             number: first,
             quiesced: false,
         })
@@ -51,8 +57,25 @@ impl Tracker {
         ensures { self.new ≡ fresh 0 }
     {
         self.seats.fill(Seat::Vacant);
+        self.top = 0;
         self.number = 0;
         self.quiesced = false;
+    }
+
+    fn put(&mut self, k: usize, seat: Seat)
+        requires { k < 256 }
+        ensures { self.new ≡ placed self.old k seat }
+    {
+        self.seats[k] = seat;
+        self.top = self.top.max(k + 1);
+    }
+
+    fn vacate(&mut self, k: usize)
+        requires { k < 256 }
+        ensures { self.new ≡ placed self.old k Vacant }
+    {
+        self.seats[k] = Seat::Vacant;
+        self.top = places::top_of(&self.seats[..self.top]);
     }
 
     fn enter(&mut self) -> TrackerReply
@@ -63,7 +86,7 @@ impl Tracker {
         }
         match places::first_vacant(&self.seats) {
             Some(k) => {
-                self.seats[k] = Seat::Present;
+                self.put(k, Seat::Present);
                 TrackerReply::Entered(k as u8)
             }
             None => TrackerReply::Full,
@@ -90,14 +113,21 @@ impl Tracker {
         }
         self.make_room();
         let number = self.number;
-        self.seats[k] = Seat::Has(Listing {
+        self.number = number + 1;
+        let listing = Listing {
             span,
             serial,
             number,
             started: false,
-        });
-        self.number = number + 1;
+        };
+        self.put(k, Seat::Has(listing));
         TrackerReply::Listed(number)
+    }
+
+    fn lowest_before(&self, own: &Listing) -> Option<u64>
+        ensures { MatchOption result (IsClear self.now.seats own.now) (IsLowestBefore self.now.seats own.now) }
+    {
+        places::lowest_before(&self.seats[..self.top], own)
     }
 
     fn start(&mut self, k: u8) -> TrackerReply
@@ -107,13 +137,14 @@ impl Tracker {
         let Seat::Has(own) = self.seats[k] else {
             return TrackerReply::Strange;
         };
-        match places::lowest_before(&self.seats, &own) {
+        match self.lowest_before(&own) {
             Some(n) => TrackerReply::NotYet(n),
             None => {
-                self.seats[k] = Seat::Has(Listing {
+                let going = Listing {
                     started: true,
                     ..own
-                });
+                };
+                self.put(k, Seat::Has(going));
                 TrackerReply::Started
             }
         }
@@ -126,7 +157,7 @@ impl Tracker {
         if self.seats[k].is_vacant() {
             return TrackerReply::Strange;
         }
-        self.seats[k] = Seat::Vacant;
+        self.vacate(k);
         TrackerReply::Ended
     }
 
@@ -143,7 +174,7 @@ impl Tracker {
     fn drained(&self) -> TrackerReply
         ensures { answers self.now TrackerOp.Drained result self.now }
     {
-        match places::first_in(&self.seats) {
+        match places::first_in(&self.seats[..self.top]) {
             Some(k) => TrackerReply::InFlight(k as u8),
             None => TrackerReply::Empty,
         }

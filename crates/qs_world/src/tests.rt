@@ -1,8 +1,7 @@
 use crate::world::World;
 use qs_bytes::{Ask, Bytes, Errno, Kind, Name, OpenBad, Verdict};
 use qs_outside::{Fail, MemDisk};
-use qs_part::event::{Actor, Event, Note, NoteReply, Outcome, StripeNote};
-use qs_part::graph::GraphReply;
+use qs_part::event::{Actor, Event, GraphNote, Note, NoteReply, Outcome, StripeNote};
 use qs_part::tracker::TrackerReply;
 use std::alloc::{AllocError, Global};
 use std::process::Abort;
@@ -56,8 +55,8 @@ fn noted(note: Note) -> Said {
         NoteReply::Tracker(TrackerReply::Listed(n)) => Said::Listed(n),
         NoteReply::Tracker(TrackerReply::Started) => Said::Started,
         NoteReply::Tracker(TrackerReply::NotYet(n)) => Said::NotYet(n),
-        NoteReply::Graph(GraphReply::Routed(way)) => Said::Route(way.offset, way.size),
-        NoteReply::Graph(GraphReply::Detached) => Said::Detached,
+        NoteReply::Graph(GraphNote::Routed(way)) => Said::Route(way.offset, way.size),
+        NoteReply::Graph(GraphNote::Detached) => Said::Detached,
         NoteReply::Stripe(StripeNote::Filled) => Said::Filled(at),
         NoteReply::Stripe(StripeNote::Done) => Said::Stored(at),
         NoteReply::Stripe(StripeNote::Freed) => Said::Freed(at),

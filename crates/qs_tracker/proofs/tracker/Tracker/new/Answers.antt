@@ -1,7 +1,9 @@
-use Rattle.std.proofs.Common.{◌≡◌, ℕ, List, replicate, false, ap}
+use Rattle.std.proofs.Common.{◌≡◌, ℕ, List, replicate, false, rules, sym, subst, ap, arith}
 use Rattle.qs_tracker.specs.declared.seat.Seat.{Seat}
 use Rattle.qs_tracker.specs.declared.seat.Seat.TheVariants.{Vacant}
+use Rattle.qs_tracker.specs.Seats.{VacantFrom}
 use Rattle.qs_tracker.specs.Table.{TrackerValue, fresh}
+use Rattle.qs_tracker.proofs.Fronts.{all_vacant}
 use Rattle.qs_tracker.proofs.tracker.Tracker.new.Goals as goal
 
 of_seats : List Seat → ℕ → TrackerValue
@@ -14,3 +16,8 @@ made seats n is = ap (λ (xs : List Seat). of_seats xs n) is
 pub returns : goal.returns
 unfolding of_seats
 returns c = made _ c.args.first c.in_ok-from_array.ensures.items
+
+pub invariant_of-result : goal.invariant_of-result
+invariant_of-result c =
+    let is : c.in_ok-from_array.field-0.items ≡ replicate 256 Vacant = search rules in
+    (search rules, omega arith, subst (VacantFrom 0) (sym is) (all_vacant 256))

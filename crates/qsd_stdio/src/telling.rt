@@ -1,0 +1,89 @@
+use crate::stray::stray_word;
+use qs_bytes::Status;
+use qs_host::{BrokenRule, Ended, StartFault};
+use qs_stdio::stdio_words;
+use std::fmt;
+
+/// The command's form.
+const USAGE: &str = "usage: qsd_stdio --transmission IMAGE";
+
+/// What `--help` prints.
+pub const HELP: &str = "\
+usage: qsd_stdio --transmission IMAGE
+       qsd_stdio --help | --version
+
+Serves one NBD client on standard input and output over a raw image: the input is a stream of requests
+without a handshake, the output that of simple replies. READ, WRITE and DISC of whole blocks of 512
+bytes are served. IMAGE is a file or a block device, which is locked while it is served.
+
+Exit statuses: 0 after a DISC or the input's end between requests; 2 for other words; 3 where the
+image's length isn't right; 4, 5 where the input couldn't be read, the output not be written; 8 after
+2^32 requests; 9 where memory was refused; 10 at the input's end within a request; 11 at a request
+without its magic number; 14 at a WRITE that is too long; 18 where the image can't be opened.";
+
+/// What `--version` prints.
+pub const VERSION: &str = "qsd_stdio 1.0.0";
+
+/// The path of the image, where the words are the command's.
+pub fn image_of(words: &[String]) -> &str {
+    match stdio_words(words) {
+        Some(told) => words[told.image].as_str(),
+        None => "",
+    }
+}
+
+/// Why the program didn't begin to serve the image of this path.
+#[derive(Clone, Copy)]
+pub struct Unserved<'a> {
+    pub fault: StartFault,
+    pub image: &'a str,
+}
+
+impl fmt::Display for Unserved<'_> {
+    fn fmt<W: fmt::Write>(&self, f: &mut fmt::Formatter<W>) -> fmt::Result {
+        let fault = self.fault;
+        match fault {
+            StartFault::NotOpened(_) => {
+                let image = self.image;
+                write!(f, "{image:?}: {fault}")
+            }
+            StartFault::NotText => write!(f, "{fault}\n{USAGE}"),
+            StartFault::Memory => write!(f, "{fault}"),
+        }
+    }
+}
+
+/// How the service ended, with the words that the program was called with.
+#[derive(Clone, Copy)]
+pub struct Served<'a> {
+    pub ended: Ended,
+    pub words: &'a [String],
+}
+
+impl fmt::Display for Served<'_> {
+    fn fmt<W: fmt::Write>(&self, f: &mut fmt::Formatter<W>) -> fmt::Result {
+        match self.ended.status {
+            Status::Usage => write_usage(f, self.words),
+            Status::OpenBad(bad) => {
+                let image = image_of(self.words);
+                let rule = BrokenRule { bad, align: 512 };
+                write!(f, "{image:?}: {rule}")
+            }
+            _ => {
+                let ended = self.ended;
+                write!(f, "{ended}")
+            }
+        }
+    }
+}
+
+/// Which word isn't understood, and the command's form.
+fn write_usage<W: fmt::Write>(f: &mut fmt::Formatter<W>, words: &[String]) -> fmt::Result {
+    match stray_word(words) {
+        Some(i) => {
+            let word = words[i].as_str();
+            write!(f, "the word {word:?} isn't understood\n{USAGE}")
+        }
+        None => write!(f, "a word is missing\n{USAGE}"),
+    }
+}
