@@ -104,7 +104,7 @@ fn tell_rates<R: Threads + Wait + Sync + AllocGlobal + Print + Clock>(
     for (sharing, name) in SHARINGS {
         let turns = rate(rt, Lock::Turn, sharing, spins, calls)?;
         let mutexes = rate(rt, Lock::Mutex, sharing, spins, calls)?;
-        let hundredths = turns * 100 / (mutexes + 1);
+        let hundredths = turns.saturating_mul(100) / mutexes.max(1);
         println!(rt;
             "{step}, {name}: turns {turns}, mutexes {mutexes} a second: {hundredths} to 100"
         )?;
