@@ -27,8 +27,11 @@ use std::time::Instant;
 /// The rounds of a run without words.
 const ROUNDS: u32 = 1000;
 
-/// The spins that are timed to learn how long one takes.
-const TIMED_SPINS: u32 = 10_000_000;
+/// The spins that are timed at once to learn how long one takes.
+const TIMED_SPINS: u32 = 20_000;
+
+/// How often they are timed.
+const TIMINGS: u32 = 100;
 
 fn work_of(word: &str) -> Option<(&'static str, Work)> {
     WORKS.iter().copied().find(|(name, _)| *name == word)
@@ -66,19 +69,24 @@ fn tell_all<R: Threads + Wait + Sync + AllocGlobal + Print + Clock>(rt: &R) -> R
     Ok(())
 }
 
-/// The spins of a step that takes a microsecond.
-fn spins_of_a_microsecond<R: Threads + Wait + Sync + AllocGlobal + Print + Clock>(
-    rt: &R,
-) -> Result<u32> {
+/// The microseconds that a step of [`TIMED_SPINS`] takes.
+fn timed<R: Clock>(rt: &R) -> Result<u128> {
     let mut tally = Tally {
         count: 0,
         spins: TIMED_SPINS,
     };
     let start = Instant::now(rt)?;
     tally.step(());
-    let micros = start.elapsed(rt)?.as_micros();
-    let spins = u128::from(TIMED_SPINS) / (micros + 1);
-    Ok(u32::try_from(spins)?)
+    Ok(start.elapsed(rt)?.as_micros())
+}
+
+/// The spins of a step that takes a microsecond, by the shortest of some timings.
+fn spins_of_a_microsecond<R: Clock>(rt: &R) -> Result<u32> {
+    let mut least = u128::from(TIMED_SPINS);
+    for _ in 0..TIMINGS {
+        least = least.min(timed(rt)?);
+    }
+    Ok(u32::try_from(u128::from(TIMED_SPINS) / least.max(1))?)
 }
 
 /// The calls in a second.
