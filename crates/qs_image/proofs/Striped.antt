@@ -8,7 +8,7 @@ use Rattle.qs_bytes.proofs.Overlays.{overlay-none}
 use Rattle.qs_bytes.specs.Pieces.{part, overlay}
 use Rattle.qs_outside.specs.Faults.{Rose, HasCause}
 use Rattle.qs_outside.specs.Blocks.{Seen, Fixed, Same, Stored, StoredOrNot, stripe_of, IsBlock}
-use Rattle.qs_image.specs.Image.{no_disk, disk, align_of, size_of, block_now, image, content, AllTell, SameDisks, SomeRose, Loads, Stores}
+use Rattle.qs_image.specs.Image.{no_disk, disk, align_of, size_of, block_now, block_past, image, content, AllTell, SameDisks, HasByte, RoseAt, Loads, Stores}
 use Rattle.qs_image.specs.Opening.{IsAlike, IsImage}
 use Rattle.qs_image.proofs.Contents.{image-same, image-stored, part-image}
 
@@ -79,14 +79,25 @@ image_at old new blocks same =
     ap (λ (align : ℕ). image align (size_of new) blocks) (same.align 0)
     ∙ ap (λ (size : ℕ). image (align_of old) size blocks) (same.size 0)
 
--- a rise of the disk that was called
-pub some_rose : (disks : List Seen) (k : ℕ) (called : Seen) → k < 8 → k < length disks → Rose (disk disks k).faults called.faults →
-    SomeRose disks (set disks k called)
-some_rose disks k called below inside rose =
-    (k, (below, rw (get_or-set_same disks k called no_disk inside) rose))
+-- a rise of the disk that was called for a block
+pub rose_block : (disks : List Seen) (b count : ℕ) (called : Seen) → stripe_of b < length disks → 0 < align_of disks → count ≡ align_of disks →
+    Rose (disk disks (stripe_of b)).faults called.faults → RoseAt disks (b * align_of disks) count (set disks (stripe_of b) called)
+rose_block disks b count called inside some is rose =
+    (b, (record { behind = omega arith; before = omega arith }, rw (get_or-set_same disks (stripe_of b) called no_disk inside) rose))
 
-pub rose_after : (a b c : List Seen) → SameDisks a b → SomeRose b c → SomeRose a c
-rose_after a b c same rose = (rose.0, (rose.1.0, omega (arith, rose.1.1, same.later rose.0)))
+-- a rise within a range is one of a larger range and a longer run
+pub rose_within : (old mid new : List Seen) (at count place n : ℕ) → SameDisks old mid → at ≤ place → place + n ≤ at + count →
+    RoseAt mid place n new → RoseAt old at count new
+rose_within old mid new at count place n same from to rose =
+    let has : HasByte (align_of old) place n rose.0 = subst (λ (align : ℕ). HasByte align place n rose.0) (same.align 0) rose.1.0 in (
+      rose.0,
+      (record { behind = omega (arith, has.behind); before = omega (arith, has.before) }, omega (arith, rose.1.1, same.later (stripe_of rose.0))),
+    )
+
+-- what a crash leaves after a call that left it
+pub past_kept : (disks : List Seen) (k : ℕ) (called : Seen) → k < length disks → Same (disk disks k).past called.past →
+    Same (block_past disks) (block_past (set disks k called))
+past_kept disks k called inside kept = λ b. each_disk (λ d e. e.past b ≡ d.past b) disks k called inside (λ d. refl) (kept b) (stripe_of b)
 
 -- the blocks of the list after a call that left each block of its disk
 pub content_kept : (disks : List Seen) (k : ℕ) (called : Seen) → k < length disks → Fixed (disk disks k) called →
@@ -142,6 +153,7 @@ pub record ReadsBlock {E : Type 0} (b : ℕ) (bytes : List ℕ) (result : Result
   pub cause : HasCause old.faults new.faults result
   pub bytes_are : IsTrue old.tells → OnOk result (bytes ≡ old.now b)
   pub kept : IsTrue old.tells → Same old.now new.now
+  pub past : IsTrue old.tells → Same old.past new.past
 
 pub record WritesBlock {E : Type 0} (b : ℕ) (bytes : List ℕ) (result : Result Unit E) (old new : Seen) : Type 0 where
   pub fixed : Fixed old new
@@ -155,16 +167,18 @@ pub loads_block : {E : Type 0} (disks : List Seen) (b : ℕ) (bytes : List ℕ) 
     Fixed (disk disks (stripe_of b)) called → HasCause (disk disks (stripe_of b)).faults called.faults result →
     (IsTrue (disk disks (stripe_of b)).tells → OnOk result (bytes ≡ (disk disks (stripe_of b)).now b)) →
     (IsTrue (disk disks (stripe_of b)).tells → Same (disk disks (stripe_of b)).now called.now) →
+    (IsTrue (disk disks (stripe_of b)).tells → Same (disk disks (stripe_of b)).past called.past) →
     Loads disks (b * align_of disks) bytes result (set disks (stripe_of b) called)
-loads_block disks b bytes result called is inside whole fixed cause bytes_are kept =
+loads_block disks b bytes result called is inside whole fixed cause bytes_are kept past =
     let k : ℕ = stripe_of b in
     let below : k < 8 = omega arith in
     let within : k < length disks = omega (arith, is.0.0) in
     record {
       bytes_are = λ tell. when_ok result (bytes_are (tell k below)) (part_content disks b bytes inside whole);
       kept = λ tell. content_kept disks k called within fixed cause.later (kept (tell k below));
+      past = λ tell. past_kept disks k called within (past (tell k below));
       same = same_disks disks k called within fixed cause.later;
-      cause = when_err result cause.failed (some_rose disks k called below within);
+      cause = when_err result cause.failed (rose_block disks b (length bytes) called within (some_align disks is) whole);
     }
 
 -- one block was written
@@ -191,7 +205,7 @@ stores_block disks b bytes result called is inside whole fixed cause stored refu
             | inr done ↦ (length bytes, (omega arith, rw (take-length bytes) (put done)))
           ]);
       same = same;
-      cause = when_err result cause.failed (some_rose disks k called below within);
+      cause = when_err result cause.failed (rose_block disks b (length bytes) called within some whole);
     }
 
 module _ {D : Type 0} (seen : D → Seen) (disks : List D) (b : ℕ) (d : D) where
@@ -217,7 +231,7 @@ module _ {D : Type 0} (seen : D → Seen) (disks : List D) (b : ℕ) (d : D) whe
       subst (λ (s : Seen). ReadsBlock b bytes result s (seen called)) (sym (called_disk is)) reads in
       subst (λ (new : List Seen). Loads (map seen disks) (b * align_of (map seen disks)) bytes result new)
       (sym (map-set seen disks (stripe_of b) called))
-      (loads_block (map seen disks) b bytes result (seen called) is inside whole before.fixed before.cause before.bytes_are before.kept)
+      (loads_block (map seen disks) b bytes result (seen called) is inside whole before.fixed before.cause before.bytes_are before.kept before.past)
 
   -- one block was written to the disks
   pub stores_by : {E : Type 0} (bytes : List ℕ) (result : Result Unit E) (called : D) →

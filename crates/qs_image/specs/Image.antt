@@ -1,9 +1,9 @@
 -- The image that eight disks hold, as one list of bytes, and what reading and writing it do.
-use Rattle.std.specs.Prelude.{◌≡◌, ℕ, ◌/◌, ◌%◌, ◌<◌, ◌≤◌, false, IsTrue, List, [], None, Result, OnOk, OnErr, length, map, take, slice_index_or}
+use Rattle.std.specs.Prelude.{◌≡◌, ℕ, ◌+◌, ◌*◌, ◌/◌, ◌%◌, ◌<◌, ◌≤◌, false, IsTrue, List, [], None, Result, OnOk, OnErr, length, map, take, slice_index_or}
 use Rattle.std.specs.List.{range_with_len}
 use Rattle.qs_bytes.specs.Pieces.{part, overlay}
 use Rattle.qs_outside.specs.Faults.{Rose}
-use Rattle.qs_outside.specs.Blocks.{Seen, stripe_of}
+use Rattle.qs_outside.specs.Blocks.{Seen, Same, stripe_of}
 
 -- what stands for a disk that isn't there
 abbrev pub no_disk : Seen
@@ -33,6 +33,10 @@ size_of disks = (disk disks 0).size
 abbrev pub block_now : List Seen → ℕ → List ℕ
 block_now disks b = (disk disks (stripe_of b)).now b
 
+-- what a crash may leave of a block, on the disk of its stripe
+abbrev pub block_past : List Seen → ℕ → List (List ℕ)
+block_past disks b = (disk disks (stripe_of b)).past b
+
 -- the bytes of an image, block after block
 unfoldable pub image : ℕ → ℕ → (ℕ → List ℕ) → List ℕ
 image align size blocks = map (λ x. slice_index_or (blocks (x / align)) (x % align) 0) (range_with_len 0 size)
@@ -54,24 +58,31 @@ pub record SameDisks (old new : List Seen) : Type 0 where
   pub tells : (k : ℕ) → (disk new k).tells ≡ (disk old k).tells
   pub later : (k : ℕ) → (disk old k).faults ≤ (disk new k).faults
 
--- some disk's count of faults rose
-abbrev pub SomeRose : List Seen → List Seen → Type 0
-SomeRose old new = (k : ℕ) × ((k < 8) × Rose (disk old k).faults (disk new k).faults)
+-- block b has one of `count` bytes from a place on
+pub record HasByte (align at count b : ℕ) : Type 0 where
+  pub behind : at < (b + 1) * align
+  pub before : b * align < at + count
+
+-- The count of faults rose of a disk that has one of these bytes.
+abbrev pub RoseAt : List Seen → ℕ → ℕ → List Seen → Type 0
+RoseAt old at count new =
+    (b : ℕ) × (HasByte (align_of old) at count b × Rose (disk old (stripe_of b)).faults (disk new (stripe_of b)).faults)
 
 -- a front of the bytes was written, and nothing else
 abbrev pub IsFrontWritten : List ℕ → ℕ → List ℕ → List ℕ → Type 0
 IsFrontWritten old at bytes new = (n : ℕ) × ((n ≤ length bytes) × (new ≡ overlay old at (take n bytes)))
 
--- bytes were read from a place of the image on; nothing was written
+-- bytes were read from a place of the image on; nothing was written, and a crash leaves what it left before
 pub record Loads {E : Type 0} (old : List Seen) (at : ℕ) (bytes : List ℕ) (result : Result Unit E) (new : List Seen) : Type 0 where
   pub bytes_are : AllTell old → OnOk result (bytes ≡ part (content old) at (length bytes))
   pub kept : AllTell old → content new ≡ content old
+  pub past : AllTell old → Same (block_past old) (block_past new)
   pub same : SameDisks old new
-  pub cause : OnErr result (SomeRose old new)
+  pub cause : OnErr result (RoseAt old at (length bytes) new)
 
 -- bytes were written from a place of the image on; where that failed, a front of them at most
 pub record Stores {E : Type 0} (old : List Seen) (at : ℕ) (bytes : List ℕ) (result : Result Unit E) (new : List Seen) : Type 0 where
   pub written : AllTell old → OnOk result (content new ≡ overlay (content old) at bytes)
   pub cut : AllTell old → OnErr result (IsFrontWritten (content old) at bytes (content new))
   pub same : SameDisks old new
-  pub cause : OnErr result (SomeRose old new)
+  pub cause : OnErr result (RoseAt old at (length bytes) new)

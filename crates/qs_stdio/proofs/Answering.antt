@@ -1,5 +1,5 @@
 -- A request is answered: each way to do it, as one step of the service.
-use Rattle.std.proofs.Common.{◌≡◌, ℕ, true, false, List, [], ◌++◌, refl, ap, ◌∙◌, inl, inr, append_assoc}
+use Rattle.std.proofs.Common.{◌≡◌, ℕ, true, false, List, [], ◌++◌, length, refl, sym, ap, ◌∙◌, subst, inl, inr, append_assoc, true≢false}
 use Rattle.std.specs.Prelude.{Option, Result, Ok, Err, OnOk, OnErr}
 use Rattle.qs_bytes.specs.declared.ask.Ask.{Ask}
 use Rattle.qs_bytes.specs.declared.ask.Errno.{Errno}
@@ -7,7 +7,7 @@ use Rattle.qs_bytes.specs.declared.ask.Errno.TheVariants.{Io}
 use Rattle.qs_bytes.specs.declared.ask.Verdict.TheVariants.{Got, Refused}
 use Rattle.qs_outside.specs.Blocks.{Seen}
 use Rattle.qs_bytes.specs.Pieces.{part}
-use Rattle.qs_image.specs.Image.{Stores, content}
+use Rattle.qs_image.specs.Image.{RoseAt, Stores, content}
 use Rattle.qs_image.proofs.Striped.{same_disks_refl}
 use Rattle.qs_nbd_transmission.specs.Replies.{is_read, reply_front, reply_of}
 use Rattle.qs_stdio.specs.Service.{is_valid, MayGet, Leads}
@@ -28,6 +28,7 @@ module _ {E : Type 0} (align size : ℕ) (a : Ask) (old new : List Seen) where
         may = (valid, read, puts.count_is);
         called = record {
           leads = λ tell. (puts.loads.bytes_are tell ∙ ap (λ (n : ℕ). part (content old) a.offset n) puts.count_is, puts.loads.kept tell);
+          past = λ tell reads. puts.loads.past tell;
           same = puts.loads.same;
           fault = λ e. absurd (cc);
           uncalled = λ e. absurd (cc);
@@ -44,24 +45,26 @@ module _ {E : Type 0} (align size : ℕ) (a : Ask) (old new : List Seen) where
     may = valid;
     called = record {
       leads = λ tell. inl (puts.loads.kept tell);
+      past = λ tell reads. puts.loads.past tell;
       same = puts.loads.same;
-      fault = λ e. puts.loads.cause;
+      fault = λ e. subst (λ (n : ℕ). RoseAt old a.offset n new) puts.count_is puts.loads.cause;
       uncalled = λ e. absurd (cc);
     };
     put = put ∙ ap (λ (xs : List ℕ). xs ++ reply_of false a (Refused Io)) puts.nothing;
   }
 
   -- a WRITE failed
-  pub write_failed : (failed : E) (body held held' : List ℕ) → is_valid align size a ≡ true → is_write a.kind ≡ true →
+  pub write_failed : (failed : E) (body held held' : List ℕ) → is_valid align size a ≡ true → is_write a.kind ≡ true → length body ≡ a.length →
       Stores {E = E} old a.offset body (Err failed) new → held' ≡ held ++ reply_of false a (Refused Io) →
       Puts align size a body old new held held'
-  write_failed failed body held held' valid write stores put = record {
+  write_failed failed body held held' valid write whole stores put = record {
     verdict = Refused Io;
     may = valid;
     called = record {
       leads = λ tell. inr (write, stores.cut tell);
+      past = λ tell reads. absurd (true≢false (sym write ∙ reads));
       same = stores.same;
-      fault = λ e. stores.cause;
+      fault = λ e. subst (λ (n : ℕ). RoseAt old a.offset n new) whole stores.cause;
       uncalled = λ e. absurd (cc);
     };
     put = put;
@@ -80,6 +83,7 @@ refused align size a body errno disks sent sent' sent'' held held' held'' (Ok u)
   may = may;
   called = record {
     leads = λ tell. leads _;
+    past = λ tell reads b. refl;
     same = same_disks_refl disks;
     fault = λ e. absurd (other e);
     uncalled = λ e. refl;

@@ -3,8 +3,9 @@ use Rattle.std.specs.Prelude.{◌≡◌, ℕ, Bool, true, false, List, [], ◌�
 use Rattle.qs_bytes.specs.declared.ask.Errno.TheVariants.{Io, NoMem, Inval}
 use Rattle.qs_bytes.specs.declared.ask.Verdict.{Verdict}
 use Rattle.qs_bytes.specs.declared.ask.Verdict.TheVariants.{Refused}
-use Rattle.qs_outside.specs.Blocks.{Seen}
-use Rattle.qs_image.specs.Image.{content, AllTell, SameDisks, SomeRose}
+use Rattle.qs_outside.specs.Blocks.{Seen, Same}
+use Rattle.qs_image.specs.Image.{content, block_past, AllTell, SameDisks, RoseAt}
+use Rattle.qs_nbd_transmission.specs.Heads.{is_write}
 use Rattle.qs_stdio.specs.Service.{Exchange, ask, Leads, MayGet}
 use Rattle.qs_stdio.specs.Waiting.{Gives}
 use Rattle.qs_nbd_transmission.specs.Replies.{reply_of}
@@ -16,12 +17,14 @@ is_uncalled (Refused Inval) = true
 is_uncalled (Refused NoMem) = true
 is_uncalled other = false
 
--- what one request made of the disks: EIO only where a count of faults rose in a call made for it, and
--- no call at all where it was invalid or its memory was refused
+-- What one request made of the disks: EIO only where the count of faults rose of a disk that has a block which the
+-- request covers, and no call at all where it was invalid or its memory was refused. Only a WRITE changes what a crash
+-- may leave.
 pub record Called (old : List Seen) (a : Ask) (body : List ℕ) (verdict : Verdict) (new : List Seen) : Type 0 where
   pub leads : AllTell old → Leads (content old) a body verdict (content new)
+  pub past : AllTell old → is_write a.kind ≡ false → Same (block_past old) (block_past new)
   pub same : SameDisks old new
-  pub fault : verdict ≡ Refused Io → SomeRose old new
+  pub fault : verdict ≡ Refused Io → RoseAt old a.offset a.length new
   pub uncalled : is_uncalled verdict ≡ true → new ≡ old
 
 -- one request after the other

@@ -16,4 +16,4 @@ pub returns : goal.returns
 returns g c =
     loads_by g.D.Disk.seen c.args.disks.now c.args.b c.index-disks-k.result c.load.new.into c.load.result c.load.new.self
     c.requires.image c.requires.inside (c.load.auto.into ∙ c.requires.whole)
-    (record { fixed = c.load.ensures.fixed; cause = c.load.ensures.cause; bytes_are = c.load.ensures.bytes; kept = c.load.ensures.now })
+    (record { fixed = c.load.ensures.fixed; cause = c.load.ensures.cause; bytes_are = c.load.ensures.bytes; kept = c.load.ensures.now; past = c.load.ensures.past })

@@ -4,7 +4,7 @@ use Rattle.std.specs.Prelude.{map}
 use Rattle.qs_bytes.specs.Pieces.{overlay}
 use Rattle.qs_bytes.proofs.Overlays.{overlay-none}
 use Rattle.qs_image.specs.Image.{align_of, content}
-use Rattle.qs_image.proofs.Striped.{same_disks_refl, same_disks_trans, rose_after}
+use Rattle.qs_image.proofs.Striped.{same_disks_refl, same_disks_trans, rose_within}
 use Rattle.qs_image.proofs.Turns.{stores_more, stores_cut, block_place, block_within}
 use Rattle.qs_image.proofs.access.store_span.Goals as goal
 
@@ -50,5 +50,6 @@ returns-in-Err g c =
           (omega arith) c.requires.inside (block_place c.args.at c.loop-i.i c.args.align _ c.requires.blocks.0 align_is)
           c.loop-i.invariant.same c.loop-i.invariant.written stores;
       same = same_disks_trans _ _ _ c.loop-i.invariant.same stores.same;
-      cause = rose_after _ _ _ c.loop-i.invariant.same stores.cause;
+      cause = rose_within _ _ _ c.args.at _ _ _ c.loop-i.invariant.same (omega (arith, block_place c.args.at c.loop-i.i c.args.align _ c.requires.blocks.0 align_is))
+          (omega (arith, block_place c.args.at c.loop-i.i c.args.align _ c.requires.blocks.0 align_is)) stores.cause;
     }

@@ -1,0 +1,4 @@
+pub mod Parts
+pub mod Bytes
+pub mod Moves
+pub mod Calls
