@@ -1,22 +1,22 @@
 #!/usr/bin/env bash
 # The processor time of single operations of the core's parts, in nanoseconds: runs the built program
-# qs_parts_bench with each kind of work, and takes the time of a run without rounds off.
+# qs_bench with each kind of work, and takes the time of a run without rounds off.
 #
 #     bench/parts.sh [ROUNDS [RUNS]]
 #
 # Each figure is of the median of RUNS runs (5) of ROUNDS rounds (1,000,000); the kinds take turns.
 # Build the program first:
 #
-#     (cd crates/qs_parts_bench && rt run)
+#     (cd crates/qs_bench && rt run)
 set -eu
 cd "$(dirname "$0")/.."
-program=crates/qs_parts_bench/out/qs_parts_bench
+program=crates/qs_bench/out/qs_bench
 rounds=${1:-1000000}
 runs=${2:-5}
 kinds="seat list start load store admit admit16 admit256 burst go"
 TIMEFORMAT='%U %S'
 if [ ! -x "$program" ]; then
-    echo "$program isn't there; build it by: (cd crates/qs_parts_bench && rt run)"
+    echo "$program isn't there; build it by: (cd crates/qs_bench && rt run)"
     exit 1
 fi
 

@@ -7,16 +7,16 @@ use prog.Atomic.{either}
 use lib.ListN.{get_elem?}
 use Rattle.atomic_table.specs.Table.{State, Me, Act, step, stepped, opening, Allows, Valid, carried_after, put_back, rest, keeps, takes, gives}
 use Rattle.atomic_table.proofs.Lists.{set_again, exchanged}
-use Rattle.qs_turn.specs.declared.view.Call.{Call}
+use Rattle.qs_part.specs.Histories.{Call, call, StandsFor}
 use Rattle.qs_turn.specs.declared.view.Entry.{Entry}
 use Rattle.qs_turn.specs.declared.view.Said.{Said}
 use Rattle.qs_turn.specs.declared.view.Slot.{Slot}
 use Rattle.qs_turn.specs.declared.view.View.{View}
-use Rattle.qs_turn.specs.Histories.{call, Runs}
-use Rattle.qs_turn.specs.Rule.{word_at, has, calls, of, slot, first_view, times_of, numbers_of, Fits, IsFree, IsHeld, Kept}
-use Rattle.qs_turn.specs.Steps.{holding, Took, taken, added, said_of, given}
+use Rattle.qs_turn.specs.Rule.{word_at, has, calls, of, slot, first_view, times_of, numbers_of, Fits, IsFree, IsTaken, Kept}
+use Rattle.qs_turn.specs.Steps.{with_turn, Took, taken, added, said_of, given}
 use Rattle.qs_turn.proofs.Sums.{set_at, word_set, word_same, has_times, total_one, once_below_of}
-use Rattle.qs_turn.proofs.Histories.{calls_snoc, of-append, of_mine, within_nothing, within_more, within_all, named_snoc, runs_snoc}
+use Rattle.qs_turn.proofs.Histories.{calls_snoc, of-append, of_mine, within_nothing, within_more, within_all, named_snoc}
+use Rattle.qs_part.proofs.Histories.{stands_snoc}
 use Rattle.qs_turn.proofs.Views.{each_set, fits_word, total_same, apart, apart_joining}
 
 off : false ≡ true → ⊥
@@ -68,9 +68,9 @@ module _ {P O R : Type 0} (may : P → O → R → P → Type 0) (o : P) where
       (subst (λ (l : List (Slot P O R)). Kept may o (opening ws l (first_view o))) (sym is) (begins ws long free))
 
   -- what was seen grew to the whole history
-  holding_fits : (log : List (Entry O R)) (state : P) (word holder made id : ℕ) (v : View P O R)
-      → Fits o log state word holder made id v → v.opening ≡ Some o → Fits o log state (2 * length log + 1) id made id (holding v log state)
-  holding_fits log state word holder made id v f opened = record {
+  with_turn_fits : (log : List (Entry O R)) (state : P) (word holder made id : ℕ) (v : View P O R)
+      → Fits o log state word holder made id v → v.opening ≡ Some o → Fits o log state (2 * length log + 1) id made id (with_turn v log state)
+  with_turn_fits log state word holder made id v f opened = record {
     mine = record { after = []; split = sym (append-nil log); foreign = refl; listed = sym (within_all log v.mine f.mine) };
     joining = f.joining;
     opened = f.opened;
@@ -81,10 +81,10 @@ module _ {P O R : Type 0} (may : P → O → R → P → Type 0) (o : P) where
   -- a free turn was taken
   take_free : (id old : ℕ) (m : Me (Slot P O R) (View P O R)) (s : State (Slot P O R) (View P O R)) (kept : Kept may o s) (free : IsFree kept.log kept.state s)
       → m.0.opening ≡ Some o → get_elem? s.views id ≡ some m.0 → slice_index s.words word_at ≡ old
-      → Kept may o (stepped s word_at (old + 1) id m.1 (holding m.0 kept.log kept.state) (takes 0 (slot (Some kept.state) free.said)))
+      → Kept may o (stepped s word_at (old + 1) id m.1 (with_turn m.0 kept.log kept.state) (takes 0 (slot (Some kept.state) free.said)))
   take_free id old m s kept free opened at is =
       let log = kept.log in
-      let w = holding m.0 log kept.state in
+      let w = with_turn m.0 log kept.state in
       let even : old ≡ 2 * length log = sym is ∙ free.word in
       let word : slice_index (slice_set s.words word_at (old + 1)) word_at ≡ old + 1 = word_set s.words (old + 1) kept.row in
       let odd : 2 * length log + 1 ≡ slice_index (slice_set s.words word_at (old + 1)) word_at = ap (λ (n : ℕ). n + 1) (sym even) ∙ sym word in
@@ -102,7 +102,7 @@ module _ {P O R : Type 0} (may : P → O → R → P → Type 0) (o : P) where
         numbers = λ k. total_same (times_of k) s.views id m.0 w at refl ∙ kept.numbers k;
         counted = total_same numbers_of s.views id m.0 w at refl ∙ kept.counted;
         each = subst (λ (n : ℕ). (j : ℕ) (v : View P O R) → get_elem? (set s.views id w) j ≡ some v → Fits o log kept.state n id kept.made j v) odd
-            (each_set o log kept.state (2 * length log + 1) id kept.made s.views id w others (holding_fits log kept.state (slice_index s.words word_at) kept.holder kept.made id m.0 (kept.each id m.0 at) opened));
+            (each_set o log kept.state (2 * length log + 1) id kept.made s.views id w others (with_turn_fits log kept.state (slice_index s.words word_at) kept.holder kept.made id m.0 (kept.each id m.0 at) opened));
         turn = inr (record {
           word = sym odd;
           home = ap (λ (hs : List (mathlib.Core.Option.Option (Slot P O R))). slice_set hs 0 none) free.home;
@@ -126,10 +126,10 @@ module _ {P O R : Type 0} (may : P → O → R → P → Type 0) (o : P) where
       let miss : slice_index s.words word_at ≢ old → Goal (slice_index s.words word_at) =
       λ ne. (m.0, keeps, tt, stays id m s kept at, ((λ _. refl), (λ q _ same. absurd (ne same)))) in
       let free_of : slice_index s.words word_at ≡ old → IsFree kept.log kept.state s =
-      λ is. ⊎_elim (λ (free : IsFree kept.log kept.state s). free) (λ (held : IsHeld kept.log kept.state kept.holder s). absurd (let z = held.word in let e = even in omega arith)) kept.turn in
+      λ is. ⊎_elim (λ (free : IsFree kept.log kept.state s). free) (λ (held : IsTaken kept.log kept.state kept.holder s). absurd (let z = held.word in let e = even in omega arith)) kept.turn in
       let hit : slice_index s.words word_at ≡ old → Goal (old + 1) =
       λ is. let free = free_of is in (
-        holding m.0 kept.log kept.state,
+        with_turn m.0 kept.log kept.state,
         takes 0 (slot (Some kept.state) free.said),
         ap (λ (hs : List (mathlib.Core.Option.Option (Slot P O R))). get_elem? hs 0) free.home,
         take_free id old m s kept free opened at is,
@@ -143,7 +143,7 @@ module _ {P O R : Type 0} (may : P → O → R → P → Type 0) (o : P) where
             out = refl;
             even = free.word;
             more = (let f = (kept.each id m.0 at).mine in (f.after, f.split));
-            runs = subst (λ (x : P). Runs may x (calls kept.log) kept.state) (let z : o ≡ q = cc in z) kept.runs;
+            runs = subst (λ (x : P). StandsFor may x (calls kept.log) kept.state) (let z : o ≡ q = cc in z) kept.runs;
           },
         ),
       ) in
@@ -175,7 +175,7 @@ module _ {P O R : Type 0} (may : P → O → R → P → Type 0) (o : P) where
 
   -- a held turn was given back
   give_held : (id new : ℕ) (m : Me (Slot P O R) (View P O R)) (before part : P) (said : Said O R) (s : State (Slot P O R) (View P O R)) (kept : Kept may o s)
-      → IsHeld kept.log kept.state kept.holder s → get_elem? s.views id ≡ some m.0
+      → IsTaken kept.log kept.state kept.holder s → get_elem? s.views id ≡ some m.0
       → m.0.turn ≡ Some before → m.1 ≡ (0, slot (Some part) (Some said)) ∷ [] → may before said.op.value said.reply.value part → new ≡ 2 * length m.0.mine.seen + 2
       → Kept may o (stepped s word_at new id m.1 (added m.0 said.request said.op.value said.reply.value) gives)
   give_held id new m before part said s kept held at turn out stepping even =
@@ -207,8 +207,8 @@ module _ {P O R : Type 0} (may : P → O → R → P → Type 0) (o : P) where
         holder = kept.holder;
         made = kept.made;
         row = length-set s.words word_at new ∙ kept.row;
-        runs = subst (λ (l : List (Call O R)). Runs may o l part) (sym (calls_snoc kept.log e))
-            (runs_snoc may o (calls kept.log) kept.state q a r part kept.runs (subst (λ (x : P). may x a r part) h.2 stepping));
+        runs = subst (λ (l : List (Call O R)). StandsFor may o l part) (sym (calls_snoc kept.log e))
+            (stands_snoc may o (calls kept.log) kept.state q a r part kept.runs (subst (λ (x : P). may x a r part) h.2 stepping));
         named = named_snoc (kept.made + 1) kept.log e kept.named below;
         numbers = λ k. total_same (times_of k) s.views id v w at refl ∙ kept.numbers k;
         counted = total_same numbers_of s.views id v w at refl ∙ kept.counted;
@@ -232,8 +232,8 @@ module _ {P O R : Type 0} (may : P → O → R → P → Type 0) (o : P) where
   gives_turn slots id new m before part said turn out stepping even s kept long at small =
       let f = kept.each id m.0 at in
       let h = f.holds before turn in
-      let held : IsHeld kept.log kept.state kept.holder s =
-      ⊎_elim (λ (free : IsFree kept.log kept.state s). absurd (let a = free.word in let b = h.0 in omega arith)) (λ (x : IsHeld kept.log kept.state kept.holder s). x) kept.turn in (
+      let held : IsTaken kept.log kept.state kept.holder s =
+      ⊎_elim (λ (free : IsFree kept.log kept.state s). absurd (let a = free.word in let b = h.0 in omega arith)) (λ (x : IsTaken kept.log kept.state kept.holder s). x) kept.turn in (
         added m.0 said.request said.op.value said.reply.value,
         gives,
         tt,

@@ -9,11 +9,11 @@ use Rattle.qs_turn.specs.declared.view.Entry.{Entry}
 use Rattle.qs_turn.specs.declared.view.Said.{Said}
 use Rattle.qs_turn.specs.declared.view.Slot.{Slot}
 use Rattle.qs_turn.specs.declared.view.View.{View}
-use Rattle.qs_turn.specs.Histories.{Runs}
+use Rattle.qs_part.specs.Histories.{StandsFor}
 use Rattle.qs_turn.specs.Idle.{IsIdle}
 use Rattle.qs_turn.specs.Names.{Known}
 use Rattle.qs_turn.specs.Words.{seen}
-use Rattle.qs_turn.specs.Rule.{word_at, has, times, once_below, total, calls, NamesBelow, nothing, slot, times_of, numbers_of, Fits, IsFree, IsHeld, Kept}
+use Rattle.qs_turn.specs.Rule.{word_at, has, times, once_below, total, calls, NamesBelow, nothing, slot, times_of, numbers_of, Fits, IsFree, IsTaken, Kept}
 use Rattle.qs_turn.specs.Steps.{forked, newcomer, beside, spent, settled, looked}
 use Rattle.qs_turn.proofs.Sums.{total_set, total_snoc, total_one, total_two, total_only, times_short, times-append, has_times, times_has, has-append, once_yes, once_at_most, once_more, word_same}
 use Rattle.qs_turn.proofs.Histories.{calls_none, of_all, named_more, named_before, named_after, named_of, within_nothing, longer_front, within_both}
@@ -24,7 +24,7 @@ off e = true≢false (sym e)
 
 module _ {P O R : Type 0} (may : P → O → R → P → Type 0) (o : P) where
   -- who holds the turn isn't a view that hasn't it
-  not_holder : (log : List (Entry O R)) (state : P) (holder id : ℕ) (v : View P O R) (s : State (Slot P O R) (View P O R)) (held : IsHeld log state holder s)
+  not_holder : (log : List (Entry O R)) (state : P) (holder id : ℕ) (v : View P O R) (s : State (Slot P O R) (View P O R)) (held : IsTaken log state holder s)
       → get_elem? s.views id ≡ some v → v.turn ≡ None → holder ≢ id
   not_holder log state holder id v s held at none same =
       let there : some held.view ≡ some v = sym held.at ∙ ap (get_elem? s.views) same ∙ at in
@@ -90,7 +90,7 @@ module _ {P O R : Type 0} (may : P → O → R → P → Type 0) (o : P) where
             (at_snoc views (newcomer v) u j e);
         turn = ⊎_elim
             (λ (free : IsFree kept.log kept.state s). let x : IsFree kept.log kept.state now = record { word = free.word; said = free.said; home = free.home } in inl x)
-            (λ (held : IsHeld kept.log kept.state kept.holder s). let x : IsHeld kept.log kept.state kept.holder now = record {
+            (λ (held : IsTaken kept.log kept.state kept.holder s). let x : IsTaken kept.log kept.state kept.holder now = record {
               word = held.word;
               home = held.home;
               view = held.view;
@@ -145,7 +145,7 @@ module _ {P O R : Type 0} (may : P → O → R → P → Type 0) (o : P) where
             (spent_fits kept.log kept.state word kept.holder kept.made other);
         turn = ⊎_elim
             (λ (free : IsFree kept.log kept.state s). let x : IsFree kept.log kept.state now = record { word = free.word; said = free.said; home = free.home } in inl x)
-            (λ (held : IsHeld kept.log kept.state kept.holder s). let x : IsHeld kept.log kept.state kept.holder now = record {
+            (λ (held : IsTaken kept.log kept.state kept.holder s). let x : IsTaken kept.log kept.state kept.holder now = record {
               word = held.word;
               home = held.home;
               view = held.view;
@@ -188,7 +188,7 @@ module _ {P O R : Type 0} (may : P → O → R → P → Type 0) (o : P) where
         each = each_set o kept.log kept.state word kept.holder kept.made s.views id (settled v) (λ j u _ e. kept.each j u e) mine;
         turn = ⊎_elim
             (λ (free : IsFree kept.log kept.state s). let x : IsFree kept.log kept.state now = record { word = free.word; said = free.said; home = free.home } in inl x)
-            (λ (held : IsHeld kept.log kept.state kept.holder s). let x : IsHeld kept.log kept.state kept.holder now = record {
+            (λ (held : IsTaken kept.log kept.state kept.holder s). let x : IsTaken kept.log kept.state kept.holder now = record {
               word = held.word;
               home = held.home;
               view = held.view;
@@ -223,7 +223,7 @@ module _ {P O R : Type 0} (may : P → O → R → P → Type 0) (o : P) where
 
   -- the first pass owns every number, so no other has the turn, and every call is its own
   pub closes : (id : ℕ) (v : View P O R) (s : State (Slot P O R) (View P O R)) → Seen (Kept may o) id v s → v.first ≡ true → IsIdle v → (v.made + 1) - length v.mine.owned ≡ 0
-      → (state : P) × (said : Option (Said O R)) × (s.homes ≡ some (slot (Some state) said) ∷ []) × Runs may o (calls v.mine.seen) state × (v.mine.own ≡ calls v.mine.seen)
+      → (state : P) × (said : Option (Said O R)) × (s.homes ≡ some (slot (Some state) said) ∷ []) × StandsFor may o (calls v.mine.seen) state × (v.mine.own ≡ calls v.mine.seen)
   closes id v s so first idle none =
       let kept = so.0 in
       let at = so.1 in
@@ -242,7 +242,7 @@ module _ {P O R : Type 0} (may : P → O → R → P → Type 0) (o : P) where
       let whole : kept.log ≡ v.mine.seen = f.mine.split ∙ ap (λ l. v.mine.seen ++ l) rest ∙ append-nil v.mine.seen in
       let free : IsFree kept.log kept.state s = ⊎_elim
       (λ (x : IsFree kept.log kept.state s). x)
-      (λ (held : IsHeld kept.log kept.state kept.holder s).
+      (λ (held : IsTaken kept.log kept.state kept.holder s).
       let ne = not_holder kept.log kept.state kept.holder id v s held at idle.turn in
       let g = kept.each kept.holder held.view held.at in
       let mine = (g.opened o ((g.holds kept.state held.turn).4)).1 in
@@ -254,14 +254,14 @@ module _ {P O R : Type 0} (may : P → O → R → P → Type 0) (o : P) where
         kept.state,
         free.said,
         free.home,
-        subst (λ (l : List (Entry O R)). Runs may o (calls l) kept.state) whole kept.runs,
+        subst (λ (l : List (Entry O R)). StandsFor may o (calls l) kept.state) whole kept.runs,
         f.mine.listed ∙ of_all v.mine.owned (kept.made + 1) v.mine.seen (named_before (kept.made + 1) v.mine.seen f.mine.after named) owns,
       )
 
   -- the slot that a closed table gives back has the part
   pub closed : (id : ℕ) (v : View P O R) (words : List ℕ) (slots : List (Slot P O R)) (found : Slot P O R) → Final (Seen (Kept may o) id v) words slots → get_elem? slots 0 ≡ some found
       → v.first ≡ true → IsIdle v → (v.made + 1) - length v.mine.owned ≡ 0
-      → (state : P) × (found.part ≡ Some state) × Runs may o (calls v.mine.seen) state × (v.mine.own ≡ calls v.mine.seen)
+      → (state : P) × (found.part ≡ Some state) × StandsFor may o (calls v.mine.seen) state × (v.mine.own ≡ calls v.mine.seen)
   closed id v words slots found final there first idle none =
       let c = closes id v final.0 final.1 first idle none in
       let home : get_elem? slots 0 ≡ some (slot (Some c.0) c.1) = final.4 0 (slot (Some c.0) c.1) (ap (λ (hs : List (mathlib.Core.Option.Option (Slot P O R))). get_elem? hs 0) c.2) in
@@ -269,8 +269,8 @@ module _ {P O R : Type 0} (may : P → O → R → P → Type 0) (o : P) where
       (c.0, ap (λ (x : Slot P O R). x.part) same, c.3, c.4)
 
   -- the part that is given back stands for what the pass has seen
-  pub closed_runs : (first : P) (k j : Known (View P O R)) (state part : P) → o ≡ first → k ≡ j → Some state ≡ Some part → Runs may o (seen k) state → Runs may first (seen j) part
+  pub closed_runs : (first : P) (k j : Known (View P O R)) (state part : P) → o ≡ first → k ≡ j → Some state ≡ Some part → StandsFor may o (seen k) state → StandsFor may first (seen j) part
   closed_runs first k j state part same still is runs =
       let there : state ≡ part = cc in
-      subst (λ (x : P). Runs may first (seen j) x) there
-      (subst (λ (x : Known (View P O R)). Runs may first (seen x) state) still (subst (λ (x : P). Runs may x (seen k) state) same runs))
+      subst (λ (x : P). StandsFor may first (seen j) x) there
+      (subst (λ (x : Known (View P O R)). StandsFor may first (seen x) state) still (subst (λ (x : P). StandsFor may x (seen k) state) same runs))

@@ -1,12 +1,12 @@
--- Histories: fronts of one list, calls by the numbers that made them, runs of a part.
+-- Histories: fronts of one list, and calls by the numbers that made them.
 use Rattle.std.proofs.Common.{◌≡◌, ℕ, ◌+◌, ◌<◌, ◌≤◌, Bool, true, false, List, [], ◌∷◌, ◌++◌, length, refl, sym, ap, ◌∙◌, subst, inl, inr, ⊎_elim, append_assoc, append-nil, length-append, arith}
 use Rattle.std.specs.Prelude.{◌==◌, nat_lt, ◌||◌, if◌then◌else◌}
 use Rattle.std.proofs.lemmas.List.{map-append}
 use Rattle.std.proofs.lemmas.Bool.Decides.{nat_tests}
-use Rattle.qs_turn.specs.declared.view.Call.{Call}
+use Rattle.qs_part.specs.Histories.{Call}
 use Rattle.qs_turn.specs.declared.view.Entry.{Entry}
 use Rattle.qs_turn.specs.declared.view.Half.{Half}
-use Rattle.qs_turn.specs.Histories.{call, StartsWith, Merges, lawful, Runs}
+use Rattle.qs_turn.specs.Orders.{StartsWith, Merges}
 use Rattle.qs_turn.specs.Rule.{has, calls, of, NamesBelow, nothing, Within}
 use Rattle.qs_turn.specs.Steps.{longer, both_halves}
 use Rattle.qs_turn.proofs.Sums.{has-append}
@@ -171,15 +171,3 @@ module _ {O R : Type 0} where
       let own : Merges h.own k.own (of (h.owned ++ k.owned) (longer h.seen k.seen)) =
       subst (λ (z : List (Call O R)). Merges h.own z (of (h.owned ++ k.owned) (longer h.seen k.seen))) b.0 (subst (λ (z : List (Call O R)). Merges z (of k.owned (longer h.seen k.seen)) (of (h.owned ++ k.owned) (longer h.seen k.seen))) a.0 (of_merges h.owned k.owned (longer h.seen k.seen) apart)) in
       (record { after = f.0; split = f.1; foreign = merges_none (of (h.owned ++ k.owned) f.0) none; listed = refl }, own)
-
-module _ {P O R : Type 0} (may : P → O → R → P → Type 0) where
-  -- one more step
-  pub runs_snoc : (o : P) (cs : List (Call O R)) (s : P) (q : ℕ) (a : O) (r : R) (t : P) → Runs may o cs s → may s a r t → Runs may o (cs ++ call q a r ∷ []) t
-  runs_snoc o [] s q a r t runs step = (t, subst (λ (x : P). may x a r t) (sym runs) step, refl)
-  runs_snoc o (c ∷ cs) s q a r t runs step = (runs.0, runs.1, runs_snoc runs.0 cs s q a r t runs.2 step)
-
-module _ {P O R F : Type 0} (legal : P → O → R → P → Type 0) (fixed_of : P → F) where
-  -- what is fixed about a part is so at the end of a run
-  pub runs_fixed : (o : P) (cs : List (Call O R)) (s : P) → Runs (lawful legal fixed_of) o cs s → fixed_of s ≡ fixed_of o
-  runs_fixed o [] s runs = ap fixed_of (sym runs)
-  runs_fixed o (c ∷ cs) s runs = runs_fixed runs.0 cs s runs.2 ∙ runs.1.1

@@ -1,4 +1,4 @@
-pub mod Histories
+pub mod Orders
 pub mod Names
 pub mod Rule
 pub mod Steps

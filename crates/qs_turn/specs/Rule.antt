@@ -3,13 +3,12 @@ use Rattle.std.specs.Prelude.{◌≡◌, ℕ, ◌+◌, ◌*◌, ◌<◌, ◌==�
 use mathlib.Core.Option.{some, none}
 use lib.ListN.{get_elem?}
 use Rattle.atomic_table.specs.Table.{State}
-use Rattle.qs_turn.specs.declared.view.Call.{Call}
+use Rattle.qs_part.specs.Histories.{Call, StandsFor}
 use Rattle.qs_turn.specs.declared.view.Entry.{Entry}
 use Rattle.qs_turn.specs.declared.view.Said.{Said}
 use Rattle.qs_turn.specs.declared.view.Slot.{Slot}
 use Rattle.qs_turn.specs.declared.view.Half.{Half}
 use Rattle.qs_turn.specs.declared.view.View.{View}
-use Rattle.qs_turn.specs.Histories.{Runs}
 
 -- the place of the word, between others that are never used
 abbrev pub word_at : ℕ
@@ -93,7 +92,7 @@ pub record IsFree {P O R : Type 0} (log : List (Entry O R)) (state : P) (s : Sta
   pub home : s.homes ≡ some (slot (Some state) said) ∷ []
 
 -- the turn is held after the calls of the history: the word is one more, the slot is out, and the holder knows the part
-pub record IsHeld {P O R : Type 0} (log : List (Entry O R)) (state : P) (holder : ℕ) (s : State (Slot P O R) (View P O R)) : Type 0 where
+pub record IsTaken {P O R : Type 0} (log : List (Entry O R)) (state : P) (holder : ℕ) (s : State (Slot P O R) (View P O R)) : Type 0 where
   pub word : slice_index s.words word_at ≡ 2 * length log + 1
   pub home : s.homes ≡ none ∷ []
   pub view : View P O R
@@ -115,10 +114,10 @@ pub record Kept {P O R : Type 0} (may : P → O → R → P → Type 0) (o : P) 
   pub holder : ℕ
   pub made : ℕ
   pub row : length s.words ≡ 16
-  pub runs : Runs may o (calls log) state
+  pub runs : StandsFor may o (calls log) state
   pub named : NamesBelow (made + 1) log
   pub numbers : (k : ℕ) → total (times_of k) s.views ≡ once_below k (made + 1)
   pub counted : total numbers_of s.views ≡ made + 1
   pub each : (seat : ℕ) (v : View P O R) → get_elem? s.views seat ≡ some v
       → Fits o log state (slice_index s.words word_at) holder made seat v
-  pub turn : IsFree log state s ⊎ IsHeld log state holder s
+  pub turn : IsFree log state s ⊎ IsTaken log state holder s

@@ -6,12 +6,13 @@ use Rattle.qs_turn.specs.declared.view.Said.{Said}
 use Rattle.qs_turn.specs.declared.view.Slot.{Slot}
 use Rattle.qs_turn.specs.declared.view.Half.{Half}
 use Rattle.qs_turn.specs.declared.view.View.{View}
-use Rattle.qs_turn.specs.Histories.{call, StartsWith, Merges, Runs}
+use Rattle.qs_part.specs.Histories.{call, StandsFor}
+use Rattle.qs_turn.specs.Orders.{StartsWith, Merges}
 use Rattle.qs_turn.specs.Rule.{of, calls, half, nothing, slot}
 
 -- take: the pass has the turn, and has seen the whole history
-abbrev pub holding : {P O R : Type 0} → View P O R → List (Entry O R) → P → View P O R
-holding v log state = record v { turn = Some state; mine = half v.mine.owned log v.mine.own }
+abbrev pub with_turn : {P O R : Type 0} → View P O R → List (Entry O R) → P → View P O R
+with_turn v log state = record v { turn = Some state; mine = half v.mine.owned log v.mine.own }
 
 -- what a take tells: the number found is twice the length of a history, which begins with what was seen and leads to
 -- the part that comes out of the slot
@@ -19,11 +20,11 @@ pub record Took {P O R : Type 0} (may : P → O → R → P → Type 0) (o : P) 
   pub log : List (Entry O R)
   pub state : P
   pub said : Option (Said O R)
-  pub view : m'.0 ≡ holding m.0 log state
+  pub view : m'.0 ≡ with_turn m.0 log state
   pub out : m'.1 ≡ (0, slot (Some state) said) ∷ m.1
   pub even : found ≡ 2 * length log
   pub more : StartsWith log m.0.mine.seen
-  pub runs : Runs may o (calls log) state
+  pub runs : StandsFor may o (calls log) state
 
 abbrev pub taken : {P O R : Type 0} → (P → O → R → P → Type 0) → Step (Slot P O R) → Me (Slot P O R) (View P O R) → ℕ → Me (Slot P O R) (View P O R) → Type 0
 taken {P} may st m found m' =
@@ -89,13 +90,13 @@ looked st m found m' = (m' ≡ (settled m.0, m.1)) × Settled m.0
 
 -- the pass has the turn: the word was twice the length of a history that begins with what it had seen, and the part is
 -- out of the slot and stands for that history
-pub record Holds {P O R : Type 0} (may : P → O → R → P → Type 0) (o : P) (word : ℕ) (part : P) (v : View P O R) (m' : Me (Slot P O R) (View P O R)) : Type 0 where
+pub record HasTurn {P O R : Type 0} (may : P → O → R → P → Type 0) (o : P) (word : ℕ) (part : P) (v : View P O R) (m' : Me (Slot P O R) (View P O R)) : Type 0 where
   pub log : List (Entry O R)
-  pub view : m'.0 ≡ holding v log part
+  pub view : m'.0 ≡ with_turn v log part
   pub out : m'.1 ≡ (0, slot None None) ∷ []
   pub even : word ≡ 2 * length log
   pub more : StartsWith log v.mine.seen
-  pub runs : Runs may o (calls log) part
+  pub runs : StandsFor may o (calls log) part
 
 -- the pass may give the turn back with this part: the part's step was one that may be
 pub record CanGive {P O R : Type 0} (may : P → O → R → P → Type 0) (word : ℕ) (part : P) (said : Said O R) (m : Me (Slot P O R) (View P O R)) : Type 0 where

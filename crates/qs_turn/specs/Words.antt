@@ -1,9 +1,9 @@
 -- What contracts say of turns and passes.
 use Rattle.std.specs.Prelude.{◌≡◌, ℕ, ◌+◌, ◌-◌, Bool, ◌⊎◌, List, [], ◌∷◌, ◌++◌, length, Some}
 use Rattle.std.specs.declared.snapshot.Snapshot.{Snapshot}
-use Rattle.qs_turn.specs.declared.view.Call.{Call}
+use Rattle.qs_part.specs.Histories.{Call, call, StandsFor}
 use Rattle.qs_turn.specs.declared.view.View.{View}
-use Rattle.qs_turn.specs.Histories.{call, StartsWith, Merges, Runs}
+use Rattle.qs_turn.specs.Orders.{StartsWith, Merges}
 use Rattle.qs_turn.specs.Rule.{calls}
 use Rattle.qs_turn.specs.Names.{Name, Known}
 
@@ -39,9 +39,9 @@ pub record Calls {P O R : Type 0} (may : P → O → R → P → Type 0) (o : P)
   pub owns : own n ≡ own k ++ call q a r ∷ []
   pub before : P
   pub after : P
-  pub led : Runs may o (seen k ++ between) before
+  pub led : StandsFor may o (seen k ++ between) before
   pub step : may before a r after
-  pub runs : Runs may o (seen n) after
+  pub runs : StandsFor may o (seen n) after
   pub same_first : is_first n ≡ is_first k
   pub same_out : out n ≡ out k
 

@@ -9,10 +9,10 @@ use std::snapshot::Snapshot;
 pub struct Law;
 
 impl<P: Part> TableRule<Slot<P, P::Op, P::Reply>, View<P, P::Op, P::Reply>, Snapshot<P>> for Law {
-    ghost use Rattle.qs_turn.specs.Histories.{lawful};
+    ghost use Rattle.qs_part.specs.Histories.{lawful};
     ghost use Rattle.qs_turn.specs.Rule.{Kept, first_view};
 
-    ghost holds = { λ key. Kept (lawful P.legal P.fixed_of) key.value };
+    ghost holds = { λ key. Kept (lawful P.fixed_of P.can P.legal) key.value };
 
     ghost first = { λ key. first_view key.value };
 }
@@ -21,10 +21,10 @@ impl<P: Part> TableRule<Slot<P, P::Op, P::Reply>, View<P, P::Op, P::Reply>, Snap
 pub struct Take;
 
 impl<P: Part> Play<Slot<P, P::Op, P::Reply>, View<P, P::Op, P::Reply>> for Take {
-    ghost use Rattle.qs_turn.specs.Histories.{lawful};
+    ghost use Rattle.qs_part.specs.Histories.{lawful};
     ghost use Rattle.qs_turn.specs.Steps.{taken};
 
-    ghost then = { taken (lawful P.legal P.fixed_of) };
+    ghost then = { taken (lawful P.fixed_of P.can P.legal) };
 }
 
 /// The turn is given back, with the call that was made.

@@ -26,8 +26,9 @@
 //! the rule exactly, and `specs/Steps.antt` what each kind of step does to it.
 #![tactic(auto)]
 
-pub mod board;
 pub mod crossing;
 pub mod law;
+pub mod lock;
+mod sleepers;
 pub mod turn;
 pub mod view;

@@ -1,25 +1,26 @@
 //! The lock, and the passes that threads call with.
 ghost use Rattle.std.specs.Prelude.{◌≡◌, ◌+◌, ◌-◌, ◌^◌, ◌<◌, true, false, [], Some, IfOk};
-ghost use Rattle.qs_turn.specs.Histories.{lawful, Runs};
-ghost use Rattle.qs_turn.specs.Steps.{Took, Holds, CanGive, added};
+ghost use Rattle.qs_part.specs.Histories.{lawful, StandsFor};
+ghost use Rattle.qs_turn.specs.Steps.{Took, HasTurn, CanGive, added};
 ghost use Rattle.qs_turn.specs.Words.{opening, is_first, seen, own, out, IsPassOf, Calls, Joined};
 
-use crate::board::{Board, Held};
 use crate::law::{Fork, Give, Law, Look, Meet, Take};
+use crate::lock::{Lock, Token};
+use crate::sleepers::Sleepers;
 use crate::view::{Said, Slot, View};
 use atomic_table::{Seat, Table};
 use qs_bytes::Memory;
 use qs_part::part::Part;
 use std::alloc::Global;
+use std::hint::spin_loop;
 use std::snapshot::Snapshot;
 use std::sync::Wait;
-use std::sync::atomic::{AtomicU64, Ordering};
 
 /// A part behind a lock that counts the calls.
 ///
 /// Contracts see which lock it is and the state that the part had when the turn was made,
 /// `opening`. It may be shared among threads; each calls with a pass of its own.
-pub type Turn<P> = Board<
+pub type Turn<P> = Lock<
     Slot<P, <P as Part>::Op, <P as Part>::Reply>,
     View<P, <P as Part>::Op, <P as Part>::Reply>,
     Snapshot<P>,
@@ -30,7 +31,7 @@ pub type Turn<P> = Board<
 ///
 /// Contracts see the history that the pass has seen, `seen`, its own calls in it, `own`, whether it
 /// is the first pass of its turn, and of the first pass how many passes are `out`.
-pub type Pass<P> = Held<
+pub type Pass<P> = Token<
     Slot<P, <P as Part>::Op, <P as Part>::Reply>,
     View<P, <P as Part>::Op, <P as Part>::Reply>,
 >;
@@ -46,6 +47,9 @@ const WORDS: usize = 16;
 
 /// The place of the word that is used.
 const WORD: usize = 8;
+
+/// How often a thread looks whether the turn gets free before it sleeps: about a microsecond.
+const LOOKS: u32 = 100;
 
 impl<P: Part> Turn<P> {
     /// A turn for the part, and its first pass, which has seen no call.
@@ -63,11 +67,11 @@ impl<P: Part> Turn<P> {
         })?;
         match Table::new(alloc, &[0; WORDS], slots, &about) {
             Ok((table, seat)) => Ok((
-                Board {
+                Lock {
                     table,
-                    waiters: AtomicU64::new(0),
+                    sleepers: Sleepers::none(),
                 },
-                Held { seat },
+                Token { seat },
             )),
             Err(_refused) => Err(Memory),
         }
@@ -76,13 +80,14 @@ impl<P: Part> Turn<P> {
     /// Makes one call: one step of the part, which no other step comes between.
     ///
     /// `request` is the caller's number for it, which stands in the history; the part doesn't see
-    /// it. The call may wait for the turn. It takes no memory and has no refusal of its own. After
-    /// 2^63 - 1 calls of the turn the next one never returns.
+    /// it. The call may wait for the turn; where it is free, no system call is made. It takes no
+    /// memory and has no refusal of its own. After 2^63 - 1 calls of the turn the next one never
+    /// returns.
     pub fn call<R: Wait>(&self, rt: &R, pass: &mut Pass<P>, request: u64, op: P::Op) -> P::Reply
         requires turn { IsPassOf self.now pass.old }
         requires fits { P.can (P.fixed_of (opening self.now)) op }
         ensures turn { IsPassOf self.now pass.new }
-        ensures call { Calls (lawful P.legal P.fixed_of) (opening self.now) pass.old request op result pass.new }
+        ensures call { Calls (lawful P.fixed_of P.can P.legal) (opening self.now) pass.old request op result pass.new }
     {
         let (word, mut part) = self.take(rt, &mut pass.seat);
         let asked = Snapshot::of(&op);
@@ -100,7 +105,7 @@ impl<P: Part> Turn<P> {
     fn turn_word<R: Wait>(&self, rt: &R, seat: &mut PassSeat<P>) -> u64
         requires { (seat.old.table_id ≡ self.now.table) × (seat.old.me.0.opening ≡ Some (opening self.now)) }
         ensures seat { seat.new.table_id ≡ seat.old.table_id }
-        ensures took { Took (lawful P.legal P.fixed_of) (opening self.now) result seat.old.me seat.new.me }
+        ensures took { Took (lawful P.fixed_of P.can P.legal) (opening self.now) result seat.old.me seat.new.me }
         ensures room { result < 2 ^ 64 - 2 }
     {
         for _ in rt.forever() {
@@ -114,26 +119,48 @@ impl<P: Part> Turn<P> {
                     return word;
                 }
             } else {
-                self.wait(rt, word);
+                self.wait(rt);
             }
         }
         unreachable!()
     }
 
-    /// Sleeps while the word is this one. It may also return for no reason.
-    ///
-    /// Whoever gives the turn back changes the word before it looks whether anyone waits.
-    fn wait<R: Wait>(&self, rt: &R, word: u64) {
-        self.waiters.fetch_add(1, Ordering::SeqCst);
-        self.table.shared.park(rt, WORD, (word % (1 << 32)) as u32);
-        self.waiters.fetch_sub(1, Ordering::SeqCst);
+    /// Whether the turn is free. It is never free after its last call.
+    fn is_free(&self) -> bool {
+        let word = self.table.shared.peek(WORD);
+        word % 2 == 0 && word < u64::MAX - 1
+    }
+
+    /// Whether the turn gets free within some looks at it.
+    fn is_soon_free(&self) -> bool {
+        for _ in 0..LOOKS {
+            spin_loop();
+            if self.is_free() {
+                return true;
+            }
+        }
+        false
+    }
+
+    /// Waits until the turn was seen free. Another thread may have taken it since.
+    fn wait<R: Wait>(&self, rt: &R) {
+        if self.is_soon_free() {
+            return;
+        }
+        for _ in rt.forever() {
+            self.sleepers.announce();
+            if self.is_free() {
+                return;
+            }
+            self.sleepers.sleep(rt);
+        }
     }
 
     /// Takes the turn and the part.
     fn take<R: Wait>(&self, rt: &R, seat: &mut PassSeat<P>) -> (u64, P)
         requires { (seat.old.table_id ≡ self.now.table) × (seat.old.me.0.opening ≡ Some (opening self.now)) × (seat.old.me.1 ≡ []) }
         ensures seat { seat.new.table_id ≡ seat.old.table_id }
-        ensures holds { Holds (lawful P.legal P.fixed_of) (opening self.now) result.0 result.1 seat.old.me.0 seat.new.me }
+        ensures holds { HasTurn (lawful P.fixed_of P.can P.legal) (opening self.now) result.0 result.1 seat.old.me.0 seat.new.me }
         ensures room { result.0 < 2 ^ 64 - 2 }
     {
         let word = self.turn_word(rt, seat);
@@ -152,7 +179,7 @@ impl<P: Part> Turn<P> {
     /// Gives the part and the turn back, and says which call was made.
     fn give(&self, seat: &mut PassSeat<P>, word: u64, part: P, said: Said<P::Op, P::Reply>)
         requires seat { seat.old.table_id ≡ self.now.table }
-        requires gives { CanGive (lawful P.legal P.fixed_of) word part said seat.old.me }
+        requires gives { CanGive (lawful P.fixed_of P.can P.legal) word part said seat.old.me }
         requires room { word < 2 ^ 64 - 2 }
         ensures seat { seat.new.table_id ≡ seat.old.table_id }
         ensures added { seat.new.me ≡ (added seat.old.me.0 said.request said.op.value said.reply.value, []) }
@@ -163,9 +190,7 @@ impl<P: Part> Turn<P> {
         };
         self.table.shared.exchange(seat, 0, home);
         self.table.shared.store::<Give>(seat, WORD, word + 2);
-        if self.waiters.load(Ordering::SeqCst) != 0 {
-            self.table.shared.wake_one(WORD);
-        }
+        self.sleepers.wake_one();
     }
 
     /// Another pass of the turn, which has seen what this one has and has made no call.
@@ -179,7 +204,7 @@ impl<P: Part> Turn<P> {
         ensures given { (is_first result ≡ false) × (seen result ≡ seen pass.old) × (own result ≡ []) }
     {
         let seat = self.table.shared.split_seat::<Fork>(&mut pass.seat);
-        Held { seat }
+        Token { seat }
     }
 
     /// Joins another pass into the first one, whose calls are its own from then on.
@@ -191,7 +216,7 @@ impl<P: Part> Turn<P> {
         ensures turn { IsPassOf self.now pass.new }
         ensures joined { Joined pass.old other pass.new }
     {
-        let Held { seat } = other;
+        let Token { seat } = other;
         self.table.shared.join_seat::<Meet>(&mut pass.seat, seat);
         self.table.shared.load::<Look>(&mut pass.seat, WORD);
     }
@@ -202,11 +227,11 @@ impl<P: Part> Turn<P> {
     pub fn close(self, pass: Pass<P>) -> P
         requires turn { IsPassOf self pass }
         requires first { (is_first pass ≡ true) × (out pass ≡ 0) }
-        ensures part { Runs (lawful P.legal P.fixed_of) (opening self) (seen pass) result }
+        ensures part { StandsFor (lawful P.fixed_of P.can P.legal) (opening self) (seen pass) result }
         ensures own { own pass ≡ seen pass }
     {
-        let Board { table, waiters: _ } = self;
-        let Held { seat } = pass;
+        let Lock { table, sleepers: _ } = self;
+        let Token { seat } = pass;
         let mut closed = table.close_with(seat);
         let Slot { part, said: _ } = closed.take(0);
         closed.free();

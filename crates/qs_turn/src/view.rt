@@ -1,22 +1,29 @@
 //! What lies in the slot of a turn, and what a pass knows.
 
 use std::collections::LinkedList;
+use std::marker::Model;
 use std::snapshot::Snapshot;
 
-/// One call of a turn: the request that it was made for, the operation and the reply.
-///
-/// It exists in contracts alone, where a history is a list of these. No value of it is made.
-pub struct Call<O, R> {
-    pub request: u64,
-    pub op: O,
-    pub reply: R,
+/// A call that was made, which contracts see as a `Call` of a history. No value of it is made.
+pub struct MadeCall<O, R> {
+    request: u64,
+    op: O,
+    reply: R,
+}
+
+impl<O, R> Model for MadeCall<O, R> {
+    ghost use Rattle.qs_part.specs.Histories.{Call};
+
+    ghost Value = { Call O R };
+
+    ghost view = { λ c. record { request = c.request; op = c.op; reply = c.reply } };
 }
 
 /// A call in the history of a turn, with the number of the pass that made it. No value of it is
 /// made.
 pub struct Entry<O, R> {
     pub by: u64,
-    pub call: Call<O, R>,
+    pub call: MadeCall<O, R>,
 }
 
 /// What the last caller says of its call, as it gives the turn back.
@@ -39,7 +46,7 @@ pub struct Slot<P: Drop, O, R> {
 pub struct Half<O, R> {
     pub owned: LinkedList<u64>,
     pub seen: LinkedList<Entry<O, R>>,
-    pub own: LinkedList<Call<O, R>>,
+    pub own: LinkedList<MadeCall<O, R>>,
 }
 
 /// What a pass knows. No value of it is made.

@@ -1,4 +1,4 @@
 pub mod Tallies
 pub mod Trackers
+pub mod Stripes
 pub mod Ticks
-pub mod Rows

@@ -2,11 +2,11 @@
 use Rattle.std.specs.Prelude.{◌≡◌, ℕ, ◌+◌, ◌%◌, ◌^◌}
 use Rattle.qs_turn_uses.specs.declared.tally.Tally.{Tally}
 
--- the count rises by one, and is the answer
+-- the count rises by one, and is the answer; nothing else changes
 abbrev pub counts : Tally → Unit {0} → ℕ → Tally → Type 0
-counts s _ r t = (t.count ≡ (s.count + 1) % 2 ^ 64) × (r ≡ t.count)
+counts s _ r t = (t ≡ record s { count = (s.count + 1) % 2 ^ 64 }) × (r ≡ t.count)
 
--- nothing else is fixed about it, and the one operation always fits
+-- nothing is fixed about it that decides what fits, and the one operation always fits
 abbrev pub tally_fixed : Tally → Unit {0}
 tally_fixed _ = tt
 

@@ -1,6 +1,6 @@
 //! Calls of one thread.
 ghost use Rattle.std.specs.Prelude.{◌≡◌};
-ghost use Rattle.qs_turn.specs.Histories.{lawful};
+ghost use Rattle.qs_part.specs.Histories.{lawful};
 ghost use Rattle.qs_turn.specs.Words.{opening, IsPassOf, Calls};
 
 use qs_outside::Disk;
@@ -23,8 +23,8 @@ pub fn twice<P: Part, R: Wait>(
     requires second { P.can (P.fixed_of (opening turn.now)) second }
     ensures turn { IsPassOf turn.now pass.new }
     ensures calls { (mid : _)
-        × Calls (lawful P.legal P.fixed_of) (opening turn.now) pass.old 1 first result.0 mid
-        × Calls (lawful P.legal P.fixed_of) (opening turn.now) mid 2 second result.1 pass.new }
+        × Calls (lawful P.fixed_of P.can P.legal) (opening turn.now) pass.old 1 first result.0 mid
+        × Calls (lawful P.fixed_of P.can P.legal) (opening turn.now) mid 2 second result.1 pass.new }
 {
     let one = turn.call(rt, pass, 1, first);
     let two = turn.call(rt, pass, 2, second);
@@ -42,7 +42,7 @@ pub fn on_stripe<D: Disk + Drop, R: Wait>(
     requires turn { IsPassOf turn.now pass.old }
     requires fits { ⟦<Stripe<D> as Part>⟧.can (⟦<Stripe<D> as Part>⟧.fixed_of (opening turn.now)) op }
     ensures turn { IsPassOf turn.now pass.new }
-    ensures call { Calls (lawful ⟦<Stripe<D> as Part>⟧.legal ⟦<Stripe<D> as Part>⟧.fixed_of) (opening turn.now) pass.old request op result pass.new }
+    ensures call { Calls (lawful ⟦<Stripe<D> as Part>⟧.fixed_of ⟦<Stripe<D> as Part>⟧.can ⟦<Stripe<D> as Part>⟧.legal) (opening turn.now) pass.old request op result pass.new }
 {
     turn.call(rt, pass, request, op)
 }

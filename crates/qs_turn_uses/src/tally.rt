@@ -2,13 +2,14 @@
 ghost use Rattle.std.specs.Prelude.{◌≡◌, ◌*◌, ◌^◌, ◌<◌, IfOk};
 ghost use Rattle.qs_turn_uses.specs.Tallies.{counts, tally_fixed, tally_fits};
 ghost use Rattle.qs_turn_uses.specs.Ticks.{Ticked};
-ghost use Rattle.qs_turn.specs.Histories.{lawful};
+ghost use Rattle.qs_part.specs.Histories.{lawful};
 ghost use Rattle.qs_turn.specs.Words.{opening, IsPassOf, Calls};
 
 use qs_bytes::Memory;
 use qs_part::part::Part;
 use qs_turn::turn::{Pass, Turn};
 use std::alloc::Global;
+use std::hint::spin_loop;
 use std::sync::Wait;
 use std::thread::{Threads, join};
 
@@ -16,6 +17,15 @@ use std::thread::{Threads, join};
 #[derive(Debug, Drop)]
 pub struct Tally {
     pub count: u64,
+    /// How long a step takes: so many times the processor is told that nothing is to do.
+    pub spins: u32,
+}
+
+/// Does nothing for a while.
+fn spin(times: u32) {
+    for _ in 0..times {
+        spin_loop();
+    }
 }
 
 impl Part for Tally {
@@ -38,6 +48,7 @@ impl Part for Tally {
     }
 
     fn step(&mut self, _op: ()) -> u64 {
+        spin(self.spins);
         self.count = self.count.wrapping_add(1);
         self.count
     }
@@ -47,7 +58,7 @@ impl Part for Tally {
 pub fn next<R: Wait>(rt: &R, turn: &Turn<Tally>, pass: &mut Pass<Tally>, request: u64) -> u64
     requires { IsPassOf turn.now pass.old }
     ensures turn { IsPassOf turn.now pass.new }
-    ensures call { Calls (lawful counts tally_fixed) (opening turn.now) pass.old request tt result pass.new }
+    ensures call { Calls (lawful tally_fixed tally_fits counts) (opening turn.now) pass.old request tt result pass.new }
 {
     turn.call(rt, pass, request, ())
 }
@@ -88,12 +99,17 @@ fn tick_both<R: Threads + Wait + Sync>(
     )
 }
 
-/// The count after four threads made `n` calls each: four times `n`.
-pub fn count_by_four<R: Threads + Wait + Sync>(rt: &R, alloc: Global, n: u64) -> Result<u64, Memory>
+/// The count after four threads made `n` calls each of a tally with so many `spins`: four times `n`.
+pub fn count_by_four<R: Threads + Wait + Sync>(
+    rt: &R,
+    alloc: Global,
+    spins: u32,
+    n: u64,
+) -> Result<u64, Memory>
     requires { 4 * n < 2 ^ 64 }
     ensures { IfOk result (λ count. count ≡ 4 * n) }
 {
-    let (turn, mut first) = Turn::new(alloc, Tally { count: 0 })?;
+    let (turn, mut first) = Turn::new(alloc, Tally { count: 0, spins })?;
     let second = turn.split(&mut first);
     let third = turn.split(&mut first);
     let fourth = turn.split(&mut first);

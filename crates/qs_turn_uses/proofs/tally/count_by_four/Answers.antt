@@ -1,9 +1,9 @@
 use Rattle.std.proofs.Common.{◌≡◌, ℕ, ◌*◌, ◌^◌, ◌<◌, length, ap, ◌∙◌, subst, arith}
-use Rattle.qs_turn.specs.Histories.{lawful, Runs}
+use Rattle.qs_part.specs.Histories.{lawful, StandsFor}
 use Rattle.qs_turn.specs.Words.{seen}
 use Rattle.qs_turn.proofs.Histories.{merges_length}
 use Rattle.qs_turn_uses.specs.declared.tally.Tally.{Tally}
-use Rattle.qs_turn_uses.specs.Tallies.{counts, tally_fixed}
+use Rattle.qs_turn_uses.specs.Tallies.{counts, tally_fits, tally_fixed}
 use Rattle.qs_turn_uses.proofs.Counting.{counted}
 use Rattle.qs_turn_uses.proofs.tally.count_by_four.Goals as goal
 
@@ -24,8 +24,8 @@ returns g c =
     let whole = ap length c.close.ensures.own in
     let n : ℕ = c.args.n in
     let all : length (seen c.join-3.new.pass) ≡ 4 * n = omega arith in
-    let runs : Runs (lawful counts tally_fixed) (record { count = 0 }) (seen c.join-3.new.pass) c.close.result =
-    subst (λ (o : Tally). Runs (lawful counts tally_fixed) o (seen c.join-3.new.pass) c.close.result) c.in_ok-turn.ensures.turn.0 c.close.ensures.part in
+    let runs : StandsFor (lawful tally_fixed tally_fits counts) (record { count = 0; spins = c.args.spins }) (seen c.join-3.new.pass) c.close.result =
+    subst (λ (o : Tally). StandsFor (lawful tally_fixed tally_fits counts) o (seen c.join-3.new.pass) c.close.result) c.in_ok-turn.ensures.turn.0 c.close.ensures.part in
     let small : 4 * n < 2 ^ 64 = c.requires in
     let found = counted _ _ _ runs (omega arith) in
     omega arith
