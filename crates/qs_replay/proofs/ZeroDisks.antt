@@ -34,7 +34,7 @@ pub means_at : (align size : ℕ) (ds : List Journal) (k : ℕ) → length ds �
 means_at align size ds k many are h =
     let (d, (is, at)) = disk_from align size 0 ds k are (omega (arith, h, many)) in
     subst (λ (x : Seen). MeansZeros align size k x) (sym at) (record {
-      stripe_is = is.zeros.stripe_is;
+      stripe_is = is.zeros.stripe_is ∙ omega arith;
       align_is = is.zeros.align_is;
       size_is = is.zeros.size_is;
       tells = is.zeros.tells;

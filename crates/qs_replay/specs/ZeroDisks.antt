@@ -1,11 +1,14 @@
 -- The disks in memory that a script is replayed over.
-use Rattle.std.specs.Prelude.{◌≡◌, ℕ, ◌+◌, ◌*◌, ◌≤◌, ◌<◌, List, [], ◌∷◌, map, length, replicate}
+use Rattle.std.specs.Prelude.{◌≡◌, ℕ, ◌+◌, ◌*◌, ◌≤◌, ◌<◌, ◌⊎◌, List, [], ◌∷◌, map, length, replicate, String}
+use Rattle.std.specs.Global.{Global}
 use Rattle.qs_outside.specs.Blocks.{Seen, stripe_of}
 use Rattle.qs_outside.specs.Held.{IsZeros}
 use Rattle.qs_outside.specs.Journal.{Journal, journal_seen}
 use Rattle.qs_outside.specs.Rigged.{no_plans}
 use Rattle.qs_image.specs.Image.{AllTell, align_of, block_now, disk, size_of}
 use Rattle.qs_image.specs.Opening.{IsImage}
+use Rattle.qs_replay.specs.Words.{Tells}
+use Rattle.qs_replay.specs.declared.words.ReplayWords.{ReplayWords}
 
 -- how many stores each disk keeps
 abbrev pub room_of_disks : ℕ
@@ -33,3 +36,9 @@ pub record AreZeroDisks (align size : ℕ) (disks : List Journal) : Type 0 where
   pub settled : (b : ℕ) → (disk (map journal_seen disks) (stripe_of b)).past b ≡ block_now (map journal_seen disks) b ∷ []
   pub zeros : (b : ℕ) → (b + 1) * align ≤ size → block_now (map journal_seen disks) b ≡ replicate align 0
   pub each : AreFrom align size 0 disks
+
+-- The disks that the words of the command name, or none where they aren't of its form.
+abbrev pub AreDisksOf : List (String Global) → List Journal → Type 0
+AreDisksOf words disks =
+    ((told : ReplayWords) × Tells words told × AreZeroDisks told.align (told.blocks * told.align) disks) ⊎
+    (((told : ReplayWords) → Tells words told → ⊥) × (disks ≡ []))

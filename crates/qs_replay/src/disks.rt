@@ -1,8 +1,6 @@
-ghost use Rattle.std.specs.Prelude.{◌≡◌, ◌*◌, ◌≤◌, [], IfOk};
+ghost use Rattle.std.specs.Prelude.{◌*◌, ◌≤◌, IfOk};
 ghost use Rattle.qs_image.specs.Opening.{IsAlign};
-ghost use Rattle.qs_replay.specs.ZeroDisks.{AreZeroDisks, IsZeroDisk};
-ghost use Rattle.qs_replay.specs.Words.{Tells};
-ghost use Rattle.qs_replay.specs.declared.words.ReplayWords.{ReplayWords as Told};
+ghost use Rattle.qs_replay.specs.ZeroDisks.{AreDisksOf, AreZeroDisks, IsZeroDisk};
 
 use crate::words::{ReplayWords, replay_words};
 use qs_bytes::Memory;
@@ -42,8 +40,7 @@ fn zero_disks(alloc: Global, told: ReplayWords) -> Result<Vec<MemDisk>, Memory>
 /// The disks that the words of the command name: an image of zeros in memory. None where the words aren't
 /// of the command's form.
 pub fn memory_disks(alloc: Global, words: &[String]) -> Result<Vec<MemDisk>, Memory>
-    ensures told { IfOk result (λ disks. (told : Told) → Tells words.now told → AreZeroDisks told.align (told.blocks * told.align) disks.items) }
-    ensures none { IfOk result (λ disks. ((told : Told) → Tells words.now told → ⊥) → disks.items ≡ []) }
+    ensures { IfOk result (λ disks. AreDisksOf words.now disks.items) }
 {
     match replay_words(words) {
         Some(told) => zero_disks(alloc, told),
