@@ -1,0 +1,34 @@
+ghost use Rattle.std.specs.Prelude.{◌≡◌, [], ◌∷◌};
+ghost use Rattle.std.specs.List.{filter_map};
+ghost use Rattle.qs_model.specs.Events.{outcome_of};
+ghost use Rattle.qs_model.specs.Laws.{opening};
+ghost use Rattle.qs_model.specs.Steps.{after, Runs};
+ghost use Rattle.qs_examples.specs.Examples.{opened, first, second, reading, reading_answers, failing, failing_answers, dropping, dropping_answers, refusing, refusing_answers};
+
+/// A READ of two bytes at the seam of two blocks loads both and is answered by these bytes.
+pub fn read()
+    ensures runs { Runs 4 (opening opened) reading }
+    ensures answers { filter_map (outcome_of 4) reading ≡ reading_answers }
+{}
+
+/// A WRITE of these two bytes holds its first block, and the disk fails the load of its last one: the
+/// hold is freed, the answer is EIO, and both blocks are as they were.
+pub fn failed_write()
+    ensures runs { Runs 4 (opening opened) failing }
+    ensures answers { filter_map (outcome_of 4) failing ≡ failing_answers }
+    ensures first_block { (after 4 (opening opened) failing).image.now 0 ≡ first }
+    ensures second_block { (after 4 (opening opened) failing).image.now 1 ≡ second }
+{}
+
+/// A session leaves while its request has a place and no way yet: the request ends with no answer, and
+/// then the session is detached.
+pub fn dropped()
+    ensures runs { Runs 4 (opening opened) dropping }
+    ensures answers { filter_map (outcome_of 4) dropping ≡ dropping_answers }
+{}
+
+/// A READ that passes the end is answered by EINVAL once it has its way, and touches no block.
+pub fn refused()
+    ensures runs { Runs 4 (opening opened) refusing }
+    ensures answers { filter_map (outcome_of 4) refusing ≡ refusing_answers }
+{}

@@ -1,0 +1,8 @@
+//! Worked runs of the core's model: a READ, a WRITE that a disk fails, a request whose session leaves, and
+//! one that is refused.
+//!
+//! The runs stand in `specs/`; the functions of this crate do nothing: their contracts say what comes of
+//! each run.
+#![tactic(auto)]
+
+pub mod laws;
