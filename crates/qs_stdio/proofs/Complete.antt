@@ -28,10 +28,11 @@ use Rattle.qs_image.specs.Image.{align_of, size_of}
 use Rattle.qs_image.specs.Opening.{IsImage, Opens}
 use Rattle.qs_stdio.specs.Words.{IsCommand}
 use Rattle.qs_stdio.specs.Service.{Exchange, AllFit, asked}
-use Rattle.qs_stdio.specs.Waiting.{Takes}
+use Rattle.qs_stream.specs.Bytes.{Takes}
 use Rattle.qs_stdio.specs.Scenes.{Scene, IsCut}
 use Rattle.qs_stdio.specs.Streams.{Leaves, IsValidStream, IsServed}
 use Rattle.qs_stdio.specs.Runs.{Sitting, Ran}
+use Rattle.qs_stdio.proofs.Sought.{nothing_front}
 
 -- no more messages are read than the stream has
 few_read : (xs ms : List Message) (rest last : List ℕ) → All IsMessage xs → All IsMessage ms → BeginsNone last →
@@ -79,9 +80,6 @@ leaves_none last leaves =
     let h : Head = head_of leaves.leave in
     subst (λ (xs : List ℕ). BeginsNone xs) (sym (leaves.whole ∙ ap (λ (xs : List ℕ). xs ++ leaves.more) leaves.is.0.spelled))
     (rests_begin.refused false (head_bytes h) leaves.more event.Disc Over tt (tells_messages.leave false h leaves.is.0.fits leaves.is.1))
-
-nothing_front : IsHeadFront []
-nothing_front = record { short = omega arith; magic = λ (four : 4 ≤ 0). absurd (omega arith) }
 
 last_none : (last : List ℕ) → (last ≡ []) ⊎ Leaves last → BeginsNone last
 last_none last (inl is) = subst (λ (xs : List ℕ). BeginsNone xs) (sym is) (rests_begin.front [] nothing_front)
@@ -162,12 +160,13 @@ opens_not disks (bad.Align a) is opens = opens.1.1 is.1.0
 opens_not disks (bad.Length n) is opens = opens.1.2 is.1.1
 opens_not disks (bad.TooLarge n) is opens = absurd (omega (arith, opens.1.0, opens.1.3, is.1.2))
 
-module _ (align size : ℕ) (stream : List ℕ) (before after : Scene) (valid : IsValidStream stream) (told : before.left ≡ Some stream) (nothing : before.waiting ≡ []) where
+module _ (align size : ℕ) (stream : List ℕ) (before after : Scene) (valid : IsValidStream stream) (told : before.flow.input.bytes ≡ Some stream) (nothing : before.flow.stream.waiting ≡ []) where
   -- what was taken, and what is left
-  parts : (s : Status) (sits : Sitting align size (2 ^ 32) before after s) → Split stream (asked sits.exchanges ++ sits.rest) after.left after.waiting
+  parts : (s : Status) (sits : Sitting align size (2 ^ 32) before after s) → Split stream (asked sits.exchanges ++ sits.rest) after.flow.input.bytes after.flow.stream.waiting
   parts s sits =
-      split_of stream (asked sits.exchanges ++ sits.rest) after.waiting before.left after.left told
-      (subst (λ (waiting : List ℕ). Takes before.left waiting (asked sits.exchanges ++ sits.rest) after.left after.waiting) nothing sits.moves.takes)
+      split_of stream (asked sits.exchanges ++ sits.rest) after.flow.stream.waiting before.flow.input.bytes after.flow.input.bytes told
+      (subst (λ (waiting : List ℕ). Takes before.flow.input.bytes waiting (asked sits.exchanges ++ sits.rest) after.flow.input.bytes after.flow.stream.waiting)
+      nothing sits.moved.takes)
 
   -- the rest, with what is left behind it, ends the stream
   ends_stream : (s : Status) (sits : Sitting align size (2 ^ 32) before after s) → BeginsNone (sits.rest ++ (parts s sits).remaining) →
@@ -212,7 +211,7 @@ module _ (align size : ℕ) (stream : List ℕ) (before after : Scene) (valid : 
 
 -- a valid stream over an image, without a fault of its ends, is served
 pub complete_of : (words : List (String Global)) (before after : Scene) (result : Status) (stream : List ℕ) → Ran words before after result →
-    before.left ≡ Some stream → before.waiting ≡ [] → IsValidStream stream → IsCommand words → IsImage before.disks →
+    before.flow.input.bytes ≡ Some stream → before.flow.stream.waiting ≡ [] → IsValidStream stream → IsCommand words → IsImage before.disks →
     (result ≡ status.ReadFault → ⊥) → (result ≡ status.WriteFault → ⊥) → IsServed result
 complete_of words before after status.Done stream ran told nothing valid command image read write = inl refl
 complete_of words before after status.Memory stream ran told nothing valid command image read write = inr refl

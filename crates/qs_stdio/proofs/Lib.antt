@@ -1,6 +1,3 @@
-pub mod Windows
-pub mod Flows
-pub mod Valid
 pub mod Answering
 pub mod Sought
 pub mod Turning

@@ -1,6 +1,6 @@
 -- A request and its data make one exchange.
-use Rattle.std.proofs.Common.{◌≡◌, ℕ, ◌<◌, inr, Bool, true, false, List, [], ◌++◌, length, refl, sym, ap, ◌∙◌, subst}
-use Rattle.std.specs.Prelude.{Option, if◌then◌else◌}
+use Rattle.std.proofs.Common.{◌≡◌, ℕ, ◌<◌, inr, Bool, true, false, List, [], ◌++◌, length, refl, sym, ap, ◌∙◌, subst, append-nil}
+use Rattle.std.specs.Prelude.{Option, Some, Result, Ok, Err, if◌then◌else◌}
 use Rattle.qs_bytes.specs.declared.ask.Ask.{Ask}
 use Rattle.qs_bytes.specs.declared.status.Status.{Status}
 use Rattle.qs_bytes.specs.declared.status.Status.TheVariants as status
@@ -13,14 +13,17 @@ use Rattle.qs_nbd_transmission.specs.Phases.{Phase, Reader, InHead, Wants, IsSer
 use Rattle.qs_nbd_transmission.specs.Replies.{reply_of}
 use Rattle.qs_nbd_transmission.proofs.Reading.{has_data-ask_of}
 use Rattle.qs_outside.specs.Blocks.{Seen}
+use Rattle.qs_stream.specs.Buffers.{Buffers}
+use Rattle.qs_stream.specs.Flows.{Side, Flow, Moved}
+use Rattle.qs_stream.proofs.Moves.{moved_on}
+use Rattle.qs_stdio.specs.declared.session.Came.{Came}
+use Rattle.qs_stdio.specs.declared.session.Came.TheVariants as came
 use Rattle.qs_stdio.specs.declared.serve.Turn.{Turn}
 use Rattle.qs_stdio.specs.declared.serve.Turn.TheVariants as turn
 use Rattle.qs_stdio.specs.Service.{Exchange}
-use Rattle.qs_stdio.specs.Waiting.{Takes, Gives}
-use Rattle.qs_stdio.specs.Calls.{Answered}
-use Rattle.qs_stdio.specs.Scenes.{Scene, Ending, Moves, Exchanges}
-use Rattle.qs_stdio.specs.Turns.{AwaitsRoom, Finishes, HasRoom, IsData, TakesTurn, Cutting, awaited, between}
-use Rattle.qs_stdio.proofs.Flows.{takes_on, gives_on}
+use Rattle.qs_stdio.specs.Calls.{Answers}
+use Rattle.qs_stdio.specs.Scenes.{Scene, IsCutWrite, Ending, Exchanges, Stops}
+use Rattle.qs_stdio.specs.Turns.{Answered, AwaitsRoom, Brings, Comes, Finishes, HasRoom, IsData, TakesTurn, awaited, between}
 
 -- how many bytes are awaited where room was given
 by_room : (h : Head) (room : Room) → awaited (phase_with_room (Wants h) room) ≡ h.size
@@ -48,16 +51,19 @@ pub data_length : (taken : List ℕ) (size : ℕ) (room : Room) → IsData taken
 data_length taken size (Keep whole) is = is.1
 data_length taken size (Drop count) is = is.1
 
--- what was written before an answer
-pub answered_after : (align size : ℕ) (a : Ask) (body : List ℕ) (old new : List Seen) (sent sent' sent'' : Option (List ℕ)) (held held' held'' : List ℕ) →
-    Gives sent held [] sent' held' → Answered align size a body old new sent' held' sent'' held'' →
-    Answered align size a body old new sent held sent'' held''
-answered_after align size a body old new sent sent' sent'' held held' held'' first answered = record {
-  verdict = answered.verdict;
-  may = answered.may;
-  called = answered.called;
-  gives = gives_on sent sent' sent'' held held' held'' [] (reply_of false a answered.verdict) first answered.gives;
-}
+-- a request was answered behind its data
+pub answered_in : (align size : ℕ) (a : Ask) (body : List ℕ) (before : Scene) (mid : Flow) (new : List Seen) (p : Side) (t : Buffers) →
+    Moved body [] before.flow mid → Answers align size a body before.disks new mid.output mid.stream p t →
+    Answered align size a body before (record { flow = record { input = mid.input; output = p; stream = t }; disks = new })
+answered_in align size a body before mid new p t moved answers =
+    let after : Flow = record { input = mid.input; output = p; stream = t } in
+    record {
+      verdict = answers.verdict;
+      may = answers.may;
+      called = answers.called;
+      moved = subst (λ (taken : List ℕ). Moved taken (reply_of false a answers.verdict) before.flow after) (append-nil body)
+          (moved_on before.flow mid after body [] [] (reply_of false a answers.verdict) moved (answers.puts.moved mid.input));
+    }
 
 -- the data of a message
 body_length : (head : Head) (body : List ℕ) (b : Bool) → has_body head ≡ b → length body ≡ (if b then head.size else 0) →
@@ -65,18 +71,18 @@ body_length : (head : Head) (body : List ℕ) (b : Bool) → has_body head ≡ b
 body_length head body b is long = long ∙ ap (λ (c : Bool). if c then head.size else 0) (sym is)
 
 -- a request came, and its data, and it was answered
-pub exchanged : (align size : ℕ) (before after : Scene) (taken body : List ℕ) (a : Ask) (phase : Phase) (left' : Option (List ℕ)) (waiting' : List ℕ) (b : Bool) →
-    IsServed false taken a phase → has_data a ≡ b → length body ≡ (if b then a.length else 0) →
-    Takes before.left before.waiting taken left' waiting' → Takes left' waiting' body after.left after.waiting →
-    Answered align size a body before.disks after.disks before.sent before.held after.sent after.held →
-    (x : Exchange) × Exchanges align size before x after
-exchanged align size before after taken body a phase left' waiting' b is has long first second answered =
+pub exchanged : (align size : ℕ) (before : Scene) (mid : Flow) (after : Scene) (taken body : List ℕ) (a : Ask) (phase : Phase) (b : Bool) →
+    IsServed false taken a phase → has_data a ≡ b → length body ≡ (if b then a.length else 0) → Moved taken [] before.flow mid →
+    Answered align size a body (record { flow = mid; disks = before.disks }) after → (x : Exchange) × Exchanges align size before x after
+exchanged align size before mid after taken body a phase b is has long moved answered =
     let head : Head = head_of taken in
-    let answered' : Answered align size (ask_of false head) body before.disks after.disks before.sent before.held after.sent after.held =
-    subst (λ (q : Ask). Answered align size q body before.disks after.disks before.sent before.held after.sent after.held) is.asks answered in
+    let here : Scene = record { flow = mid; disks = before.disks } in
+    let answered' : Answered align size (ask_of false head) body here after =
+    subst (λ (q : Ask). Answered align size q body here after) is.asks answered in
     let has' : has_body head ≡ b = sym (has_data-ask_of false head) ∙ ap (λ (q : Ask). has_data q) (sym is.asks) ∙ has in
     let long' : length body ≡ (if b then head.size else 0) =
-    long ∙ ap (λ (q : Ask). if b then q.length else 0) is.asks in (
+    long ∙ ap (λ (q : Ask). if b then q.length else 0) is.asks in
+    let reply : List ℕ = reply_of false (ask_of false head) answered'.verdict in (
       record { message = record { head = head; body = body }; verdict = answered'.verdict },
       record {
         message = record {
@@ -86,57 +92,48 @@ exchanged align size before after taken body a phase left' waiting' b is has lon
           body = body_length head body b has' long';
         };
         may = answered'.may;
-        moves = record {
-          takes = subst (λ (bytes : List ℕ). Takes before.left before.waiting (bytes ++ body) after.left after.waiting) is.head.spelled
-              (takes_on before.left left' after.left before.waiting waiting' after.waiting taken body first second);
-          gives = answered'.gives;
-        };
+        moved = subst (λ (bytes : List ℕ). Moved (bytes ++ body) reply before.flow after.flow) is.head.spelled
+            (moved_on before.flow mid after.flow taken [] body reply moved answered'.moved);
         called = answered'.called;
       },
     )
 
--- a request came and the session ended within its data, or at its reply
-cut_ending : (taken more : List ℕ) (a : Ask) (phase : Phase) (status : Status) (left : Option (List ℕ)) (waiting : List ℕ) →
-    IsServed false taken a phase → has_data a ≡ true → Cutting status more a.length left waiting → Ending status (taken ++ more) left waiting
-cut_ending taken more a phase (status.Ended end.Truncated) left waiting is has cut =
-    let head : Head = head_of taken in (
-      inr
-          (record {
-            front = taken;
-            got = more;
-            whole = refl;
-            head = is.head;
-            wants = sym (has_data-ask_of false head) ∙ ap (λ (q : Ask). has_data q) (sym is.asks) ∙ has;
-            not_long = is.not_long;
-            short = subst (λ (q : Ask). length more < q.length) is.asks cut.0;
-          }),
-      (cut.1, cut.2),
-    )
-cut_ending taken more a phase status.ReadFault left waiting is has cut = tt
-cut_ending taken more a phase status.WriteFault left waiting is has cut = tt
-cut_ending taken more a phase other left waiting is has cut = absurd cut
-
--- a request with data came, and what became of it
-pub finished : (align size : ℕ) (before mid after : Scene) (taken : List ℕ) (a : Ask) (phase : Phase) (new : Reader) (result : Turn) →
-    IsServed false taken a phase → has_data a ≡ true → Moves before taken [] mid → mid.disks ≡ before.disks →
-    Finishes align size a mid after new result → TakesTurn align size before after new result
-finished align size before mid after taken a phase new turn.Goes is has moves same finishes =
-    let body : List ℕ = finishes.0 in
-    let answered : Answered align size a body before.disks after.disks before.sent before.held after.sent after.held =
-    subst (λ (disks : List Seen). Answered align size a body disks after.disks before.sent before.held after.sent after.held) same
-    (answered_after align size a body mid.disks after.disks before.sent mid.sent after.sent before.held mid.held after.held moves.gives finishes.1.2) in
-    let one : (x : Exchange) × Exchanges align size before x after =
-    exchanged align size before after taken body a phase mid.left mid.waiting true is has finishes.1.0 moves.takes finishes.1.1 answered in
-    (one.0, (one.1, finishes.1.3))
-finished align size before mid after taken a phase new (turn.Ends status) is has moves same finishes = record {
-  rest = taken ++ finishes.0;
-  moves = record {
-    takes = takes_on _ _ _ _ _ _ taken finishes.0 moves.takes finishes.1.0.takes;
-    gives = gives_on _ _ _ _ _ _ [] [] moves.gives finishes.1.0.gives;
-  };
-  disks = finishes.1.1 ∙ same;
-  ends = cut_ending taken finishes.0 a phase status after.left after.waiting is has finishes.1.2;
+-- a request came, and less than its data
+cut_write : (taken more : List ℕ) (a : Ask) (phase : Phase) → IsServed false taken a phase → has_data a ≡ true → length more < a.length →
+    IsCutWrite (taken ++ more)
+cut_write taken more a phase is has short = record {
+  front = taken;
+  got = more;
+  whole = refl;
+  head = is.head;
+  wants = sym (has_data-ask_of false (head_of taken)) ∙ ap (λ (q : Ask). has_data q) (sym is.asks) ∙ has;
+  not_long = is.not_long;
+  short = subst (λ (q : Ask). length more < q.length) is.asks short;
 }
+
+-- the session stopped within the data
+stopped : (before : Scene) (mid : Flow) (after : Scene) (taken : List ℕ) {P Q : List ℕ → Type 0} → Moved taken [] before.flow mid →
+    (stops : Stops (record { flow = mid; disks = before.disks }) after P) → Q (taken ++ stops.rest) → Stops before after Q
+stopped before mid after taken moved stops ends = record {
+  rest = taken ++ stops.rest;
+  moved = moved_on before.flow mid after.flow taken [] stops.rest [] moved stops.moved;
+  disks = stops.disks;
+  ends = ends;
+}
+
+module _ {E : Type 0} (align size : ℕ) (before : Scene) (mid : Flow) (after : Scene) (taken : List ℕ) (a : Ask) (phase : Phase) (new : Reader)
+    (is : IsServed false taken a phase) (has : has_data a ≡ true) (moved : Moved taken [] before.flow mid) where
+  -- a request with data came, and what became of it
+  pub finished : (result : Result Turn E) → Finishes align size a (record { flow = mid; disks = before.disks }) result new after → TakesTurn align size before result new after
+  finished (Ok turn.Goes) finishes =
+      let one : (x : Exchange) × Exchanges align size before x after =
+      exchanged align size before mid after taken finishes.0 a phase true is has finishes.1.0 moved finishes.1.1 in
+      (one.0, (one.1, finishes.1.2))
+  finished (Ok (turn.Ends told)) finishes =
+      let cut : Ending (status.Ended end.Truncated) after.flow (taken ++ finishes.3.rest) =
+      (inr (cut_write taken finishes.3.rest a phase is has finishes.3.ends), finishes.1) in
+      (finishes.2, stopped before mid after taken moved finishes.3 (subst (λ (s : Status). Ending s after.flow (taken ++ finishes.3.rest)) (sym finishes.0) cut))
+  finished (Err e) finishes = (finishes.0, stopped before mid after taken moved finishes.1 (inr (cut_write taken finishes.1.rest a phase is has finishes.1.ends)))
 
 -- the next request is awaited behind one that no data follow
 pub ready : (reader : Reader) → reader.structured ≡ false → reader.phase ≡ InHead [] → reader ≡ between
@@ -144,3 +141,13 @@ ready reader simple at_head =
     let with_mode : Bool → Reader = λ s. record { structured = s; phase = reader.phase } in
     let with_phase : Phase → Reader = λ p. record { structured = false; phase = p } in
     ap with_mode simple ∙ ap with_phase at_head
+
+-- a request came
+pub request_came : (E : Type 0) (taken : List ℕ) (told : Came) (a : Ask) (reader : Reader) (after : Flow) → told ≡ came.Asked a → Comes {E = E} taken (Ok told) reader after →
+    IsServed false taken a reader.phase × (reader.structured ≡ false)
+request_came E taken told a reader after is comes = subst (λ (told : Came). Comes {E = E} taken (Ok told) reader after) is comes
+
+-- data came
+pub data_came : (E : Type 0) (old new : Reader) (taken : List ℕ) (told : Option Room) (room : Room) (after : Flow) → told ≡ Some room →
+    Brings {E = E} old taken (Ok told) new after → IsData taken (awaited old.phase) room × (new ≡ record { structured = old.structured; phase = InHead [] })
+data_came E old new taken told room after is brings = subst (λ (told : Option Room). Brings {E = E} old taken (Ok told) new after) is brings

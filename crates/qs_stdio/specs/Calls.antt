@@ -1,15 +1,16 @@
 -- What the disks were called for, request by request.
-use Rattle.std.specs.Prelude.{◌≡◌, ℕ, Bool, true, false, List, [], ◌∷◌, ◌++◌, Option, Result, Ok, Err}
+use Rattle.std.specs.Prelude.{◌≡◌, ℕ, Bool, true, false, List, [], ◌∷◌}
+use Rattle.qs_bytes.specs.declared.ask.Ask.{Ask}
 use Rattle.qs_bytes.specs.declared.ask.Errno.TheVariants.{Io, NoMem, Inval}
 use Rattle.qs_bytes.specs.declared.ask.Verdict.{Verdict}
 use Rattle.qs_bytes.specs.declared.ask.Verdict.TheVariants.{Refused}
 use Rattle.qs_outside.specs.Blocks.{Seen, Same}
 use Rattle.qs_image.specs.Image.{content, block_past, AllTell, SameDisks, RoseAt}
 use Rattle.qs_nbd_transmission.specs.Heads.{is_write}
-use Rattle.qs_stdio.specs.Service.{Exchange, ask, Leads, MayGet}
-use Rattle.qs_stdio.specs.Waiting.{Gives}
 use Rattle.qs_nbd_transmission.specs.Replies.{reply_of}
-use Rattle.qs_bytes.specs.declared.ask.Ask.{Ask}
+use Rattle.qs_stream.specs.Buffers.{Buffers}
+use Rattle.qs_stream.specs.Flows.{Side, Puts}
+use Rattle.qs_stdio.specs.Service.{Exchange, ask, Leads, MayGet}
 
 -- a refusal that was answered without a call of a disk
 abbrev pub is_uncalled : Verdict → Bool
@@ -32,21 +33,9 @@ abbrev pub CalledAll : List Seen → List Exchange → List Seen → Type 0
 CalledAll old [] new = new ≡ old
 CalledAll old (x ∷ xs) new = (mid : List Seen) × (Called old (ask x) x.message.body x.verdict mid × CalledAll mid xs new)
 
--- a request was answered: the disks were called for it, and its reply was put behind the bytes that wait
-pub record Puts (align size : ℕ) (a : Ask) (body : List ℕ) (old new : List Seen) (held held' : List ℕ) : Type 0 where
+-- a request was answered: the disks were called for it, and its reply was put
+pub record Answers (align size : ℕ) (a : Ask) (body : List ℕ) (old new : List Seen) (output : Side) (stream : Buffers) (output' : Side) (stream' : Buffers) : Type 0 where
   pub verdict : Verdict
   pub may : MayGet align size a verdict
   pub called : Called old a body verdict new
-  pub put : held' ≡ held ++ reply_of false a verdict
-
--- a request was answered: the disks were called for it, and its reply was given to the output
-pub record Answered (align size : ℕ) (a : Ask) (body : List ℕ) (old new : List Seen) (sent : Option (List ℕ)) (held : List ℕ) (sent' : Option (List ℕ)) (held' : List ℕ) : Type 0 where
-  pub verdict : Verdict
-  pub may : MayGet align size a verdict
-  pub called : Called old a body verdict new
-  pub gives : Gives sent held (reply_of false a verdict) sent' held'
-
--- a request was answered, or the output failed before a disk was called for it
-abbrev pub Answers : {E : Type 0} → ℕ → ℕ → Ask → List ℕ → List Seen → List Seen → Option (List ℕ) → List ℕ → Option (List ℕ) → List ℕ → Result Unit E → Type 0
-Answers align size a body old new sent held sent' held' (Ok u) = Answered align size a body old new sent held sent' held'
-Answers align size a body old new sent held sent' held' (Err failed) = (new ≡ old) × Gives sent held [] sent' held'
+  pub puts : Puts (reply_of false a verdict) output stream output' stream'

@@ -1,5 +1,3 @@
-pub mod Waiting
-pub mod Refusals
 pub mod Service
 pub mod Calls
 pub mod Scenes

@@ -1,62 +1,60 @@
 -- What `run_stdio` does, from its words to its status.
-use Rattle.std.specs.Prelude.{◌≡◌, ◌^◌, ℕ, ◌≤◌, ◌⊎◌, Bool, true, false, List, [], ◌++◌, length, Option, Some, String}
+use Rattle.std.specs.Prelude.{◌≡◌, ◌^◌, ℕ, ◌⊎◌, Bool, true, false, List, [], ◌++◌, length, Some, String, Result, Ok, Err}
 use Rattle.std.specs.Global.{Global}
 use Rattle.qs_bytes.specs.declared.status.Status.{Status}
 use Rattle.qs_bytes.specs.declared.status.Status.TheVariants as status
 use Rattle.qs_image.specs.Image.{content, align_of, size_of, AllTell, SameDisks}
 use Rattle.qs_image.specs.Opening.{IsImage, Opens}
+use Rattle.qs_stream.specs.declared.state.State.{State}
+use Rattle.qs_stream.specs.declared.state.State.TheVariants as state
+use Rattle.qs_stream.specs.Flows.{Flow, Moved}
 use Rattle.qs_stdio.specs.Words.{IsCommand}
 use Rattle.qs_stdio.specs.Service.{Exchange, AllFit, LeadsAll, asked, answered}
 use Rattle.qs_stdio.specs.Calls.{CalledAll}
-use Rattle.qs_outside.specs.Faults.{Rose}
-use Rattle.qs_stdio.specs.Waiting.{Gives}
-use Rattle.qs_stdio.specs.Events.{Causes}
-use Rattle.qs_stdio.specs.Scenes.{Scene, Ending, Moves}
+use Rattle.qs_stdio.specs.Scenes.{Scene, IsFront, Ending}
 
--- the input, or the budget of messages, brought the end: all replies were written
-abbrev pub is_whole : Status → Bool
-is_whole status.Done = true
-is_whole (status.Ended end) = true
-is_whole status.Spent = true
-is_whole other = false
+-- the side that failed, by the status of the run
+abbrev pub side_of : Status → State
+side_of status.ReadFault = state.ReadFault
+side_of status.WriteFault = state.WriteFault
+side_of other = state.Open
 
--- How a session ended: Spent where its whole budget of messages was read, Memory before the first, and
--- else as the bytes behind the last answered request say.
-abbrev pub Ends : Status → ℕ → List Exchange → List ℕ → Scene → Type 0
-Ends status.Spent budget exchanges rest after = (rest ≡ []) × (length exchanges ≡ budget)
-Ends status.Memory budget exchanges rest after = (rest ≡ []) × (exchanges ≡ [])
-Ends other budget exchanges rest after = Ending other rest after.left after.waiting
+-- the status of a run whose stream failed
+abbrev pub fault_at : State → Status
+fault_at state.ReadFault = status.ReadFault
+fault_at other = status.WriteFault
 
--- what waited was written, unless the input or the output failed before
-pub record Finishing (sent : Option (List ℕ)) (held : List ℕ) (sent' : Option (List ℕ)) (held' : List ℕ) (status' result : Status) : Type 0 where
-  pub gives : Gives sent held [] sent' held'
-  pub ends : (result ≡ status') ⊎ (result ≡ status.WriteFault)
-  pub whole : is_whole result ≡ true → held' ≡ []
+-- the status of a run
+abbrev pub status_by : {E : Type 0} → Result Status E → State → Status
+status_by (Ok told) now = told
+status_by (Err e) now = fault_at now
 
-pub record FinishCause (write write' : ℕ) (status' result : Status) : Type 0 where
-  pub later : write ≤ write'
-  pub rose : result ≡ status.WriteFault → (status' ≡ status.WriteFault) ⊎ Rose write write'
-
--- the counts never fall, and a fault ends the run only where its count rose
-abbrev pub StatusCause : ℕ → ℕ → ℕ → ℕ → Status → Type 0
-StatusCause read read' write write' result =
-    Causes read read' write write' (result ≡ status.ReadFault) (result ≡ status.WriteFault)
+-- How a session ended: Spent where its whole budget of messages was read, Memory before the first, and else as the
+-- bytes behind the last answered request say. Where a side failed, they are less than a message, or, at the last
+-- write, what ended the session.
+abbrev pub Ends : Status → ℕ → List Exchange → Flow → List ℕ → Type 0
+Ends status.Spent budget exchanges after rest = (rest ≡ []) × (length exchanges ≡ budget)
+Ends status.Memory budget exchanges after rest = (rest ≡ []) × (exchanges ≡ [])
+Ends status.ReadFault budget exchanges after rest = IsFront rest
+Ends status.WriteFault budget exchanges after rest = IsFront rest ⊎ ((told : Status) × Ending told after rest)
+Ends other budget exchanges after rest = Ending other after rest
 
 -- A session: requests were read one after the other, answered by the plain service, and their replies
--- written in order, a front of them where the output failed.
-pub record Sitting (align size budget : ℕ) (before after : Scene) (status : Status) : Type 0 where
+-- written in order, a front of them where a side failed.
+pub record Sitting (align size budget : ℕ) (before after : Scene) (result : Status) : Type 0 where
   -- the requests that were answered, and the bytes that were taken behind them
   pub exchanges : List Exchange
   pub rest : List ℕ
   pub fit : AllFit align size exchanges
-  -- what was read is the requests and the rest; what was written, and waits, is their replies
-  pub moves : Moves before (asked exchanges ++ rest) (answered exchanges) after
-  pub whole : is_whole status ≡ true → after.held ≡ []
+  -- what was read is the requests and the rest; what was given to the output is their replies
+  pub moved : Moved (asked exchanges ++ rest) (answered exchanges) before.flow after.flow
+  pub failed : after.flow.stream.state ≡ side_of result
+  pub whole : side_of result ≡ state.Open → after.flow.stream.held ≡ []
   -- the content goes on from request to request; the disks were called for these alone
   pub service : AllTell before.disks → LeadsAll (content before.disks) exchanges (content after.disks)
   pub calls : CalledAll before.disks exchanges after.disks
   pub same : SameDisks before.disks after.disks
-  pub ends : Ends status budget exchanges rest after
+  pub ends : Ends result budget exchanges after.flow rest
 
 -- the disks are tested, and requests are served over them, at most 2^32
 abbrev pub Serves : Scene → Scene → Status → Type 0

@@ -1,6 +1,6 @@
 -- The plain service: what requests of whole blocks, one after the other, are answered, and what each
 -- makes of the image. There are no blocks in it and no disks, only contents.
-use Rattle.std.specs.Prelude.{◌≡◌, ℕ, ◌+◌, ◌%◌, ◌⊎◌, Bool, true, false, not, ◌&&◌, ◌==◌, nat_lt, nat_le, List, [], ◌∷◌, length, flat_map}
+use Rattle.std.specs.Prelude.{◌≡◌, ℕ, ◌+◌, ◌<◌, ◌%◌, ◌⊎◌, Bool, true, false, not, ◌&&◌, ◌==◌, nat_lt, nat_le, List, [], ◌∷◌, length, flat_map}
 use Rattle.std.specs.List.{AllByRecursion}
 use Rattle.qs_bytes.specs.Pieces.{part, overlay}
 use Rattle.qs_bytes.specs.declared.ask.Ask.{Ask}
@@ -37,7 +37,7 @@ MayGet align size a (Got bytes) = (is_valid align size a ≡ true) × (is_read a
 MayGet align size a Fine = (is_valid align size a ≡ true) × (is_write a.kind ≡ true)
 MayGet align size a (Refused Inval) = is_valid align size a ≡ false
 MayGet align size a (Refused Io) = is_valid align size a ≡ true
-MayGet align size a (Refused NoMem) = is_valid align size a ≡ true
+MayGet align size a (Refused NoMem) = (is_valid align size a ≡ true) × (0 < a.length)
 MayGet align size a other = ⊥
 
 -- From a content, a request with this answer leads to the next: a READ has the bytes that it covers, a

@@ -1,29 +1,24 @@
-ghost use Rattle.std.specs.Prelude.{◌≡◌, ◌+◌, ◌≤◌, true, false, [], ◌++◌, length, map, nat_le, OnOk, OnErr};
-ghost use Rattle.qs_bytes.specs.declared.ask.Verdict.TheVariants.{Refused};
-ghost use Rattle.qs_outside.specs.Faults.{HasCause};
-ghost use Rattle.qs_image.specs.Image.{align_of, size_of, Stores};
+ghost use Rattle.std.specs.Prelude.{◌≡◌, ◌+◌, ◌≤◌, true, false, [], length, map, nat_le, vec_len, OnErr, OnOk, ◌<◌};
+ghost use Rattle.qs_bytes.specs.declared.ask.Verdict.TheVariants.{Got, Refused};
+ghost use Rattle.qs_image.specs.Image.{align_of, size_of};
 ghost use Rattle.qs_image.specs.Opening.{IsAlign, IsImage};
-ghost use Rattle.qs_nbd_transmission.specs.Replies.{CanReply, data_of, is_read, reply_of};
 ghost use Rattle.qs_nbd_transmission.specs.Heads.{has_data, is_write};
+ghost use Rattle.qs_nbd_transmission.specs.Replies.{CanReply, data_of, is_read, reply_of};
+ghost use Rattle.qs_stream.specs.Flows.{Puts, side};
+ghost use Rattle.qs_stdio.specs.Calls.{Answers};
 ghost use Rattle.qs_stdio.specs.Service.{is_valid};
-ghost use Rattle.qs_stdio.specs.Waiting.{Gives};
-ghost use Rattle.qs_stdio.specs.Calls.{Answers, Puts};
 
-use crate::outbox::{NoRoom, reserve};
-use crate::window::Window;
-use qs_bytes::{Ask, Errno, Kind, Mode, Verdict};
-use qs_image::store_span;
+use qs_bytes::{Ask, Errno, Kind, Memory, Mode, Verdict};
+use qs_image::{load_span, store_span};
 use qs_nbd_transmission::{data_head, reply_head};
-use qs_outside::{Disk, Failed, Sink};
+use qs_outside::{Disk, Sink};
+use qs_stream::Stream;
 
 /// This service's sessions agreed on nothing: every reply is a simple one.
 const MODE: Mode = Mode {
     no_zeroes: false,
     structured: false,
 };
-
-/// The most bytes of a reply before its data.
-const HEAD_ROOM: usize = 64;
 
 /// The longest READ, in bytes.
 const LONGEST: u64 = 33_554_432;
@@ -76,129 +71,131 @@ fn is_inside(size: u64, ask: &Ask) -> bool
     ask.offset <= size && ask.length <= size - ask.offset
 }
 
-/// Puts a reply without data behind the bytes that wait.
-fn put_reply(outbox: &mut Window, ask: &Ask, verdict: &Verdict)
+/// Puts a reply without data.
+fn put_reply<O: Sink>(stream: &mut Stream, output: &mut O, ask: &Ask, verdict: &Verdict)
     requires can { CanReply ask.now verdict.now }
     requires bare { data_of verdict.now ≡ [] }
-    requires room { 64 ≤ outbox.old.free }
-    ensures { outbox.new.held ≡ outbox.old.held ++ reply_of false ask.now verdict.now }
+    ensures {
+        Puts (reply_of false ask.now verdict.now) (side O.sent O.write_faults output.old) stream.old
+            (side O.sent O.write_faults output.new) stream.new
+    }
 {
     let head = reply_head(&MODE, ask, verdict);
-    outbox.push(head.as_slice());
+    stream.put(output, head.as_slice());
+}
+
+/// Puts the reply to a READ that has its bytes.
+fn put_data<O: Sink>(stream: &mut Stream, output: &mut O, ask: &Ask, bytes: &[u8])
+    requires read { is_read ask.now.kind ≡ true }
+    requires short { ask.now.length ≤ 33554432 }
+    ensures {
+        Puts (reply_of false ask.now (Got bytes.now)) (side O.sent O.write_faults output.old) stream.old
+            (side O.sent O.write_faults output.new) stream.new
+    }
+{
+    let head = data_head(&MODE, ask);
+    stream.put(output, head.as_slice());
+    stream.put(output, bytes);
 }
 
 /// Answers a request with an error, and calls no disk.
-pub fn refuse<O: Sink>(
-    outbox: &mut Window,
-    output: &mut O,
-    ask: &Ask,
-    errno: Errno,
-) -> Result<(), Failed>
-    ensures ok { OnOk result (Gives (O.sent output.old) outbox.old.held (reply_of false ask.now (Refused errno)) (O.sent output.new) outbox.new.held) }
-    ensures err { OnErr result (Gives (O.sent output.old) outbox.old.held [] (O.sent output.new) outbox.new.held) }
-    ensures cause { HasCause (O.write_faults output.old) (O.write_faults output.new) result }
-{
-    match reserve(outbox, output, HEAD_ROOM) {
-        Ok(()) => {}
-        Err(NoRoom::Failed) => return Err(Failed),
-        Err(NoRoom::Memory) => unreachable!(),
+pub fn refuse<O: Sink>(stream: &mut Stream, output: &mut O, ask: &Ask, errno: Errno)
+    ensures {
+        Puts (reply_of false ask.now (Refused errno)) (side O.sent O.write_faults output.old) stream.old
+            (side O.sent O.write_faults output.new) stream.new
     }
-    put_reply(outbox, ask, &Verdict::Refused(errno));
-    Ok(())
-}
-
-/// Answers a READ that is served, where there is room for its reply.
-fn put_read<D: Disk>(outbox: &mut Window, disks: &mut [D], align: usize, ask: &Ask)
-    requires image { IsImage (map D.seen disks.old) }
-    requires align { align ≡ align_of (map D.seen disks.old) }
-    requires valid { is_valid align (size_of (map D.seen disks.old)) ask.now ≡ true }
-    requires read { is_read ask.now.kind ≡ true }
-    requires room { 64 + ask.now.length ≤ outbox.old.free }
-    ensures { Puts align (size_of (map D.seen disks.old)) ask.now [] (map D.seen disks.old) (map D.seen disks.new) outbox.old.held outbox.new.held }
 {
-    let head = data_head(&MODE, ask);
-    let count = ask.length as usize;
-    match outbox.push_read(head.as_slice(), disks, align, ask.offset, count) {
-        Ok(()) => {}
-        Err(_) => put_reply(outbox, ask, &Verdict::Refused(Errno::Io)),
-    }
+    put_reply(stream, output, ask, &Verdict::Refused(errno));
 }
 
-/// Stores a WRITE's data from its offset on.
-fn store_data<D: Disk>(disks: &mut [D], align: usize, ask: &Ask, bytes: &[u8]) -> Result<(), Failed>
-    requires image { IsImage (map D.seen disks.old) }
-    requires align { align ≡ align_of (map D.seen disks.old) }
-    requires valid { is_valid align (size_of (map D.seen disks.old)) ask.now ≡ true }
-    requires whole { length bytes.now ≡ ask.now.length }
-    ensures { Stores (map D.seen disks.old) ask.now.offset bytes.now result (map D.seen disks.new) }
-{
-    store_span(disks, align, ask.offset, bytes)
-}
-
-/// Answers a WRITE that is served, where there is room for its reply.
-fn put_write<D: Disk>(outbox: &mut Window, disks: &mut [D], align: usize, ask: &Ask, body: &[u8])
-    requires image { IsImage (map D.seen disks.old) }
-    requires align { align ≡ align_of (map D.seen disks.old) }
-    requires valid { is_valid align (size_of (map D.seen disks.old)) ask.now ≡ true }
-    requires write { is_write ask.now.kind ≡ true }
-    requires whole { length body.now ≡ ask.now.length }
-    requires room { 64 ≤ outbox.old.free }
-    ensures { Puts align (size_of (map D.seen disks.old)) ask.now body.now (map D.seen disks.old) (map D.seen disks.new) outbox.old.held outbox.new.held }
-{
-    match store_data(disks, align, ask, body) {
-        Ok(()) => put_reply(outbox, ask, &Verdict::Fine),
-        Err(_) => put_reply(outbox, ask, &Verdict::Refused(Errno::Io)),
-    }
-}
-
-/// Answers a READ that is served. Its reply's memory may be refused.
-pub fn answer_read<O: Sink, D: Disk>(
-    outbox: &mut Window,
+/// Answers a READ that is served; `into` is where its bytes are read to.
+fn put_read<O: Sink, D: Disk>(
+    stream: &mut Stream,
     output: &mut O,
     disks: &mut [D],
     align: usize,
     ask: &Ask,
-) -> Result<(), Failed>
+    into: &mut [u8],
+)
     requires image { IsImage (map D.seen disks.old) }
     requires align { align ≡ align_of (map D.seen disks.old) }
     requires valid { is_valid align (size_of (map D.seen disks.old)) ask.now ≡ true }
     requires read { is_read ask.now.kind ≡ true }
-    ensures answers { Answers align (size_of (map D.seen disks.old)) ask.now [] (map D.seen disks.old) (map D.seen disks.new)
-        (O.sent output.old) outbox.old.held (O.sent output.new) outbox.new.held result }
-    ensures cause { HasCause (O.write_faults output.old) (O.write_faults output.new) result }
-{
-    match reserve(outbox, output, HEAD_ROOM + ask.length as usize) {
-        Ok(()) => {}
-        Err(NoRoom::Failed) => return Err(Failed),
-        Err(NoRoom::Memory) => return refuse(outbox, output, ask, Errno::NoMem),
+    requires whole { length into.old ≡ ask.now.length }
+    ensures {
+        Answers align (size_of (map D.seen disks.old)) ask.now [] (map D.seen disks.old) (map D.seen disks.new)
+            (side O.sent O.write_faults output.old) stream.old (side O.sent O.write_faults output.new) stream.new
     }
-    put_read(outbox, disks, align, ask);
-    Ok(())
+{
+    match load_span(disks, align, ask.offset, into) {
+        Ok(()) => put_data(stream, output, ask, into),
+        Err(_) => refuse(stream, output, ask, Errno::Io),
+    }
+}
+
+/// Makes a buffer at least so long. One that was long once stays so.
+fn grow(buffer: &mut Vec<u8>, count: usize) -> Result<(), Memory>
+    ensures room { OnOk result (count ≤ vec_len buffer.new) }
+    ensures memory { OnErr result (0 < count) }
+{
+    if count <= buffer.len() {
+        return Ok(());
+    }
+    match buffer.resize(count, 0) {
+        Ok(()) => Ok(()),
+        Err(_) => Err(Memory),
+    }
+}
+
+/// Answers a READ that is served. The memory for its bytes may be refused.
+pub fn answer_read<O: Sink, D: Disk>(
+    stream: &mut Stream,
+    output: &mut O,
+    disks: &mut [D],
+    align: usize,
+    ask: &Ask,
+    buffer: &mut Vec<u8>,
+)
+    requires image { IsImage (map D.seen disks.old) }
+    requires align { align ≡ align_of (map D.seen disks.old) }
+    requires valid { is_valid align (size_of (map D.seen disks.old)) ask.now ≡ true }
+    requires read { is_read ask.now.kind ≡ true }
+    ensures {
+        Answers align (size_of (map D.seen disks.old)) ask.now [] (map D.seen disks.old) (map D.seen disks.new)
+            (side O.sent O.write_faults output.old) stream.old (side O.sent O.write_faults output.new) stream.new
+    }
+{
+    let count = ask.length as usize;
+    match grow(buffer, count) {
+        Ok(()) => {
+            let into = &mut buffer.as_mut_slice()[..count];
+            put_read(stream, output, disks, align, ask, into);
+        }
+        Err(_) => refuse(stream, output, ask, Errno::NoMem),
+    }
 }
 
 /// Answers a WRITE that is served.
 pub fn answer_write<O: Sink, D: Disk>(
-    outbox: &mut Window,
+    stream: &mut Stream,
     output: &mut O,
     disks: &mut [D],
     align: usize,
     ask: &Ask,
     body: &[u8],
-) -> Result<(), Failed>
+)
     requires image { IsImage (map D.seen disks.old) }
     requires align { align ≡ align_of (map D.seen disks.old) }
     requires valid { is_valid align (size_of (map D.seen disks.old)) ask.now ≡ true }
     requires write { is_write ask.now.kind ≡ true }
     requires whole { length body.now ≡ ask.now.length }
-    ensures answers { Answers align (size_of (map D.seen disks.old)) ask.now body.now (map D.seen disks.old) (map D.seen disks.new)
-        (O.sent output.old) outbox.old.held (O.sent output.new) outbox.new.held result }
-    ensures cause { HasCause (O.write_faults output.old) (O.write_faults output.new) result }
-{
-    match reserve(outbox, output, HEAD_ROOM) {
-        Ok(()) => {}
-        Err(NoRoom::Failed) => return Err(Failed),
-        Err(NoRoom::Memory) => unreachable!(),
+    ensures {
+        Answers align (size_of (map D.seen disks.old)) ask.now body.now (map D.seen disks.old) (map D.seen disks.new)
+            (side O.sent O.write_faults output.old) stream.old (side O.sent O.write_faults output.new) stream.new
     }
-    put_write(outbox, disks, align, ask, body);
-    Ok(())
+{
+    match store_span(disks, align, ask.offset, body) {
+        Ok(()) => put_reply(stream, output, ask, &Verdict::Fine),
+        Err(_) => refuse(stream, output, ask, Errno::Io),
+    }
 }

@@ -4,11 +4,9 @@
 
 mod answer;
 mod event;
-mod outbox;
 mod run;
 mod serve;
 mod session;
-mod window;
 mod words;
 
 pub use run::run_stdio;

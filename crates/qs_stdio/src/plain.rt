@@ -1,10 +1,10 @@
 //! The plain service as a slow function: requests, one after the other, over the whole content.
-ghost use Rattle.std.specs.Prelude.{◌≡◌, ◌≢◌, true, length, vec_len, IfOk};
+ghost use Rattle.std.specs.Prelude.{◌≡◌, ◌≢◌, ◌+◌, ◌≤◌, true, length, vec_len, IfOk};
+ghost use Rattle.qs_bytes.specs.Pieces.{overlay};
 ghost use Rattle.qs_nbd_transmission.specs.Heads.{is_write};
 ghost use Rattle.qs_stdio.specs.Service.{Leads, MayGet, is_valid};
 
 use crate::answer::asks_bytes;
-use crate::window::put;
 use qs_bytes::{Ask, Bytes, Errno, Kind, Memory, Verdict, put16, put32, put64};
 use std::alloc::Global;
 
@@ -80,6 +80,23 @@ fn is_good(size: usize, ask: &Ask) -> bool
     let end = u128::from(ask.offset) + u128::from(ask.length);
     let whole = ask.offset % BLOCK == 0 && ask.length % BLOCK == 0;
     kind_fits && !ask.fua && ask.flags_fit && whole && end <= size as u128
+}
+
+#[tactic(auto, unfolding(qs_bytes::specs::Pieces::overlay))]
+fn put_over(buffer: &mut [u8], at: usize, piece: &[u8])
+    requires { at + length piece.now ≤ length buffer.old }
+    ensures { buffer.new ≡ overlay buffer.old at piece.now }
+{
+    buffer[at..at + piece.len()].copy_from_slice(piece);
+}
+
+/// Writes the piece over the buffer, from `at` on.
+fn put(buffer: &mut Vec<u8>, at: usize, piece: &[u8])
+    requires { at + length piece.now ≤ vec_len buffer.old }
+    ensures items { buffer.new.items ≡ overlay buffer.old.items at piece.now }
+    ensures len { vec_len buffer.new ≡ vec_len buffer.old }
+{
+    put_over(buffer.as_mut_slice(), at, piece);
 }
 
 /// Answers one request from the whole content, over which a WRITE's data are written.

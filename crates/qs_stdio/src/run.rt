@@ -1,40 +1,77 @@
-ghost use Rattle.std.specs.Prelude.{◌≡◌, ℕ, List, [], map};
+ghost use Rattle.std.specs.Prelude.{◌≡◌, List, ℕ, [], map, IfOk, OnOk, Some};
 ghost use Rattle.qs_outside.specs.Faults.{Rose};
 ghost use Rattle.qs_image.specs.Opening.{IsImage};
+ghost use Rattle.qs_stream.specs.Buffers.{Buffers, new_buffers};
+ghost use Rattle.qs_stream.specs.Flows.{Puts, Rises, Tells, side};
+ghost use Rattle.qs_stdio.specs.Runs.{Ran, Serves, Sitting, fault_at, side_of, status_by};
+ghost use Rattle.qs_stdio.specs.Scenes.{scene};
 ghost use Rattle.qs_stdio.specs.Service.{IsShape};
-ghost use Rattle.qs_stdio.specs.Runs.{FinishCause, Finishing, Ran, Serves, Sitting, StatusCause};
 ghost use Rattle.qs_stdio.specs.Streams.{IsServed, IsValidStream};
 ghost use Rattle.qs_stdio.specs.Turns.{between};
 ghost use Rattle.qs_stdio.specs.Words.{IsCommand};
 
 use crate::answer::Shape;
-use crate::outbox::flush;
 use crate::serve::Turn;
 use crate::session::Session;
-use crate::window::Window;
 use crate::words::stdio_words;
 use qs_bytes::Status;
 use qs_image::open_fault;
-use qs_outside::{Clock, Disk, Sink, Source};
+use qs_outside::{Clock, Disk, Failed, Sink, Source};
+use qs_stream::{State, Stream};
 use std::alloc::Global;
 
+/// Writes the replies that wait, at the end of a session.
+fn finish<O: Sink>(stream: &mut Stream, output: &mut O, status: Status) -> Result<Status, Failed>
+    ensures puts { Puts [] (side O.sent O.write_faults output.old) stream.old (side O.sent O.write_faults output.new) stream.new }
+    ensures tells { Tells result stream.new.state }
+    ensures written { OnOk result (stream.new.held ≡ []) }
+    ensures same { IfOk result (λ told. told ≡ status) }
+{
+    stream.flush(output)?;
+    Ok(status)
+}
+
+/// The status of a run whose stream failed.
+fn fault(stream: &Stream) -> Status
+    ensures { result ≡ fault_at stream.now.state }
+{
+    match stream.state() {
+        State::ReadFault => Status::ReadFault,
+        _ => Status::WriteFault,
+    }
+}
+
 impl Session {
-    /// Writes the replies that wait, unless the input or the output failed.
-    fn finish<O: Sink>(&mut self, output: &mut O, status: Status) -> Status
-        ensures finishes { Finishing (O.sent output.old) self.old.outbox.held (O.sent output.new) self.new.outbox.held status result }
-        ensures cause { FinishCause (O.write_faults output.old) (O.write_faults output.new) status result }
-        ensures inbox { self.new.inbox ≡ self.old.inbox }
+    /// Serves requests, at most so many, to the end of the session.
+    fn serve_all<I: Source, O: Sink, D: Disk>(
+        &mut self,
+        alloc: Global,
+        budget: u64,
+        input: &mut I,
+        output: &mut O,
+        disks: &mut [D],
+        shape: Shape,
+    ) -> Result<Status, Failed>
+        requires image { IsImage (map D.seen disks.old) }
+        requires shape { IsShape shape (map D.seen disks.old) }
+        requires between { self.old.reader ≡ between }
+        ensures {
+            Sitting shape.align shape.size budget
+                (scene I.left I.read_faults O.sent O.write_faults D.seen input.old output.old self.old.stream disks.old)
+                (scene I.left I.read_faults O.sent O.write_faults D.seen input.new output.new self.new.stream disks.new)
+                (status_by result self.new.stream.state)
+        }
     {
-        if matches!(status, Status::ReadFault | Status::WriteFault) {
-            return status;
+        for _ in 0..budget {
+            match self.serve_one(alloc, input, output, disks, shape)? {
+                Turn::Goes => {}
+                Turn::Ends(status) => return finish(&mut self.stream, output, status),
+            }
         }
-        match flush(&mut self.outbox, output) {
-            Ok(()) => status,
-            Err(_) => Status::WriteFault,
-        }
+        finish(&mut self.stream, output, Status::Spent)
     }
 
-    /// Serves requests, at most so many, to the end of the session.
+    /// Serves requests, at most so many, and answers how the session ended.
     pub fn serve<I: Source, O: Sink, D: Disk>(
         &mut self,
         alloc: Global,
@@ -47,19 +84,17 @@ impl Session {
         requires image { IsImage (map D.seen disks.old) }
         requires shape { IsShape shape (map D.seen disks.old) }
         requires between { self.old.reader ≡ between }
-        ensures session { Sitting shape.align shape.size budget
-            (record { left = I.left input.old; waiting = self.old.inbox.held; sent = O.sent output.old; held = self.old.outbox.held; disks = map D.seen disks.old })
-            (record { left = I.left input.new; waiting = self.new.inbox.held; sent = O.sent output.new; held = self.new.outbox.held; disks = map D.seen disks.new })
-            result }
-        ensures cause { StatusCause (I.read_faults input.old) (I.read_faults input.new) (O.write_faults output.old) (O.write_faults output.new) result }
-    {
-        for _ in 0..budget {
-            match self.serve_one(alloc, input, output, disks, shape) {
-                Turn::Goes => {}
-                Turn::Ends(status) => return self.finish(output, status),
-            }
+        ensures {
+            Sitting shape.align shape.size budget
+                (scene I.left I.read_faults O.sent O.write_faults D.seen input.old output.old self.old.stream disks.old)
+                (scene I.left I.read_faults O.sent O.write_faults D.seen input.new output.new self.new.stream disks.new)
+                result
         }
-        self.finish(output, Status::Spent)
+    {
+        match self.serve_all(alloc, budget, input, output, disks, shape) {
+            Ok(status) => status,
+            Err(_) => fault(&self.stream),
+        }
     }
 }
 
@@ -73,11 +108,12 @@ fn serve_disks<I: Source, O: Sink, D: Disk>(
     output: &mut O,
     disks: &mut [D],
 ) -> Status
-    ensures serves { (waiting held : List ℕ) × Serves
-        (record { left = I.left input.old; waiting = []; sent = O.sent output.old; held = []; disks = map D.seen disks.old })
-        (record { left = I.left input.new; waiting = waiting; sent = O.sent output.new; held = held; disks = map D.seen disks.new })
-        result }
-    ensures cause { StatusCause (I.read_faults input.old) (I.read_faults input.new) (O.write_faults output.old) (O.write_faults output.new) result }
+    ensures {
+        (after : Buffers) × Serves
+            (scene I.left I.read_faults O.sent O.write_faults D.seen input.old output.old new_buffers disks.old)
+            (scene I.left I.read_faults O.sent O.write_faults D.seen input.new output.new after disks.new)
+            result
+    }
 {
     match open_fault(disks) {
         Some(bad) => return Status::OpenBad(bad),
@@ -111,15 +147,19 @@ pub fn run_stdio<I: Source, O: Sink, D: Disk, C: Clock>(
     disks: &mut Vec<D>,
     _clock: &C,
 ) -> Status
-    ensures ran { (waiting held : List ℕ) × Ran words.now
-        (record { left = I.left input.old; waiting = []; sent = O.sent output.old; held = []; disks = map D.seen disks.old.items })
-        (record { left = I.left input.new; waiting = waiting; sent = O.sent output.new; held = held; disks = map D.seen disks.new.items })
-        result }
+    ensures ran {
+        (after : Buffers) × Ran words.now
+            (scene I.left I.read_faults O.sent O.write_faults D.seen input.old output.old new_buffers disks.old.items)
+            (scene I.left I.read_faults O.sent O.write_faults D.seen input.new output.new after disks.new.items)
+            result
+    }
     // A valid stream is served to its end, unless memory is refused or a side fails.
     ensures complete { (stream : List ℕ) → I.left input.old ≡ Some stream → IsValidStream stream → IsCommand words.now →
         IsImage (map D.seen disks.old.items) → ¬ Rose (I.read_faults input.old) (I.read_faults input.new) →
         ¬ Rose (O.write_faults output.old) (O.write_faults output.new) → IsServed result }
-    ensures cause { StatusCause (I.read_faults input.old) (I.read_faults input.new) (O.write_faults output.old) (O.write_faults output.new) result }
+    // A fault is told only where its count rose, and it is the only one.
+    ensures cause { Rises (side_of result) (I.read_faults input.old) (I.read_faults input.new)
+        (O.write_faults output.old) (O.write_faults output.new) }
 {
     match stdio_words(words) {
         Some(_) => {}

@@ -1,18 +1,19 @@
 ghost use Rattle.std.specs.Prelude.{◌≡◌, ℕ, ◌≤◌, true, false, List, [], length, map};
-ghost use Rattle.qs_outside.specs.Faults.{HasCause};
-ghost use Rattle.qs_image.specs.Image.{align_of, size_of};
-ghost use Rattle.qs_image.specs.Opening.{IsAlign, IsImage};
+ghost use Rattle.qs_image.specs.Opening.{IsImage};
 ghost use Rattle.qs_nbd_transmission.specs.Heads.{has_data};
+ghost use Rattle.qs_stream.specs.declared.state.State.TheVariants.{Open};
+ghost use Rattle.qs_stream.specs.Flows.{side};
 ghost use Rattle.qs_stdio.specs.Calls.{Answers};
-ghost use Rattle.qs_stdio.specs.Turns.{AwaitsRoom, Finishes, HasRoom, IsData, TakesTurn, TurnCause, between};
-ghost use Rattle.qs_stdio.specs.Service.{IsShape};
+ghost use Rattle.qs_stdio.specs.Scenes.{scene};
+ghost use Rattle.qs_stdio.specs.Service.{IsShape, is_valid};
+ghost use Rattle.qs_stdio.specs.Turns.{AwaitsRoom, Finishes, HasRoom, IsData, TakesTurn, between};
 
 use crate::answer::{Shape, answer_read, answer_write, asks_bytes, data_follow, is_served, refuse};
-use crate::session::{Brought, Came, Session, room_for};
-use crate::window::Window;
-use qs_bytes::{Ask, Errno, Status};
+use crate::session::{Came, Session, room_for};
+use qs_bytes::{Ask, Errno, SessionEnd, Status};
 use qs_nbd_transmission::Room;
 use qs_outside::{Disk, Failed, Sink, Source};
+use qs_stream::Stream;
 use std::alloc::Global;
 
 /// Whether a session goes on after a request.
@@ -22,68 +23,84 @@ pub enum Turn {
     Ends(Status),
 }
 
-/// Answers a request that no data follow.
+/// Answers a request that no data follow. `valid` says whether it is served.
 fn answer_bare<O: Sink, D: Disk>(
-    outbox: &mut Window,
+    stream: &mut Stream,
     output: &mut O,
     disks: &mut [D],
     shape: Shape,
     ask: &Ask,
-) -> Result<(), Failed>
+    valid: bool,
+    buffer: &mut Vec<u8>,
+)
     requires image { IsImage (map D.seen disks.old) }
     requires shape { IsShape shape (map D.seen disks.old) }
     requires bare { has_data ask.now ≡ false }
-    ensures answers { Answers shape.align shape.size ask.now [] (map D.seen disks.old) (map D.seen disks.new)
-        (O.sent output.old) outbox.old.held (O.sent output.new) outbox.new.held result }
-    ensures cause { HasCause (O.write_faults output.old) (O.write_faults output.new) result }
+    requires valid { valid ≡ is_valid shape.align shape.size ask.now }
+    ensures {
+        Answers shape.align shape.size ask.now [] (map D.seen disks.old) (map D.seen disks.new)
+            (side O.sent O.write_faults output.old) stream.old (side O.sent O.write_faults output.new) stream.new
+    }
 {
-    if !is_served(shape, ask) {
-        return refuse(outbox, output, ask, Errno::Inval);
+    if !valid {
+        refuse(stream, output, ask, Errno::Inval);
+        return;
     }
     if asks_bytes(ask.kind) {
-        answer_read(outbox, output, disks, shape.align, ask)
+        answer_read(stream, output, disks, shape.align, ask, buffer);
     } else {
-        answer_write(outbox, output, disks, shape.align, ask, &[])
+        answer_write(stream, output, disks, shape.align, ask, &[]);
     }
 }
 
-/// Answers a WRITE of some length, whose data were read.
+/// Answers a WRITE of some length, whose data were read. `valid` says whether it is served.
 fn answer_data<O: Sink, D: Disk>(
-    outbox: &mut Window,
+    stream: &mut Stream,
     output: &mut O,
     disks: &mut [D],
     shape: Shape,
     ask: &Ask,
+    valid: bool,
     room: &Room,
-) -> Result<(), Failed>
+)
     requires image { IsImage (map D.seen disks.old) }
     requires shape { IsShape shape (map D.seen disks.old) }
     requires data { has_data ask.now ≡ true }
+    requires valid { valid ≡ is_valid shape.align shape.size ask.now }
     requires room { HasRoom ask.now.length room.now }
-    ensures answers { (body : List ℕ) → IsData body ask.now.length room.now →
+    ensures {
+        (body : List ℕ) → IsData body ask.now.length room.now →
         Answers shape.align shape.size ask.now body (map D.seen disks.old) (map D.seen disks.new)
-        (O.sent output.old) outbox.old.held (O.sent output.new) outbox.new.held result }
-    ensures cause { HasCause (O.write_faults output.old) (O.write_faults output.new) result }
+            (side O.sent O.write_faults output.old) stream.old (side O.sent O.write_faults output.new) stream.new
+    }
 {
-    if !is_served(shape, ask) {
-        return refuse(outbox, output, ask, Errno::Inval);
+    if !valid {
+        refuse(stream, output, ask, Errno::Inval);
+        return;
     }
     match room {
-        Room::Keep(body) => answer_write(outbox, output, disks, shape.align, ask, body.as_slice()),
-        Room::Drop(_) => refuse(outbox, output, ask, Errno::NoMem),
+        Room::Keep(body) => answer_write(stream, output, disks, shape.align, ask, body.as_slice()),
+        Room::Drop(_) => refuse(stream, output, ask, Errno::NoMem),
     }
 }
 
 /// Room for the data of a WRITE: none where it will be refused whatever they are.
-fn choose_room(alloc: Global, spare: &mut Vec<u8>, shape: Shape, ask: &Ask) -> Room
-    requires align { IsAlign shape.align }
-    requires short { ask.now.length ≤ 33554432 }
-    ensures { HasRoom ask.now.length result }
+fn choose_room(alloc: Global, spare: &mut Vec<u8>, size: u64, valid: bool) -> Room
+    requires { size ≤ 33554432 }
+    ensures { HasRoom size result }
 {
-    if is_served(shape, ask) {
-        room_for(alloc, spare, ask.length)
+    if valid {
+        room_for(alloc, spare, size)
     } else {
-        Room::Drop(ask.length)
+        Room::Drop(size)
+    }
+}
+
+/// Keeps the buffer of a WRITE's data for the next one.
+fn keep(spare: &mut Vec<u8>, room: Room) {
+    match room {
+        Room::Keep(body) => *spare = body.into_vec(),
+        Room::Drop(_) => {}
     }
 }
 
@@ -97,33 +114,34 @@ impl Session {
         disks: &mut [D],
         shape: Shape,
         ask: &Ask,
-    ) -> Turn
+        valid: bool,
+    ) -> Result<Turn, Failed>
         requires image { IsImage (map D.seen disks.old) }
         requires shape { IsShape shape (map D.seen disks.old) }
         requires data { has_data ask.now ≡ true }
         requires short { ask.now.length ≤ 33554432 }
+        requires valid { valid ≡ is_valid shape.align shape.size ask.now }
         requires awaits { AwaitsRoom self.old.reader ask.now }
-        ensures finishes { Finishes shape.align shape.size ask.now
-            (record { left = I.left input.old; waiting = self.old.inbox.held; sent = O.sent output.old; held = self.old.outbox.held; disks = map D.seen disks.old })
-            (record { left = I.left input.new; waiting = self.new.inbox.held; sent = O.sent output.new; held = self.new.outbox.held; disks = map D.seen disks.new })
-            self.new.reader result }
-        ensures cause { TurnCause (I.read_faults input.old) (I.read_faults input.new) (O.write_faults output.old) (O.write_faults output.new) result }
-    {
-        let room = choose_room(alloc, &mut self.spare, shape, ask);
-        self.reader.give(room);
-        let room = match self.next_data(input, output) {
-            Brought::Data(room) => room,
-            Brought::Ends(status) => return Turn::Ends(status),
-        };
-        let answered = answer_data(&mut self.outbox, output, disks, shape, ask, &room);
-        keep(&mut self.spare, room);
-        match answered {
-            Ok(()) => Turn::Goes,
-            Err(_) => Turn::Ends(Status::WriteFault),
+        requires ongoing { self.old.stream.state ≡ Open }
+        ensures {
+            Finishes shape.align shape.size ask.now
+                (scene I.left I.read_faults O.sent O.write_faults D.seen input.old output.old self.old.stream disks.old)
+                result self.new.reader
+                (scene I.left I.read_faults O.sent O.write_faults D.seen input.new output.new self.new.stream disks.new)
         }
+    {
+        let room = choose_room(alloc, &mut self.spare, ask.length, valid);
+        self.reader.give(room);
+        let room = match self.next_data(input, output)? {
+            Some(room) => room,
+            None => return Ok(Turn::Ends(Status::Ended(SessionEnd::Truncated))),
+        };
+        answer_data(&mut self.stream, output, disks, shape, ask, valid, &room);
+        keep(&mut self.spare, room);
+        Ok(Turn::Goes)
     }
 
-    /// Reads the next request and answers it.
+    /// Reads the next request and answers it. Where its reply can't be written, the next turn fails.
     pub fn serve_one<I: Source, O: Sink, D: Disk>(
         &mut self,
         alloc: Global,
@@ -131,34 +149,26 @@ impl Session {
         output: &mut O,
         disks: &mut [D],
         shape: Shape,
-    ) -> Turn
+    ) -> Result<Turn, Failed>
         requires image { IsImage (map D.seen disks.old) }
         requires shape { IsShape shape (map D.seen disks.old) }
         requires between { self.old.reader ≡ between }
-        ensures turns { TakesTurn shape.align shape.size
-            (record { left = I.left input.old; waiting = self.old.inbox.held; sent = O.sent output.old; held = self.old.outbox.held; disks = map D.seen disks.old })
-            (record { left = I.left input.new; waiting = self.new.inbox.held; sent = O.sent output.new; held = self.new.outbox.held; disks = map D.seen disks.new })
-            self.new.reader result }
-        ensures cause { TurnCause (I.read_faults input.old) (I.read_faults input.new) (O.write_faults output.old) (O.write_faults output.new) result }
+        ensures {
+            TakesTurn shape.align shape.size
+                (scene I.left I.read_faults O.sent O.write_faults D.seen input.old output.old self.old.stream disks.old)
+                result self.new.reader
+                (scene I.left I.read_faults O.sent O.write_faults D.seen input.new output.new self.new.stream disks.new)
+        }
     {
-        let ask = match self.next_ask(input, output) {
+        let ask = match self.next_ask(input, output)? {
             Came::Asked(ask) => ask,
-            Came::Ends(status) => return Turn::Ends(status),
+            Came::Ends(status) => return Ok(Turn::Ends(status)),
         };
+        let valid = is_served(shape, &ask);
         if data_follow(&ask) {
-            return self.serve_data(alloc, input, output, disks, shape, &ask);
+            return self.serve_data(alloc, input, output, disks, shape, &ask, valid);
         }
-        match answer_bare(&mut self.outbox, output, disks, shape, &ask) {
-            Ok(()) => Turn::Goes,
-            Err(_) => Turn::Ends(Status::WriteFault),
-        }
-    }
-}
-
-/// Keeps the buffer of a WRITE's data for the next one.
-fn keep(spare: &mut Vec<u8>, room: Room) {
-    match room {
-        Room::Keep(body) => *spare = body.into_vec(),
-        Room::Drop(_) => {}
+        answer_bare(&mut self.stream, output, disks, shape, &ask, valid, &mut self.read);
+        Ok(Turn::Goes)
     }
 }

@@ -1,22 +1,24 @@
-ghost use Rattle.std.specs.Prelude.{◌≡◌, ◌≤◌, false, [], IfOk};
-ghost use Rattle.qs_nbd_transmission.specs.Phases.{InHead};
-ghost use Rattle.qs_stdio.specs.Turns.{Asking, Bringing, BroughtCause, CameCause, HasRoom, IsFilling, IsNew, status_at};
+ghost use Rattle.std.specs.Prelude.{◌≡◌, ◌≤◌, ◌<◌, [], IfOk};
+ghost use Rattle.qs_stream.specs.Buffers.{new_buffers};
+ghost use Rattle.qs_stream.specs.declared.state.State.TheVariants.{Open};
+ghost use Rattle.qs_stream.specs.Flows.{flow};
+ghost use Rattle.qs_stdio.specs.Turns.{Asking, Bringing, HasRoom, IsFilling, between, status_at};
 
-use crate::event::{Next, next_event};
-use crate::window::Window;
+use crate::event::next_event;
 use qs_bytes::{Ask, Bytes, Memory, Mode, SessionEnd, Status};
 use qs_nbd_transmission::{Room, Transmission, WireEvent};
-use qs_outside::{Sink, Source};
+use qs_outside::{Failed, Sink, Source};
+use qs_stream::Stream;
 use std::alloc::Global;
 use std::mem;
 
-/// One client's session: the reader of its requests, the bytes that were read and wait, the replies
-/// that wait to be written, and a buffer that the data of each WRITE are read into.
+/// One client's session: the reader of its requests, the bytes that wait to be taken and to be
+/// written, a buffer for the bytes of a READ, and one that the data of each WRITE are read into.
 #[derive(Debug, Drop)]
 pub struct Session {
     pub reader: Transmission,
-    pub inbox: Window,
-    pub outbox: Window,
+    pub stream: Stream,
+    pub read: Vec<u8>,
     pub spare: Vec<u8>,
 }
 
@@ -24,13 +26,6 @@ pub struct Session {
 #[derive(Debug, Drop)]
 pub enum Came {
     Asked(Ask),
-    Ends(Status),
-}
-
-/// A WRITE's data, in the room that was given, or how the session ended.
-#[derive(Debug, Drop)]
-pub enum Brought {
-    Data(Room),
     Ends(Status),
 }
 
@@ -60,7 +55,7 @@ pub fn room_for(alloc: Global, spare: &mut Vec<u8>, size: u64) -> Room
 impl Session {
     /// A session whose first request is awaited.
     pub fn new(alloc: Global) -> Result<Self, Memory>
-        ensures { IfOk result (λ s. IsNew s.reader s.inbox.held s.outbox.held) }
+        ensures { IfOk result (λ s. (s.reader ≡ between) × (s.stream ≡ new_buffers)) }
     {
         let mode = Mode {
             no_zeroes: false,
@@ -68,55 +63,52 @@ impl Session {
         };
         Ok(Session {
             reader: Transmission::new(mode),
-            inbox: Window::new(alloc)?,
-            outbox: Window::new(alloc)?,
+            stream: Stream::new(alloc)?,
+            read: Vec::new(alloc),
             spare: Vec::new(alloc),
         })
     }
 
     /// The next request, between requests.
-    pub fn next_ask<I: Source, O: Sink>(&mut self, input: &mut I, output: &mut O) -> Came
-        requires between { self.old.reader ≡ record { structured = false; phase = InHead [] } }
-        ensures asks { Asking (I.left input.old) self.old.inbox.held (I.left input.new) self.new.inbox.held
-            (O.sent output.old) self.old.outbox.held (O.sent output.new) self.new.outbox.held self.new.reader result }
-        ensures cause { CameCause (I.read_faults input.old) (I.read_faults input.new) (O.write_faults output.old) (O.write_faults output.new) result }
+    pub fn next_ask<I: Source, O: Sink>(
+        &mut self,
+        input: &mut I,
+        output: &mut O,
+    ) -> Result<Came, Failed>
+        requires between { self.old.reader ≡ between }
+        ensures {
+            Asking (flow I.left I.read_faults O.sent O.write_faults input.old output.old self.old.stream) result
+                self.new.reader (flow I.left I.read_faults O.sent O.write_faults input.new output.new self.new.stream)
+        }
     {
-        match next_event(
-            &mut self.reader,
-            &mut self.inbox,
-            &mut self.outbox,
-            input,
-            output,
-        ) {
-            Next::Event(WireEvent::Head(ask)) => Came::Asked(ask),
-            Next::Event(WireEvent::Disc) => Came::Ends(Status::Done),
-            Next::Event(WireEvent::Bad(end)) => Came::Ends(Status::Ended(end)),
-            Next::Event(WireEvent::Body(_)) => unreachable!(),
-            Next::End => Came::Ends(status_of(self.reader.at_end())),
-            Next::ReadFault => Came::Ends(Status::ReadFault),
-            Next::WriteFault => Came::Ends(Status::WriteFault),
+        self.stream.check()?;
+        match next_event(&mut self.reader, &mut self.stream, input, output)? {
+            Some(WireEvent::Head(ask)) => Ok(Came::Asked(ask)),
+            Some(WireEvent::Disc) => Ok(Came::Ends(Status::Done)),
+            Some(WireEvent::Bad(end)) => Ok(Came::Ends(Status::Ended(end))),
+            Some(WireEvent::Body(_)) => unreachable!(),
+            None => Ok(Came::Ends(status_of(self.reader.at_end()))),
         }
     }
 
-    /// The data of a WRITE, once room was given for them.
-    pub fn next_data<I: Source, O: Sink>(&mut self, input: &mut I, output: &mut O) -> Brought
+    /// The data of a WRITE, once room was given for them, in that room; `None` where the input ends
+    /// before their end.
+    pub fn next_data<I: Source, O: Sink>(
+        &mut self,
+        input: &mut I,
+        output: &mut O,
+    ) -> Result<Option<Room>, Failed>
         requires filling { IsFilling self.old.reader.phase }
-        ensures brings { Bringing self.old.reader (I.left input.old) self.old.inbox.held (I.left input.new) self.new.inbox.held
-            (O.sent output.old) self.old.outbox.held (O.sent output.new) self.new.outbox.held self.new.reader result }
-        ensures cause { BroughtCause (I.read_faults input.old) (I.read_faults input.new) (O.write_faults output.old) (O.write_faults output.new) result }
+        requires ongoing { self.old.stream.state ≡ Open }
+        ensures {
+            Bringing self.old.reader (flow I.left I.read_faults O.sent O.write_faults input.old output.old self.old.stream) result
+                self.new.reader (flow I.left I.read_faults O.sent O.write_faults input.new output.new self.new.stream)
+        }
     {
-        match next_event(
-            &mut self.reader,
-            &mut self.inbox,
-            &mut self.outbox,
-            input,
-            output,
-        ) {
-            Next::Event(WireEvent::Body(room)) => Brought::Data(room),
-            Next::Event(_) => unreachable!(),
-            Next::End => Brought::Ends(status_of(self.reader.at_end())),
-            Next::ReadFault => Brought::Ends(Status::ReadFault),
-            Next::WriteFault => Brought::Ends(Status::WriteFault),
+        match next_event(&mut self.reader, &mut self.stream, input, output)? {
+            Some(WireEvent::Body(room)) => Ok(Some(room)),
+            Some(_) => unreachable!(),
+            None => Ok(None),
         }
     }
 }

@@ -96,6 +96,8 @@ pub fn flush<O: Sink>(outbox: &mut Outbox, output: &mut O) -> Result<(), Failed>
 /// Puts bytes behind those that wait. Where there is no room, what waits is written before, and so are
 /// the bytes themselves where they are more than there is ever room for.
 pub fn send<O: Sink>(outbox: &mut Outbox, output: &mut O, bytes: &[u8]) -> Result<(), Failed>
+    requires { length outbox.old ≤ 65536 }
+    ensures few { length outbox.new ≤ 65536 }
     ensures sends { Sends (O.sent output.old) outbox.old bytes.now result (O.sent output.new) outbox.new }
     ensures counts { Counts (O.write_faults output.old) (O.write_faults output.new) result }
 {

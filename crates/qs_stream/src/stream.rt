@@ -22,11 +22,14 @@ pub struct Stream {
 }
 
 impl Model for Stream {
+    ghost use Rattle.std.specs.Prelude.{◌≤◌, length};
     ghost use Rattle.qs_stream.specs.Buffers.{Buffers};
 
     ghost Value = { Buffers };
 
     ghost view = { λ s. record { waiting = s.inbox; held = s.outbox; state = s.state } };
+
+    ghost invariant = { λ s. length s.outbox ≤ 65536 };
 }
 
 impl Stream {
@@ -77,7 +80,8 @@ impl Stream {
     /// before are written first. A fault is kept, and told by the calls that follow: what was put and
     /// not written is then lost.
     pub fn put<O: Sink>(&mut self, output: &mut O, bytes: &[u8])
-        ensures { Puts bytes.now (side O.sent O.write_faults output.old) self.old (side O.sent O.write_faults output.new) self.new }
+        ensures few { length self.new.held ≤ 65536 }
+        ensures puts { Puts bytes.now (side O.sent O.write_faults output.old) self.old (side O.sent O.write_faults output.new) self.new }
     {
         match self.check() {
             Ok(()) => {}
@@ -107,14 +111,12 @@ impl Stream {
 
     /// Reads more, once, where nothing waits, and answers how many bytes came; none are the input's
     /// end. All that waits to be written is written before, since reading may wait.
-    pub fn fill<I: Source, O: Sink>(
-        &mut self,
-        input: &mut I,
-        output: &mut O,
-    ) -> Result<usize, Failed>
+    pub fn fill<I: Source, O: Sink>(&mut self, input: &mut I, output: &mut O) -> Result<usize, Failed>
         requires { self.old.waiting ≡ [] }
-        ensures { Fills (flow I.left I.read_faults O.sent O.write_faults input.old output.old self.old) result
-            (flow I.left I.read_faults O.sent O.write_faults input.new output.new self.new) }
+        ensures {
+            Fills (flow I.left I.read_faults O.sent O.write_faults input.old output.old self.old) result
+                (flow I.left I.read_faults O.sent O.write_faults input.new output.new self.new)
+        }
     {
         self.flush(output)?;
         match self.inbox.fill(input) {

@@ -1,24 +1,25 @@
 -- Each way on from what was sought so far.
-use Rattle.std.proofs.Common.{[], arith}
-use Rattle.qs_stdio.proofs.Sought.{seeks_end, seeks_write_fault, seeks_event, sought_more}
+use Rattle.qs_stdio.proofs.Sought.{seeks_first, sought_first, seeks_fault, seeks_end, seeks_event, sought_more}
 use Rattle.qs_stdio.proofs.event.next_event.Goals as goal
 
-pub returns-in-End-clause-seeks : goal.returns-in-End-clause-seeks
-returns-in-End-clause-seeks g c =
-    seeks_end _ _ c.pieces.reader _ _ _ _ _ [] _ _ _ _ _ _ c.pieces.invariant.sought c.in-End.ensures.refills.0 c.in-End.ensures.refills.3 c.in-End.ensures.refills.2 c.in-End.ensures.refills.1
+pub returns-in-Some : goal.returns-in-Some
+returns-in-Some g c = seeks_first _ _ _ c.feed.new.stream c.requires.ongoing c.feed.ensures.others c.in-Some.event c.in-Some.ensures.feeds
 
-pub returns-in-WriteFault-clause-seeks : goal.returns-in-WriteFault-clause-seeks
-returns-in-WriteFault-clause-seeks g c =
-    seeks_write_fault _ _ c.pieces.reader _ _ _ _ _ [] _ _ _ _ _ _ c.pieces.invariant.sought c.in-WriteFault.ensures.refills.0 c.in-WriteFault.ensures.refills.2
+pub pieces-init : goal.pieces-init
+pieces-init g c = sought_first _ _ _ c.feed.new.stream c.requires.ongoing c.feed.ensures.others c.in-None.ensures.feeds
 
-pub returns-in-Some-feed-clause-seeks : goal.returns-in-Some-feed-clause-seeks
-returns-in-Some-feed-clause-seeks g c =
-    seeks_event _ _ _ _ _ _ _ _ _ _ _ _ _ _ _ c.pieces.invariant.sought c.in-More.ensures.refills.0 c.in-More.ensures.refills.2 c.in-Some-feed.event c.in-Some-feed.ensures
+pub returns-in_err-fill : goal.returns-in_err-fill
+returns-in_err-fill g c = seeks_fault _ _ c.pieces.reader _ _ _ c.pieces.invariant _ _ _ c.from_residual.ensures.1 c.in_err-fill.ensures
+
+pub returns-then-branch-eq0 : goal.returns-then-branch-eq0
+returns-then-branch-eq0 g c = seeks_end _ _ c.pieces.reader _ _ _ c.pieces.invariant c.in_ok-fill.field-0 c.if-branch-eq0.true c.in_ok-fill.ensures
+
+pub returns-in-Some-feed : goal.returns-in-Some-feed
+returns-in-Some-feed g c =
+    seeks_event _ _ _ _ _ _ c.pieces.invariant c.feed-in-pieces.new.stream c.in_ok-fill.field-0 c.in_ok-fill.ensures c.in-Some-feed.ensures.others
+    c.in-Some-feed.event c.in-Some-feed.ensures.feeds
 
 pub pieces-preserved : goal.pieces-preserved
-pieces-preserved g c = record {
-  sought = sought_more _ _ _ _ _ _ _ _ _ _ _ _ _ _ _ c.pieces.invariant.sought c.in-More.ensures.refills.0 c.in-More.ensures.refills.2 c.in-None-feed.ensures;
-  empty = c.in-None-feed.ensures.whole;
-  read_later = omega (arith, c.pieces.invariant.read_later, c.in-More.ensures.cause.read_later);
-  write_later = omega (arith, c.pieces.invariant.write_later, c.in-More.ensures.cause.write_later);
-}
+pieces-preserved g c =
+    sought_more _ _ _ _ _ _ c.pieces.invariant c.feed-in-pieces.new.stream c.in_ok-fill.field-0 c.in_ok-fill.ensures c.in-None-feed.ensures.others
+    c.in-None-feed.ensures.feeds

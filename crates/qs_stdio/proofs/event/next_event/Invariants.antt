@@ -1,17 +1,14 @@
 -- What was taken so far brought no event, and all of it was taken.
-use Rattle.std.proofs.Common.{◌≡◌, ◌≤◌, []}
 use Rattle.qs_nbd_transmission.specs.Phases.{need}
+use Rattle.qs_stream.specs.Flows.{flow}
 use Rattle.qs_stdio.proofs.Sought.{Sought}
 use Rattle.qs_stdio.proofs.event.next_event.Given as goal
 
 abbrev pub invariant-pieces : goal.invariant-pieces
-invariant-pieces g l = record {
-  sought : Sought l.fn.reader l.reader (g.I.Source.left l.fn.input) l.fn.inbox.held (g.I.Source.left l.input)
-      (g.O.Sink.sent l.fn.output) l.fn.outbox.held (g.O.Sink.sent l.output) l.outbox.held;
-  empty : l.inbox.held ≡ [];
-  read_later : g.I.Source.read_faults l.fn.input ≤ g.I.Source.read_faults l.input;
-  write_later : g.O.Sink.write_faults l.fn.output ≤ g.O.Sink.write_faults l.output;
-}
+invariant-pieces g l =
+    Sought l.fn.reader l.reader
+    (flow g.I.Source.left g.I.Source.read_faults g.O.Sink.sent g.O.Sink.write_faults l.fn.input l.fn.output l.fn.stream)
+    (flow g.I.Source.left g.I.Source.read_faults g.O.Sink.sent g.O.Sink.write_faults l.input l.output l.stream)
 
 abbrev pub decreases-pieces : goal.decreases-pieces
 decreases-pieces g l = need l.reader.phase

@@ -2,10 +2,7 @@
 use Rattle.std.proofs.Common.{refl, []}
 use Rattle.qs_bytes.specs.declared.ask.Errno.TheVariants.{Inval}
 use Rattle.qs_stdio.proofs.Answering.{refused}
-use Rattle.qs_stdio.proofs.Flows.{gives_none}
 use Rattle.qs_stdio.proofs.serve.answer_bare.Goals as goal
 
-pub returns-then-not-is_served-clause-answers : goal.returns-then-not-is_served-clause-answers
-returns-then-not-is_served-clause-answers g c =
-    refused c.args.shape.align c.args.shape.size c.args.ask.now [] Inval _ _ _ _ _ _ _ c.refuse.result
-    (cc) refl (λ e. cc) (λ content. refl) (gives_none _ _) c.refuse.ensures.ok c.refuse.ensures.err
+pub returns-then-not-valid : goal.returns-then-not-valid
+returns-then-not-valid g c = refused _ _ c.args.ask.now [] Inval _ _ _ _ _ (cc) refl (λ e. cc) (λ content. refl) c.refuse.ensures

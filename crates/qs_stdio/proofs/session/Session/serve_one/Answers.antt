@@ -1,55 +1,38 @@
 -- A request came: one turn with its data, or without.
 use Rattle.std.proofs.Common.{[], refl, sym, ◌∙◌, false}
-use Rattle.std.specs.Prelude.{map}
 use Rattle.qs_nbd_transmission.proofs.Reading.{asks_room}
-use Rattle.qs_stdio.proofs.Flows.{gives_on, takes_none}
-use Rattle.qs_stdio.proofs.Turning.{exchanged, finished, answered_after, ready}
+use Rattle.qs_outside.specs.declared.stream.Failed.{Failed}
+use Rattle.qs_stream.specs.Flows.{Flow, flow}
+use Rattle.qs_stream.proofs.Moves.{moved_none}
+use Rattle.qs_stdio.specs.Scenes.{Scene, scene}
+use Rattle.qs_stdio.proofs.Turning.{answered_in, exchanged, finished, ready, request_came}
 use Rattle.qs_stdio.proofs.session.Session.serve_one.Goals as goal
 
-pub returns-then-data_follow-clause-turns : goal.returns-then-data_follow-clause-turns
-returns-then-data_follow-clause-turns g c =
-    let asks = c.in-Asked.ensures.asks in
+pub returns-then-data_follow : goal.returns-then-data_follow
+returns-then-data_follow g c =
+    let asks = c.in_ok-ask.ensures in
+    let comes = request_came Failed asks.taken _ c.in-Asked.ask c.next_ask.new.self.reader
+    (flow g.I.Source.left g.I.Source.read_faults g.O.Sink.sent g.O.Sink.write_faults c.next_ask.new.input c.next_ask.new.output c.next_ask.new.self.stream)
+    c.in-Asked.is asks.comes in
     finished c.args.shape.align c.args.shape.size _
-    (record {
-      left = g.I.Source.left c.next_ask.new.input;
-      waiting = c.next_ask.new.self.inbox.held;
-      sent = g.O.Sink.sent c.next_ask.new.output;
-      held = c.next_ask.new.self.outbox.held;
-      disks = map g.D.Disk.seen c.args.disks.now;
-    })
-    _ asks.taken c.in-Asked.ask _ _ c.serve_data.result asks.comes.0 (sym c.data_follow.ensures ∙ c.if-data_follow.true)
-    (record { takes = asks.takes; gives = asks.gives }) refl c.serve_data.ensures.finishes
+    (flow g.I.Source.left g.I.Source.read_faults g.O.Sink.sent g.O.Sink.write_faults c.next_ask.new.input c.next_ask.new.output c.next_ask.new.self.stream)
+    _ asks.taken c.in-Asked.ask _ _ comes.0 (sym c.data_follow.ensures ∙ c.if-data_follow.true) asks.moved c.serve_data.result c.serve_data.ensures
 
-pub returns-in-Ok-clause-turns : goal.returns-in-Ok-clause-turns
-returns-in-Ok-clause-turns g c =
-    let asks = c.in-Asked.ensures.asks in
+pub returns : goal.returns
+returns g c =
+    let asks = c.in_ok-ask.ensures in
+    let comes = request_came Failed asks.taken _ c.in-Asked.ask c.next_ask.new.self.reader
+    (flow g.I.Source.left g.I.Source.read_faults g.O.Sink.sent g.O.Sink.write_faults c.next_ask.new.input c.next_ask.new.output c.next_ask.new.self.stream)
+    c.in-Asked.is asks.comes in
     let bare = sym c.data_follow.ensures ∙ c.if-data_follow.false in
+    let mid : Flow =
+    flow g.I.Source.left g.I.Source.read_faults g.O.Sink.sent g.O.Sink.write_faults c.next_ask.new.input c.next_ask.new.output c.next_ask.new.self.stream in
+    let here : Scene =
+    scene g.I.Source.left g.I.Source.read_faults g.O.Sink.sent g.O.Sink.write_faults g.D.Disk.seen c.next_ask.new.input c.next_ask.new.output c.next_ask.new.self.stream c.args.disks.now in
     let one = exchanged c.args.shape.align c.args.shape.size
-    (record {
-      left = g.I.Source.left c.args.input.now;
-      waiting = c.args.self.now.inbox.held;
-      sent = g.O.Sink.sent c.args.output.now;
-      held = c.args.self.now.outbox.held;
-      disks = map g.D.Disk.seen c.args.disks.now;
-    })
-    (record {
-      left = g.I.Source.left c.next_ask.new.input;
-      waiting = c.next_ask.new.self.inbox.held;
-      sent = g.O.Sink.sent c.answer_bare.new.output;
-      held = c.answer_bare.new.outbox.held;
-      disks = map g.D.Disk.seen c.answer_bare.new.disks;
-    })
-    asks.taken [] c.in-Asked.ask _ _ _ false asks.comes.0 bare refl asks.takes (takes_none _ _)
-    (answered_after _ _ _ [] _ _ _ _ _ _ _ _ asks.gives c.in-Ok.ensures.answers) in
-    (one.0, (one.1, ready c.next_ask.new.self.reader asks.comes.1 (asks_room.none false asks.taken c.in-Asked.ask _ asks.comes.0 bare)))
-
-pub returns-in-Err-clause-turns : goal.returns-in-Err-clause-turns
-returns-in-Err-clause-turns g c =
-    let asks = c.in-Asked.ensures.asks in
-    let failed = c.in-Err.ensures.answers in
-    record {
-      rest = asks.taken;
-      moves = record { takes = asks.takes; gives = gives_on _ _ _ _ _ _ [] [] asks.gives failed.1 };
-      disks = failed.0;
-      ends = tt;
-    }
+    (scene g.I.Source.left g.I.Source.read_faults g.O.Sink.sent g.O.Sink.write_faults g.D.Disk.seen c.args.input.now c.args.output.now c.args.self.now.stream c.args.disks.now)
+    mid
+    (scene g.I.Source.left g.I.Source.read_faults g.O.Sink.sent g.O.Sink.write_faults g.D.Disk.seen c.next_ask.new.input c.answer_bare.new.output c.answer_bare.new.stream c.answer_bare.new.disks)
+    asks.taken [] c.in-Asked.ask _ false comes.0 bare refl asks.moved
+    (answered_in _ _ c.in-Asked.ask [] here mid _ _ _ (moved_none mid) c.answer_bare.ensures) in
+    (one.0, (one.1, ready c.next_ask.new.self.reader comes.1 (asks_room.none false asks.taken c.in-Asked.ask _ comes.0 bare)))

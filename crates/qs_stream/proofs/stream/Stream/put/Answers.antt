@@ -2,5 +2,5 @@
 use Rattle.qs_stream.proofs.Calls.{puts_lost}
 use Rattle.qs_stream.proofs.stream.Stream.put.Goals as goal
 
-pub returns-in-Err : goal.returns-in-Err
-returns-in-Err g c = puts_lost _ _ c.args.bytes.now c.in-Err.ensures
+pub returns-in-Err-clause-puts : goal.returns-in-Err-clause-puts
+returns-in-Err-clause-puts g c = puts_lost _ _ c.args.bytes.now c.in-Err.ensures
