@@ -8,7 +8,7 @@ use Rattle.qs_part.specs.declared.event.Event.TheVariants.{Attach, Leave, Ask as
 use Rattle.qs_model.specs.Puts.{put}
 use Rattle.qs_model.specs.Requests.{Client, Pads, Req, Stage}
 use Rattle.qs_model.specs.Worlds.{World, stripe_of}
-use Rattle.qs_model.specs.Acts.{Act, Stores, StoreFails, Element, Attached, NoExport, Crowded, Left, Detached, NotAttached, Asked, Did, Exported, Planned, Crashed}
+use Rattle.qs_model.specs.Acts.{Act, Stores, StoreFails, Element, Attached, NoExport, Crowded, Left, Detached, NotAttached, Asked, Did, Planned, Crashed}
 use Rattle.qs_model.specs.Guards.{May, CanAsk}
 use Rattle.qs_model.specs.Steps.{happens}
 use Rattle.qs_model.specs.Events.{outcome_of}

@@ -1,6 +1,6 @@
 -- Two cores that are opened over disks that are alike are twins.
 use Rattle.std.proofs.Common.{◌≡◌, ◌<◌, ℕ, zero, suc, List, [], ◌∷◌, length, map, Bool, true, false, ◌&&◌, refl, sym, subst, ap, ◌∙◌, arith, codes}
-use Rattle.std.specs.Prelude.{Option, Some, IsTrue, position}
+use Rattle.std.specs.Prelude.{Some, IsTrue, position}
 use Rattle.std.proofs.lemmas.List.{length-map}
 use Rattle.qs_outside.specs.Blocks.{Seen}
 use Rattle.qs_part.specs.declared.graph.GraphOp.{GraphOp}

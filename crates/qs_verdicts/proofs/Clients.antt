@@ -1,5 +1,5 @@
 -- The clients of an export are exactly the sessions that are attached to it, each once.
-use Rattle.std.proofs.Common.{◌≡◌, ◌≢◌, ◌↔◌, ℕ, ◌⊎◌, inl, inr, Bool, true, false, cond, ◌==◌, List, [], ◌∷◌, ◌++◌, Option, Some, None, refl, sym, ap, ◌∙◌, subst, arith, append-nil, append_assoc}
+use Rattle.std.proofs.Common.{◌≡◌, ◌≢◌, ℕ, ◌⊎◌, inl, inr, Bool, true, false, cond, ◌==◌, List, [], ◌∷◌, ◌++◌, Option, Some, None, refl, sym, ap, ◌∙◌, subst, arith, append-nil, append_assoc}
 use Rattle.qs_part.specs.declared.graph.ExportInfo.{ExportInfo}
 use Rattle.qs_model.specs.Puts.{put, without}
 use Rattle.qs_model.specs.Laws.{opening}
@@ -7,7 +7,7 @@ use Rattle.qs_model.specs.Worlds.{Session, Away, Live, Leaving, World, Opening}
 use Rattle.qs_model.specs.Acts.{Element, Attached, NoExport, Crowded, Left, Detached, NotAttached, Asked, Did, Exported, Planned, Crashed}
 use Rattle.qs_model.specs.Guards.{May}
 use Rattle.qs_model.specs.Steps.{happens, after, Runs}
-use Rattle.qs_model.proofs.Basics.{put_cases, same_or}
+use Rattle.qs_model.proofs.Basics.{put_cases}
 use Rattle.qs_verdicts.specs.Traces.{attached, attached_step}
 use Rattle.qs_verdicts.specs.Kept.{IsAmong, IsOnce}
 use Rattle.qs_verdicts.proofs.Folds.{attached_more, if_other, if_same}

@@ -1,9 +1,9 @@
 -- Stories and traces, one step longer.
-use Rattle.std.proofs.Common.{◌≡◌, ◌≢◌, ℕ, ◌⊎◌, inl, inr, Bool, true, false, cond, ◌==◌, List, [], ◌∷◌, ◌++◌, Option, Some, None, refl, sym, ap, ◌∙◌, subst, arith, eq-eqb, ne_eqb}
+use Rattle.std.proofs.Common.{◌≡◌, ◌≢◌, ℕ, inl, inr, Bool, cond, ◌==◌, List, [], ◌∷◌, ◌++◌, Option, refl, ap, eq-eqb, ne_eqb}
 use Rattle.qs_model.specs.Requests.{Client}
 use Rattle.qs_model.specs.Acts.{Element, Attached, NoExport, Crowded, Left, Detached, NotAttached, Asked, Did, Exported, Planned, Crashed}
-use Rattle.qs_verdicts.specs.Stories.{Story, told, told_from, told_step}
-use Rattle.qs_verdicts.specs.Traces.{Trace, attached, attached_from, attached_step, blank, traced, traced_from, traced_step}
+use Rattle.qs_verdicts.specs.Stories.{Story, told_from, told_step}
+use Rattle.qs_verdicts.specs.Traces.{Trace, attached_from, attached_step, traced_from, traced_step}
 use Rattle.qs_verdicts.specs.Verdicts.{WasAskedAs}
 
 pub told_more : (A r : ℕ) (o : Option Story) (before : List Element) (e : Element) → told_from A r o (before ++ e ∷ []) ≡ told_step A r (told_from A r o before) e

@@ -1,22 +1,21 @@
 -- What holds at every position of a run.
-use Rattle.std.proofs.Common.{◌≡◌, ◌≢◌, ◌↔◌, ℕ, ◌<◌, inl, inr, Bool, true, false, ◌&&◌, ◌==◌, List, [], ◌∷◌, Option, Some, None, IsTrue, refl, sym, ap, ◌∙◌, subst, arith, true≢false}
+use Rattle.std.proofs.Common.{◌≡◌, ℕ, ◌<◌, Bool, true, false, ◌&&◌, ◌==◌, List, [], None, refl, sym, ap, ◌∙◌, subst, arith, true≢false}
 use Rattle.qs_part.specs.declared.stripe.Side.{Side}
 use Rattle.qs_part.specs.declared.stripe.Side.TheVariants.{Head, Tail}
-use Rattle.qs_tracker.specs.declared.seat.Listing.{Listing}
-use Rattle.qs_tracker.specs.declared.seat.Seat.TheVariants.{Present, Has}
+use Rattle.qs_tracker.specs.declared.seat.Seat.TheVariants.{Present}
 use Rattle.qs_tracker.specs.Seats.{seat_at}
 use Rattle.qs_tracker.specs.Table.{TrackerValue}
-use Rattle.qs_model.specs.Requests.{Client, Req, Step, Stage, ToRoute, ToList, ToStart, ToLoad, ToHold, ToStore, ToFree, ToEnd, Ready, Entering, In, edge, has, pad, serial}
+use Rattle.qs_model.specs.Requests.{Client, Req, Step, Stage, ToRoute, ToList, ToStart, ToLoad, ToHold, ToStore, ToFree, ToEnd, Ready, Entering, In, edge, has, serial}
 use Rattle.qs_model.specs.Worlds.{Hold, World}
 use Rattle.qs_model.specs.Acts.{Element}
-use Rattle.qs_model.specs.Laws.{Begins, InFlight}
+use Rattle.qs_model.specs.Laws.{InFlight}
 use Rattle.qs_model.specs.Steps.{Runs, after}
 use Rattle.qs_model.proofs.Between.{placed}
 use Rattle.qs_model.proofs.Facts.{Goes, Held, IsHolder, IsOpen, Keeps, Ok, Owner, Seated, Seats, Shaped, Sits, Well}
 use Rattle.qs_model.proofs.Geometry.{has_serial, same_eqb}
 use Rattle.qs_model.proofs.Holders.{some_none}
 use Rattle.qs_model.proofs.Kept.{front_run, run_ok}
-use Rattle.qs_verdicts.specs.Kept.{AlwaysKept, HasHold, IsAtBlocks, IsHolding, IsSpanOf, Kept}
+use Rattle.qs_verdicts.specs.Kept.{AlwaysKept, HasHold, IsAtBlocks, IsHolding, Kept}
 use Rattle.qs_verdicts.specs.Traces.{Trace, kept, traced}
 use Rattle.qs_verdicts.proofs.Clients.{AreClients, run_clients}
 use Rattle.qs_verdicts.proofs.Traces.{AllTraced, run_traced}

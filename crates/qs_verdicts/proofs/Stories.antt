@@ -1,12 +1,10 @@
 -- Every run keeps what is told of its requests' stories.
-use Rattle.std.proofs.Common.{◌≡◌, ◌≢◌, ℕ, ◌<◌, ◌⊎◌, inl, inr, Bool, true, false, cond, ◌==◌, List, [], ◌∷◌, ◌++◌, Option, Some, None, refl, sym, ap, ◌∙◌, subst, true≢false, append-nil, append_assoc}
-use Rattle.qs_bytes.specs.declared.ask.Verdict.TheVariants.{Refused}
-use Rattle.qs_bytes.specs.declared.ask.Errno.TheVariants.{NoMem, Inval}
-use Rattle.qs_model.specs.Requests.{Client, Pads, Req, Stage, Ready, Entering, form_error, no_route, asked, abandon}
+use Rattle.std.proofs.Common.{◌≡◌, ℕ, ◌<◌, inl, inr, Bool, true, false, cond, ◌==◌, List, [], ◌∷◌, ◌++◌, Option, Some, None, refl, sym, ap, ◌∙◌, subst, true≢false, append-nil, append_assoc}
+use Rattle.qs_model.specs.Requests.{Client, Req, Stage, form_error, no_route, asked, abandon}
 use Rattle.qs_model.specs.Worlds.{World}
 use Rattle.qs_part.specs.declared.graph.Route.{Route}
 use Rattle.qs_model.specs.Acts.{Act, Routes, Shuts, Lists, Loads, LoadFails, Holds, HoldFails, Stores, StoreFails, Frees, Element, Attached, NoExport, Crowded, Left, Detached, NotAttached, Asked, Did, Exported, Planned, Crashed}
-use Rattle.qs_model.specs.Guards.{MayDo, May, CanAsk}
+use Rattle.qs_model.specs.Guards.{MayDo, May}
 use Rattle.qs_model.specs.Steps.{moved, leaves, happens, after, Runs}
 use Rattle.qs_model.specs.Laws.{Begins}
 use Rattle.qs_model.proofs.Basics.{choose, put_tells}
@@ -15,7 +13,7 @@ use Rattle.qs_model.proofs.Holders.{some_none}
 use Rattle.qs_model.proofs.Kept.{for_moved, front_run, step_ok}
 use Rattle.qs_model.proofs.Machine.{ForMoved}
 use Rattle.qs_verdicts.specs.Stories.{Story, Unknown, begun, sent, told, told_row, told_step}
-use Rattle.qs_verdicts.specs.Verdicts.{WasAskedAs, is_malformed}
+use Rattle.qs_verdicts.specs.Verdicts.{WasAskedAs}
 use Rattle.qs_verdicts.proofs.Folds.{asked_more, asked_now, if_other, if_same, told_more}
 use Rattle.qs_verdicts.proofs.Lines.{bad_reply, no_room_reply}
 use Rattle.qs_verdicts.proofs.Telling.{IsSteady, Stands, left_at, left_steady, row_at, row_steady}

@@ -1,13 +1,13 @@
 -- Each step keeps what is told of a request's story.
-use Rattle.std.proofs.Common.{◌≡◌, ◌≢◌, ℕ, ◌+◌, ◌<◌, ◌⊎◌, inl, inr, Bool, true, false, not, ◌&&◌, ◌||◌, ◌==◌, cond, nat_lt, List, [], ◌∷◌, ◌++◌, Option, Some, None, refl, sym, ap, ◌∙◌, subst, true≢false}
+use Rattle.std.proofs.Common.{◌≡◌, ℕ, ◌+◌, ◌⊎◌, inl, inr, Bool, true, false, not, ◌&&◌, ◌||◌, ◌==◌, cond, nat_lt, List, [], ◌++◌, Some, refl, sym, ap, ◌∙◌, true≢false}
 use Rattle.qs_bytes.specs.declared.ask.Ask.{Ask}
 use Rattle.qs_bytes.specs.declared.ask.Verdict.{Verdict}
-use Rattle.qs_bytes.specs.declared.ask.Verdict.TheVariants.{Got, Fine, Refused, Dropped}
-use Rattle.qs_bytes.specs.declared.ask.Errno.TheVariants.{Io, NoMem, Inval}
+use Rattle.qs_bytes.specs.declared.ask.Verdict.TheVariants.{Got, Fine, Refused}
+use Rattle.qs_bytes.specs.declared.ask.Errno.TheVariants.{Io}
 use Rattle.qs_part.specs.declared.graph.Route.{Route}
 use Rattle.qs_part.specs.declared.stripe.Side.{Side}
 use Rattle.qs_part.specs.declared.stripe.Side.TheVariants.{Head, Tail}
-use Rattle.qs_model.specs.Requests.{Client, Pads, Req, Step, Stage, ToRoute, ToList, ToStart, ToLoad, ToHold, ToStore, ToFree, ToEnd, Ready, Entering, In, edge, has, is_read, is_write, reads, writes, piece, success, routed, held, started, loaded, stored, hold_failed, store_failed, form_error, asked, abandoned, no_route}
+use Rattle.qs_model.specs.Requests.{Client, Pads, Step, Stage, ToRoute, ToList, ToStart, ToLoad, ToHold, ToStore, ToFree, ToEnd, Ready, Entering, In, edge, has, is_write, reads, writes, piece, routed, held, started, loaded, stored, hold_failed, store_failed, abandoned, no_route}
 use Rattle.qs_model.specs.Worlds.{World}
 use Rattle.qs_model.specs.Acts.{Act, Answers, Waits, Enters, Routes, Shuts, Lists, Starts, Loads, LoadFails, Holds, HoldFails, Stores, StoreFails, Frees, Ends}
 use Rattle.qs_model.specs.Guards.{MayDo}
@@ -16,7 +16,7 @@ use Rattle.qs_model.proofs.Basics.{choose}
 use Rattle.qs_model.proofs.Facts.{Shaped}
 use Rattle.qs_model.proofs.Machine.{ForMoved}
 use Rattle.qs_verdicts.specs.Stories.{Story, Way, Unknown, Shut, Given, is_last, route_by, sent, told_row}
-use Rattle.qs_verdicts.specs.Verdicts.{done, is_malformed, passes, reply_of, reply_on_way, verdict_of}
+use Rattle.qs_verdicts.specs.Verdicts.{done, reply_of, reply_on_way, verdict_of}
 use Rattle.qs_verdicts.proofs.Lines.{IsGood, Passed, good_reply, passed_line, perm_line, range_line, write_no_read}
 
 -- nothing has happened to the request yet

@@ -1,16 +1,16 @@
 -- Every run keeps what is traced of its requests.
-use Rattle.std.proofs.Common.{◌≡◌, ◌≢◌, ℕ, ◌<◌, ◌⊎◌, inl, inr, Bool, true, false, cond, ◌==◌, List, [], ◌∷◌, ◌++◌, Option, Some, None, refl, sym, ap, ◌∙◌, subst, append-nil, append_assoc}
+use Rattle.std.proofs.Common.{◌≡◌, ◌≢◌, ℕ, ◌<◌, inl, inr, Bool, true, false, cond, ◌==◌, List, [], ◌∷◌, ◌++◌, Option, Some, None, refl, sym, ◌∙◌, subst, append-nil, append_assoc}
 use Rattle.qs_tracker.specs.Table.{TrackerValue}
-use Rattle.qs_model.specs.Requests.{Client, Pads, Req, Stage, asked, abandon, form_error, Ready, Entering}
+use Rattle.qs_model.specs.Requests.{Client, Req, asked, abandon, form_error}
 use Rattle.qs_model.specs.Worlds.{World}
 use Rattle.qs_model.specs.Acts.{Act, Element, Attached, NoExport, Crowded, Left, Detached, NotAttached, Asked, Did, Exported, Planned, Crashed}
 use Rattle.qs_model.specs.Guards.{MayDo, May}
 use Rattle.qs_model.specs.Steps.{moved, leaves, tracked, happens, after, Runs}
 use Rattle.qs_model.proofs.Basics.{choose, put_tells}
-use Rattle.qs_model.proofs.Facts.{IsAt, Ok, Well}
+use Rattle.qs_model.proofs.Facts.{Ok, Well}
 use Rattle.qs_model.proofs.Holders.{some_none}
 use Rattle.qs_model.proofs.Kept.{away, for_moved, step_ok}
-use Rattle.qs_model.proofs.Others.{Elsewhere, others_seat}
+use Rattle.qs_model.proofs.Others.{others_seat}
 use Rattle.qs_verdicts.specs.Traces.{Trace, blank, traced, traced_row, traced_step}
 use Rattle.qs_verdicts.proofs.Folds.{if_other, if_same, traced_more}
 use Rattle.qs_verdicts.proofs.Tracing.{TraceAt, left_trace, row_trace, same_trace}

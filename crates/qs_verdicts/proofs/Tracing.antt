@@ -1,27 +1,25 @@
 -- Each row keeps what is traced of its request: which holds are open, and whether its place has a span.
-use Rattle.std.proofs.Common.{◌≡◌, ◌≢◌, ℕ, ◌+◌, ◌*◌, ◌<◌, ◌≤◌, ◌⊎◌, inl, inr, Bool, true, false, not, ◌&&◌, ◌==◌, cond, nat_lt, List, [], ◌∷◌, Option, Some, None, refl, sym, ap, ◌∙◌, subst, arith, true≢false, eq-eqb, ne_eqb}
+use Rattle.std.proofs.Common.{◌≡◌, ℕ, ◌+◌, ◌<◌, ◌≤◌, Bool, true, false, not, ◌&&◌, ◌==◌, cond, nat_lt, List, refl, sym, ap, ◌∙◌, arith, true≢false, eq-eqb, ne_eqb}
 use Rattle.qs_bytes.specs.declared.ask.Verdict.TheVariants.{Refused}
 use Rattle.qs_bytes.specs.declared.ask.Errno.TheVariants.{Io}
 use Rattle.qs_part.specs.declared.stripe.Side.{Side}
 use Rattle.qs_part.specs.declared.stripe.Side.TheVariants.{Head, Tail}
-use Rattle.qs_tracker.specs.declared.seat.Listing.{Listing}
-use Rattle.qs_tracker.specs.declared.seat.Seat.{Seat}
-use Rattle.qs_tracker.specs.declared.seat.Seat.TheVariants.{Vacant, Present, Has}
+use Rattle.qs_tracker.specs.declared.seat.Seat.TheVariants.{Present}
 use Rattle.qs_tracker.specs.Seats.{seat_at}
 use Rattle.qs_tracker.specs.Table.{TrackerValue}
 use Rattle.qs_tracker.specs.History.{SameSeat}
-use Rattle.qs_model.specs.Requests.{Client, Pads, Req, Step, Stage, ToRoute, ToList, ToStart, ToLoad, ToHold, ToStore, ToFree, ToEnd, Ready, Entering, In, edge, has, reads, writes, routed, held, started, loaded, stored, hold_failed, store_failed, abandoned}
+use Rattle.qs_model.specs.Requests.{Client, Pads, Step, Stage, ToRoute, ToList, ToStart, ToLoad, ToHold, ToStore, ToFree, ToEnd, Ready, Entering, In, edge, has, reads, writes, routed, held, started, loaded, stored, hold_failed, store_failed, abandoned}
 use Rattle.qs_model.specs.Worlds.{World}
 use Rattle.qs_model.specs.Acts.{Act, Answers, Waits, Enters, Routes, Shuts, Lists, Starts, Loads, LoadFails, Holds, HoldFails, Stores, StoreFails, Frees, Ends}
 use Rattle.qs_model.specs.Guards.{MayDo}
 use Rattle.qs_model.specs.Steps.{moved, tracked}
 use Rattle.qs_model.proofs.Basics.{choose}
 use Rattle.qs_model.proofs.Facts.{IsAt, Shaped, Seats, Sits}
-use Rattle.qs_model.proofs.Geometry.{Reaches, same_eqb}
+use Rattle.qs_model.proofs.Geometry.{Reaches}
 use Rattle.qs_model.proofs.Machine.{ForMoved}
 use Rattle.qs_model.proofs.Places.{starts_goes}
 use Rattle.qs_model.proofs.Others.{same_present, same_sits}
-use Rattle.qs_verdicts.specs.Traces.{Trace, kept, traced_row, with_kept, with_stored}
+use Rattle.qs_verdicts.specs.Traces.{Trace, traced_row, with_kept, with_stored}
 
 -- whether the hold of a side is open at a step
 abbrev pub open_at : ℕ → Client → Step → Side → Bool

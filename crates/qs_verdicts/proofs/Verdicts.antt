@@ -1,24 +1,23 @@
 -- The laws of answers, and of a request's own steps and bytes.
-use Rattle.std.proofs.Common.{◌≡◌, ◌≢◌, ◌↔◌, ℕ, ◌<◌, ◌⊎◌, inl, inr, Bool, true, false, ◌&&◌, ◌==◌, ◌/◌, cond, List, [], ◌∷◌, Option, Some, None, refl, sym, ap, ◌∙◌, subst, true≢false}
+use Rattle.std.proofs.Common.{◌≡◌, ◌↔◌, ℕ, ◌<◌, ◌⊎◌, inl, inr, Bool, true, false, ◌&&◌, ◌==◌, ◌/◌, cond, List, [], ◌∷◌, Some, None, refl, sym, ap, ◌∙◌, subst, true≢false}
 use Rattle.qs_bytes.specs.declared.ask.Verdict.{Verdict}
-use Rattle.qs_bytes.specs.declared.ask.Verdict.TheVariants.{Got, Fine, Refused, Dropped}
+use Rattle.qs_bytes.specs.declared.ask.Verdict.TheVariants.{Refused, Dropped}
 use Rattle.qs_bytes.specs.declared.ask.Errno.TheVariants.{Io}
-use Rattle.qs_cells.specs.declared.cell.CellEntry.{CellEntry}
-use Rattle.qs_cells.specs.declared.cell.CellEntry.TheVariants.{Read, Write, Maybe, Crash}
-use Rattle.qs_model.specs.Requests.{Client, Req, Stage, Ready, In, ToEnd, covers, body_at, reads, writes, verdict}
+use Rattle.qs_cells.specs.declared.cell.CellEntry.TheVariants.{Read, Write, Maybe}
+use Rattle.qs_model.specs.Requests.{Client, Req, Stage, covers, body_at, writes, verdict}
 use Rattle.qs_model.specs.Worlds.{World}
 use Rattle.qs_model.specs.Acts.{Act, Answers, Waits, Enters, Routes, Shuts, Lists, Starts, Loads, LoadFails, Holds, HoldFails, Stores, StoreFails, Frees, Ends, Element, Attached, NoExport, Crowded, Left, Detached, NotAttached, Asked, Did, Exported, Planned, Crashed}
 use Rattle.qs_model.specs.Histories.{answer_of, cell_at, cell_of, reads_in, writes_in}
 use Rattle.qs_model.specs.Laws.{Begins, Follows}
-use Rattle.qs_model.specs.Steps.{Runs, after}
+use Rattle.qs_model.specs.Steps.{Runs}
 use Rattle.qs_model.proofs.Facts.{Ok}
 use Rattle.qs_model.proofs.Holders.{some_none}
 use Rattle.qs_model.proofs.Kept.{split_run}
 use Rattle.qs_verdicts.specs.Stories.{Story, Tells, sent}
-use Rattle.qs_verdicts.specs.Verdicts.{IsAnswered, IsByTable, IsEarly, IsOwnStep, MayWork, Own, OwnBytes, Verdicts, done, reply_of, verdict_of}
+use Rattle.qs_verdicts.specs.Verdicts.{IsByTable, IsEarly, MayWork, Own, OwnBytes, Verdicts, done, reply_of, verdict_of}
 use Rattle.qs_verdicts.proofs.Lines.{Passed, io_fault, never_dropped, work_end}
 use Rattle.qs_verdicts.proofs.Stories.{Told, all_told}
-use Rattle.qs_verdicts.proofs.Telling.{IsEnding, IsSteady, Stands}
+use Rattle.qs_verdicts.proofs.Telling.{IsSteady, Stands}
 
 begins_of : (before : List Element) (e : Element) (es : List Element) → Follows before e es → Begins before es
 begins_of before e es at = (e ∷ at.0, at.1)

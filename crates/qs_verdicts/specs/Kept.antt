@@ -10,7 +10,7 @@ use Rattle.qs_model.specs.Worlds.{Hold, World}
 use Rattle.qs_model.specs.Acts.{Element}
 use Rattle.qs_model.specs.Steps.{after}
 use Rattle.qs_model.specs.Laws.{Begins, InFlight, Placed}
-use Rattle.qs_verdicts.specs.Traces.{Trace, attached, kept, traced}
+use Rattle.qs_verdicts.specs.Traces.{attached, kept, traced}
 
 -- the span of a request as the tracker has it: whole blocks, and serialising where it should be
 pub record IsSpanOf (A : ℕ) (c : Client) (l : Listing) : Type 0 where

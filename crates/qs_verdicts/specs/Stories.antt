@@ -1,5 +1,5 @@
 -- What happened to one request in a run, as its Ask, its Route and its blocks tell it. No stage of the machine is named here.
-use Rattle.std.specs.Prelude.{◌≡◌, ℕ, ◌⊎◌, Bool, true, false, ◌||◌, ◌==◌, if◌then◌else◌, List, [], ◌∷◌, ◌++◌, Option, Some, None}
+use Rattle.std.specs.Prelude.{◌≡◌, ℕ, Bool, true, false, ◌||◌, ◌==◌, if◌then◌else◌, List, [], ◌∷◌, ◌++◌, Option, Some, None}
 use Rattle.qs_part.specs.declared.graph.Route.{Route}
 use Rattle.qs_part.specs.declared.stripe.Side.TheVariants.{Tail}
 use Rattle.qs_model.specs.Requests.{Client, Stage, edge, no_route, piece}
