@@ -57,7 +57,7 @@ starts {D} seen disks w begins =
     let does : Does seen begins.fresh (Exported export place) w =
     subst (λ (n : List ℕ). Does seen begins.fresh (Exported (ExportAdd (codes "disk") (codes "disk") n true true) place) w) file begins.exports.does in
     let first : May (align_of (map seen disks)) (opened (map seen disks)) (Exported export place)
-        × Stands seen w (happens (align_of (map seen disks)) (opened (map seen disks)) (Exported export place)) =
+    × Stands seen w (happens (align_of (map seen disks)) (opened (map seen disks)) (Exported export place)) =
     subst (λ (a : ℕ). May a (opened (map seen disks)) (Exported export place) × Stands seen w (happens a (opened (map seen disks)) (Exported export place))) align
     (does (opened (map seen disks)) begins.opened.stands) in
     record { align = ap (λ (v : WorldValue D). v.shape.align) begins.exports.same ∙ align; may = first.0; stands = first.1 }

@@ -45,11 +45,17 @@ means_at align size ds k many are h =
 pub zero_image : (align blocks : ℕ) (ds : List Journal) → IsAlign align → blocks ≤ 65536 → length ds ≡ 8 → AreFrom align (blocks * align) 0 ds →
     AreZeroDisks align (blocks * align) ds
 zero_image align blocks ds known few many are = record {
-  image = ((length-map ds journal_seen ∙ many, λ k h. record {
-    align = (at k h).align_is ∙ sym align_same;
-    size = (at k h).size_is ∙ sym size_same;
-    stripe = (at k h).stripe_is;
-  }), (subst IsAlign (sym align_same) known, whole, small));
+  image = (
+    (
+      length-map ds journal_seen ∙ many,
+      λ k h. record {
+        align = (at k h).align_is ∙ sym align_same;
+        size = (at k h).size_is ∙ sym size_same;
+        stripe = (at k h).stripe_is;
+      },
+    ),
+    (subst IsAlign (sym align_same) known, whole, small),
+  );
   align_is = align_same;
   size_is = size_same;
   telling = λ k h. (at k h).tells;

@@ -56,9 +56,7 @@ fn reply_moves_on(reply: &NoteReply) -> bool
                 | TrackerReply::NotYet(_)
                 | TrackerReply::Strange
         ),
-        NoteReply::Graph(answer) => {
-            matches!(answer, GraphNote::Routed(_) | GraphNote::Shutting)
-        }
+        NoteReply::Graph(answer) => { matches!(answer, GraphNote::Routed(_) | GraphNote::Shutting) }
         NoteReply::Stripe(answer) => !matches!(
             answer,
             StripeNote::HeldBy(_) | StripeNote::Taken(_) | StripeNote::NotHeld

@@ -75,10 +75,8 @@ fn is_inside(size: u64, ask: &Ask) -> bool
 fn put_reply<O: Sink>(stream: &mut Stream, output: &mut O, ask: &Ask, verdict: &Verdict)
     requires can { CanReply ask.now verdict.now }
     requires bare { data_of verdict.now ≡ [] }
-    ensures {
-        Puts (reply_of false ask.now verdict.now) (side O.sent O.write_faults output.old) stream.old
-            (side O.sent O.write_faults output.new) stream.new
-    }
+    ensures { Puts (reply_of false ask.now verdict.now) (side O.sent O.write_faults output.old) stream.old
+        (side O.sent O.write_faults output.new) stream.new }
 {
     let head = reply_head(&MODE, ask, verdict);
     stream.put(output, head.as_slice());
@@ -88,10 +86,8 @@ fn put_reply<O: Sink>(stream: &mut Stream, output: &mut O, ask: &Ask, verdict: &
 fn put_data<O: Sink>(stream: &mut Stream, output: &mut O, ask: &Ask, bytes: &[u8])
     requires read { is_read ask.now.kind ≡ true }
     requires short { ask.now.length ≤ 33554432 }
-    ensures {
-        Puts (reply_of false ask.now (Got bytes.now)) (side O.sent O.write_faults output.old) stream.old
-            (side O.sent O.write_faults output.new) stream.new
-    }
+    ensures { Puts (reply_of false ask.now (Got bytes.now)) (side O.sent O.write_faults output.old) stream.old
+        (side O.sent O.write_faults output.new) stream.new }
 {
     let head = data_head(&MODE, ask);
     stream.put(output, head.as_slice());
@@ -100,10 +96,8 @@ fn put_data<O: Sink>(stream: &mut Stream, output: &mut O, ask: &Ask, bytes: &[u8
 
 /// Answers a request with an error, and calls no disk.
 pub fn refuse<O: Sink>(stream: &mut Stream, output: &mut O, ask: &Ask, errno: Errno)
-    ensures {
-        Puts (reply_of false ask.now (Refused errno)) (side O.sent O.write_faults output.old) stream.old
-            (side O.sent O.write_faults output.new) stream.new
-    }
+    ensures { Puts (reply_of false ask.now (Refused errno)) (side O.sent O.write_faults output.old) stream.old
+        (side O.sent O.write_faults output.new) stream.new }
 {
     put_reply(stream, output, ask, &Verdict::Refused(errno));
 }
@@ -122,10 +116,8 @@ fn put_read<O: Sink, D: Disk>(
     requires valid { is_valid align (size_of (map D.seen disks.old)) ask.now ≡ true }
     requires read { is_read ask.now.kind ≡ true }
     requires whole { length into.old ≡ ask.now.length }
-    ensures {
-        Answers align (size_of (map D.seen disks.old)) ask.now [] (map D.seen disks.old) (map D.seen disks.new)
-            (side O.sent O.write_faults output.old) stream.old (side O.sent O.write_faults output.new) stream.new
-    }
+    ensures { Answers align (size_of (map D.seen disks.old)) ask.now [] (map D.seen disks.old) (map D.seen disks.new)
+        (side O.sent O.write_faults output.old) stream.old (side O.sent O.write_faults output.new) stream.new }
 {
     match load_span(disks, align, ask.offset, into) {
         Ok(()) => put_data(stream, output, ask, into),
@@ -160,10 +152,8 @@ pub fn answer_read<O: Sink, D: Disk>(
     requires align { align ≡ align_of (map D.seen disks.old) }
     requires valid { is_valid align (size_of (map D.seen disks.old)) ask.now ≡ true }
     requires read { is_read ask.now.kind ≡ true }
-    ensures {
-        Answers align (size_of (map D.seen disks.old)) ask.now [] (map D.seen disks.old) (map D.seen disks.new)
-            (side O.sent O.write_faults output.old) stream.old (side O.sent O.write_faults output.new) stream.new
-    }
+    ensures { Answers align (size_of (map D.seen disks.old)) ask.now [] (map D.seen disks.old) (map D.seen disks.new)
+        (side O.sent O.write_faults output.old) stream.old (side O.sent O.write_faults output.new) stream.new }
 {
     let count = ask.length as usize;
     match grow(buffer, count) {
@@ -189,10 +179,8 @@ pub fn answer_write<O: Sink, D: Disk>(
     requires valid { is_valid align (size_of (map D.seen disks.old)) ask.now ≡ true }
     requires write { is_write ask.now.kind ≡ true }
     requires whole { length body.now ≡ ask.now.length }
-    ensures {
-        Answers align (size_of (map D.seen disks.old)) ask.now body.now (map D.seen disks.old) (map D.seen disks.new)
-            (side O.sent O.write_faults output.old) stream.old (side O.sent O.write_faults output.new) stream.new
-    }
+    ensures { Answers align (size_of (map D.seen disks.old)) ask.now body.now (map D.seen disks.old) (map D.seen disks.new)
+        (side O.sent O.write_faults output.old) stream.old (side O.sent O.write_faults output.new) stream.new }
 {
     match store_span(disks, align, ask.offset, body) {
         Ok(()) => put_reply(stream, output, ask, &Verdict::Fine),

@@ -30,10 +30,8 @@ pub fn next_event<I: Source, O: Sink>(
     requires can { CanFeed reader.old.phase }
     requires going { is_stuck reader.old.phase ≡ false }
     requires ongoing { stream.old.state ≡ Open }
-    ensures {
-        Seeks reader.old (flow I.left I.read_faults O.sent O.write_faults input.old output.old stream.old) result
-            reader.new (flow I.left I.read_faults O.sent O.write_faults input.new output.new stream.new)
-    }
+    ensures { Seeks reader.old (flow I.left I.read_faults O.sent O.write_faults input.old output.old stream.old) result
+        reader.new (flow I.left I.read_faults O.sent O.write_faults input.new output.new stream.new) }
 {
     match feed(reader, stream) {
         Some(event) => return Ok(Some(event)),

@@ -55,12 +55,10 @@ impl Session {
         requires image { IsImage (map D.seen disks.old) }
         requires shape { IsShape shape (map D.seen disks.old) }
         requires between { self.old.reader ≡ between }
-        ensures {
-            Sitting shape.align shape.size budget
-                (scene I.left I.read_faults O.sent O.write_faults D.seen input.old output.old self.old.stream disks.old)
-                (scene I.left I.read_faults O.sent O.write_faults D.seen input.new output.new self.new.stream disks.new)
-                (status_by result self.new.stream.state)
-        }
+        ensures { Sitting shape.align shape.size budget
+            (scene I.left I.read_faults O.sent O.write_faults D.seen input.old output.old self.old.stream disks.old)
+            (scene I.left I.read_faults O.sent O.write_faults D.seen input.new output.new self.new.stream disks.new)
+            (status_by result self.new.stream.state) }
     {
         for _ in 0..budget {
             match self.serve_one(alloc, input, output, disks, shape)? {
@@ -84,12 +82,10 @@ impl Session {
         requires image { IsImage (map D.seen disks.old) }
         requires shape { IsShape shape (map D.seen disks.old) }
         requires between { self.old.reader ≡ between }
-        ensures {
-            Sitting shape.align shape.size budget
-                (scene I.left I.read_faults O.sent O.write_faults D.seen input.old output.old self.old.stream disks.old)
-                (scene I.left I.read_faults O.sent O.write_faults D.seen input.new output.new self.new.stream disks.new)
-                result
-        }
+        ensures { Sitting shape.align shape.size budget
+            (scene I.left I.read_faults O.sent O.write_faults D.seen input.old output.old self.old.stream disks.old)
+            (scene I.left I.read_faults O.sent O.write_faults D.seen input.new output.new self.new.stream disks.new)
+            result }
     {
         match self.serve_all(alloc, budget, input, output, disks, shape) {
             Ok(status) => status,
@@ -108,12 +104,10 @@ fn serve_disks<I: Source, O: Sink, D: Disk>(
     output: &mut O,
     disks: &mut [D],
 ) -> Status
-    ensures {
-        (after : Buffers) × Serves
-            (scene I.left I.read_faults O.sent O.write_faults D.seen input.old output.old new_buffers disks.old)
-            (scene I.left I.read_faults O.sent O.write_faults D.seen input.new output.new after disks.new)
-            result
-    }
+    ensures { (after : Buffers) × Serves
+        (scene I.left I.read_faults O.sent O.write_faults D.seen input.old output.old new_buffers disks.old)
+        (scene I.left I.read_faults O.sent O.write_faults D.seen input.new output.new after disks.new)
+        result }
 {
     match open_fault(disks) {
         Some(bad) => return Status::OpenBad(bad),
@@ -147,12 +141,10 @@ pub fn run_stdio<I: Source, O: Sink, D: Disk, C: Clock>(
     disks: &mut Vec<D>,
     _clock: &C,
 ) -> Status
-    ensures ran {
-        (after : Buffers) × Ran words.now
-            (scene I.left I.read_faults O.sent O.write_faults D.seen input.old output.old new_buffers disks.old.items)
-            (scene I.left I.read_faults O.sent O.write_faults D.seen input.new output.new after disks.new.items)
-            result
-    }
+    ensures ran { (after : Buffers) × Ran words.now
+        (scene I.left I.read_faults O.sent O.write_faults D.seen input.old output.old new_buffers disks.old.items)
+        (scene I.left I.read_faults O.sent O.write_faults D.seen input.new output.new after disks.new.items)
+        result }
     // A valid stream is served to its end, unless memory is refused or a side fails.
     ensures complete { (stream : List ℕ) → I.left input.old ≡ Some stream → IsValidStream stream → IsCommand words.now →
         IsImage (map D.seen disks.old.items) → ¬ Rose (I.read_faults input.old) (I.read_faults input.new) →

@@ -37,10 +37,8 @@ fn answer_bare<O: Sink, D: Disk>(
     requires shape { IsShape shape (map D.seen disks.old) }
     requires bare { has_data ask.now ≡ false }
     requires valid { valid ≡ is_valid shape.align shape.size ask.now }
-    ensures {
-        Answers shape.align shape.size ask.now [] (map D.seen disks.old) (map D.seen disks.new)
-            (side O.sent O.write_faults output.old) stream.old (side O.sent O.write_faults output.new) stream.new
-    }
+    ensures { Answers shape.align shape.size ask.now [] (map D.seen disks.old) (map D.seen disks.new)
+        (side O.sent O.write_faults output.old) stream.old (side O.sent O.write_faults output.new) stream.new }
 {
     if !valid {
         refuse(stream, output, ask, Errno::Inval);
@@ -68,11 +66,9 @@ fn answer_data<O: Sink, D: Disk>(
     requires data { has_data ask.now ≡ true }
     requires valid { valid ≡ is_valid shape.align shape.size ask.now }
     requires room { HasRoom ask.now.length room.now }
-    ensures {
-        (body : List ℕ) → IsData body ask.now.length room.now →
+    ensures { (body : List ℕ) → IsData body ask.now.length room.now →
         Answers shape.align shape.size ask.now body (map D.seen disks.old) (map D.seen disks.new)
-            (side O.sent O.write_faults output.old) stream.old (side O.sent O.write_faults output.new) stream.new
-    }
+        (side O.sent O.write_faults output.old) stream.old (side O.sent O.write_faults output.new) stream.new }
 {
     if !valid {
         refuse(stream, output, ask, Errno::Inval);
@@ -123,12 +119,10 @@ impl Session {
         requires valid { valid ≡ is_valid shape.align shape.size ask.now }
         requires awaits { AwaitsRoom self.old.reader ask.now }
         requires ongoing { self.old.stream.state ≡ Open }
-        ensures {
-            Finishes shape.align shape.size ask.now
-                (scene I.left I.read_faults O.sent O.write_faults D.seen input.old output.old self.old.stream disks.old)
-                result self.new.reader
-                (scene I.left I.read_faults O.sent O.write_faults D.seen input.new output.new self.new.stream disks.new)
-        }
+        ensures { Finishes shape.align shape.size ask.now
+            (scene I.left I.read_faults O.sent O.write_faults D.seen input.old output.old self.old.stream disks.old)
+            result self.new.reader
+            (scene I.left I.read_faults O.sent O.write_faults D.seen input.new output.new self.new.stream disks.new) }
     {
         let room = choose_room(alloc, &mut self.spare, ask.length, valid);
         self.reader.give(room);
@@ -153,12 +147,10 @@ impl Session {
         requires image { IsImage (map D.seen disks.old) }
         requires shape { IsShape shape (map D.seen disks.old) }
         requires between { self.old.reader ≡ between }
-        ensures {
-            TakesTurn shape.align shape.size
-                (scene I.left I.read_faults O.sent O.write_faults D.seen input.old output.old self.old.stream disks.old)
-                result self.new.reader
-                (scene I.left I.read_faults O.sent O.write_faults D.seen input.new output.new self.new.stream disks.new)
-        }
+        ensures { TakesTurn shape.align shape.size
+            (scene I.left I.read_faults O.sent O.write_faults D.seen input.old output.old self.old.stream disks.old)
+            result self.new.reader
+            (scene I.left I.read_faults O.sent O.write_faults D.seen input.new output.new self.new.stream disks.new) }
     {
         let ask = match self.next_ask(input, output)? {
             Came::Asked(ask) => ask,
@@ -168,7 +160,15 @@ impl Session {
         if data_follow(&ask) {
             return self.serve_data(alloc, input, output, disks, shape, &ask, valid);
         }
-        answer_bare(&mut self.stream, output, disks, shape, &ask, valid, &mut self.read);
+        answer_bare(
+            &mut self.stream,
+            output,
+            disks,
+            shape,
+            &ask,
+            valid,
+            &mut self.read,
+        );
         Ok(Turn::Goes)
     }
 }

@@ -76,10 +76,8 @@ impl Session {
         output: &mut O,
     ) -> Result<Came, Failed>
         requires between { self.old.reader ≡ between }
-        ensures {
-            Asking (flow I.left I.read_faults O.sent O.write_faults input.old output.old self.old.stream) result
-                self.new.reader (flow I.left I.read_faults O.sent O.write_faults input.new output.new self.new.stream)
-        }
+        ensures { Asking (flow I.left I.read_faults O.sent O.write_faults input.old output.old self.old.stream) result
+            self.new.reader (flow I.left I.read_faults O.sent O.write_faults input.new output.new self.new.stream) }
     {
         self.stream.check()?;
         match next_event(&mut self.reader, &mut self.stream, input, output)? {
@@ -100,10 +98,8 @@ impl Session {
     ) -> Result<Option<Room>, Failed>
         requires filling { IsFilling self.old.reader.phase }
         requires ongoing { self.old.stream.state ≡ Open }
-        ensures {
-            Bringing self.old.reader (flow I.left I.read_faults O.sent O.write_faults input.old output.old self.old.stream) result
-                self.new.reader (flow I.left I.read_faults O.sent O.write_faults input.new output.new self.new.stream)
-        }
+        ensures { Bringing self.old.reader (flow I.left I.read_faults O.sent O.write_faults input.old output.old self.old.stream) result
+            self.new.reader (flow I.left I.read_faults O.sent O.write_faults input.new output.new self.new.stream) }
     {
         match next_event(&mut self.reader, &mut self.stream, input, output)? {
             Some(WireEvent::Body(room)) => Ok(Some(room)),

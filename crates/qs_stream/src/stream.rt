@@ -111,12 +111,14 @@ impl Stream {
 
     /// Reads more, once, where nothing waits, and answers how many bytes came; none are the input's
     /// end. All that waits to be written is written before, since reading may wait.
-    pub fn fill<I: Source, O: Sink>(&mut self, input: &mut I, output: &mut O) -> Result<usize, Failed>
+    pub fn fill<I: Source, O: Sink>(
+        &mut self,
+        input: &mut I,
+        output: &mut O,
+    ) -> Result<usize, Failed>
         requires { self.old.waiting ≡ [] }
-        ensures {
-            Fills (flow I.left I.read_faults O.sent O.write_faults input.old output.old self.old) result
-                (flow I.left I.read_faults O.sent O.write_faults input.new output.new self.new)
-        }
+        ensures { Fills (flow I.left I.read_faults O.sent O.write_faults input.old output.old self.old) result
+            (flow I.left I.read_faults O.sent O.write_faults input.new output.new self.new) }
     {
         self.flush(output)?;
         match self.inbox.fill(input) {

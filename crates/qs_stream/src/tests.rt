@@ -7,11 +7,7 @@ use std::test::Fail;
 /// A source of so many bytes, of which the reads with these numbers fail.
 fn source(alloc: Global, count: usize, fails: &[u64]) -> Result<MemSource, Memory> {
     let bytes = Bytes::of(vec![in alloc; 7; count]?);
-    Ok(MemSource::new(
-        bytes,
-        Vec::new(alloc),
-        Vec::from_slice(alloc, fails)?,
-    ))
+    Ok(MemSource::new(bytes, Vec::new(alloc), Vec::from_slice(alloc, fails)?))
 }
 
 /// What was put leaves where there would be more than 65,536 bytes, and at a flush.
