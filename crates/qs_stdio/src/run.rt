@@ -149,7 +149,7 @@ pub fn run_stdio<I: Source, O: Sink, D: Disk, C: Clock>(
     ensures complete { (stream : List ℕ) → I.left input.old ≡ Some stream → IsValidStream stream → IsCommand words.now →
         IsImage (map D.seen disks.old.items) → ¬ Rose (I.read_faults input.old) (I.read_faults input.new) →
         ¬ Rose (O.write_faults output.old) (O.write_faults output.new) → IsServed result }
-    // A fault is told only where its count rose, and it is the only one.
+    // A fault is told only where its count rose.
     ensures cause { Rises (side_of result) (I.read_faults input.old) (I.read_faults input.new)
         (O.write_faults output.old) (O.write_faults output.new) }
 {

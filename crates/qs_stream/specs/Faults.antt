@@ -2,11 +2,11 @@
 use Rattle.std.specs.Prelude.{ℕ, ◌≤◌, Result, Ok, Err}
 use Rattle.qs_outside.specs.Faults.{Rose}
 
--- what a count does where nothing fails
+-- what a count does where nothing need fail: it never falls
 abbrev pub Stays : ℕ → ℕ → Type 0
 Stays before now = before ≤ now
 
--- a call that went well left its count, and one that failed raised it
+-- a call that failed raised its count
 abbrev pub Counts : {T E : Type 0} → ℕ → ℕ → Result T E → Type 0
 Counts before now (Ok x) = Stays before now
 Counts before now (Err e) = Rose before now
