@@ -48,13 +48,13 @@ enum Said {
     Other,
 }
 
-fn noted(note: Note) -> Said {
+fn noted(note: &Note) -> Said {
     let at = note.at.unwrap_or(0);
-    match note.reply {
-        NoteReply::Tracker(TrackerReply::Entered(k)) => Said::Enter(k),
-        NoteReply::Tracker(TrackerReply::Listed(n)) => Said::Listed(n),
+    match &note.reply {
+        NoteReply::Tracker(TrackerReply::Entered(k)) => Said::Enter(*k),
+        NoteReply::Tracker(TrackerReply::Listed(n)) => Said::Listed(*n),
         NoteReply::Tracker(TrackerReply::Started) => Said::Started,
-        NoteReply::Tracker(TrackerReply::NotYet(n)) => Said::NotYet(n),
+        NoteReply::Tracker(TrackerReply::NotYet(n)) => Said::NotYet(*n),
         NoteReply::Graph(GraphNote::Routed(way)) => Said::Route(way.offset, way.size),
         NoteReply::Graph(GraphNote::Detached) => Said::Detached,
         NoteReply::Stripe(StripeNote::Filled) => Said::Filled(at),
@@ -83,7 +83,7 @@ fn told(outcome: &Outcome) -> Said {
         Outcome::NoExport => Said::NoExport,
         Outcome::Left => Said::Left,
         Outcome::Made(r) => Said::Made(*r),
-        Outcome::Moved(note) => noted(*note),
+        Outcome::Moved(note) => noted(note),
         Outcome::Answered(verdict, _) => answered(verdict),
         Outcome::NotNext => Said::NotNext,
         _ => Said::Other,

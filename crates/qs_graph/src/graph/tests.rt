@@ -37,6 +37,11 @@ fn run(rt: &impl Abort, graph: &mut Graph, script: &[(GraphOp, GraphReply)]) {
     }
 }
 
+/// The answer to a client that comes to the export at place 1.
+fn attached() -> GraphReply {
+    GraphReply::Attached(found(1, 4096, false))
+}
+
 #[test]
 fn exports_are_added_and_refused(rt: HostRuntime) -> Result<(), Fail> {
     let (file, x, y, z) = (name(b"file0")?, name(b"x")?, name(b"y")?, name(b"z")?);
@@ -87,7 +92,6 @@ fn read_only_file_has_no_writable_export(rt: HostRuntime) -> Result<(), Fail> {
 fn clients_come_and_go(rt: HostRuntime) -> Result<(), Fail> {
     let (file, a, b, none) = (name(b"file0")?, name(b"a")?, name(b"b")?, name(b"")?);
     let mut graph = Graph::new(rt.alloc(), 4096, file, false)?;
-    let last = GraphReply::Attached(found(1, 4096, false));
     let script = [
         (GraphOp::Find { name: none }, GraphReply::NoExport),
         (GraphOp::Attach { name: a }, GraphReply::NoExport),
@@ -102,7 +106,7 @@ fn clients_come_and_go(rt: HostRuntime) -> Result<(), Fail> {
             GraphReply::Found(found(1, 4096, false)),
         ),
         (GraphOp::Find { name: file }, GraphReply::NoExport),
-        (GraphOp::Attach { name: b }, last),
+        (GraphOp::Attach { name: b }, attached()),
         (GraphOp::Detach { e: 1 }, GraphReply::Detached),
         (GraphOp::Detach { e: 1 }, GraphReply::NotAttached),
         (GraphOp::Detach { e: 255 }, GraphReply::NotAttached),
@@ -112,12 +116,12 @@ fn clients_come_and_go(rt: HostRuntime) -> Result<(), Fail> {
     ];
     run(&rt, &mut graph, &script);
     for _ in 0..1024 {
-        assert_eq!(rt; graph.step(GraphOp::Attach { name: b }), last);
+        assert_eq!(rt; graph.step(GraphOp::Attach { name: b }), attached());
     }
     let script = [
         (GraphOp::Attach { name: b }, GraphReply::Crowded),
         (GraphOp::Detach { e: 1 }, GraphReply::Detached),
-        (GraphOp::Attach { name: b }, last),
+        (GraphOp::Attach { name: b }, attached()),
     ];
     run(&rt, &mut graph, &script);
     graph.reset();
