@@ -60,11 +60,12 @@ pub record Reads (old new : Seen) : Type 0 where
   pub full : new.full ≡ old.full
   pub later : old.faults ≤ new.faults
 
--- the bytes that the disk has in a block, where it tells them; no load was planned to fail
-pub record IsContent (disk : Seen) (b : ℕ) (bytes : List ℕ) : Type 0 where
-  pub whole : length bytes ≡ disk.align
-  pub now : IsTrue disk.tells → bytes ≡ disk.now b
-  pub works : MayLoad disk
+-- the bytes that the disk has in a block, where it tells them; no load was planned to fail, and none failed
+pub record IsContent (old new : Seen) (b : ℕ) (bytes : List ℕ) : Type 0 where
+  pub whole : length bytes ≡ old.align
+  pub now : IsTrue old.tells → bytes ≡ old.now b
+  pub works : MayLoad old
+  pub kept : new.faults ≡ old.faults
 
 -- the disk refused to read, and the buffer comes back
 pub record Refuses (old new : Seen) (back : List ℕ) : Type 0 where
@@ -80,10 +81,11 @@ pub record Writes (b : ℕ) (bytes : List ℕ) (old new : Seen) : Type 0 where
   pub planned : new.planned ≡ store_spent old.planned
   pub later : old.faults ≤ new.faults
 
--- it was written; no store was planned to fail
+-- it was written; no store was planned to fail, and none failed
 pub record IsStored (b : ℕ) (bytes : List ℕ) (old new : Seen) : Type 0 where
   pub now : IsTrue old.tells → Stored b bytes old.now new.now
   pub works : MayStore old
+  pub kept : new.faults ≡ old.faults
 
 -- The disk refused: its count of faults rose, and the block has the old content or the new. Where that was
 -- planned, and the disk isn't full, it has what the plan says.
@@ -95,7 +97,7 @@ pub record MayBeStored (b : ℕ) (bytes : List ℕ) (old new : Seen) : Type 0 wh
 -- a stripe answers an operation, and what it is then
 abbrev pub answers : StripeValue → StripeOp → StripeReply → StripeValue → Type 0
 answers old (Load b k buf) (Filled got) new =
-    Reads old.disk new.disk × IsContent old.disk b got × (new.hold ≡ old.hold)
+    Reads old.disk new.disk × IsContent old.disk new.disk b got × (new.hold ≡ old.hold)
 answers old (Load b k buf) (Fault (Some back)) new =
     Reads old.disk new.disk × Refuses old.disk new.disk back × (new.hold ≡ old.hold)
 answers old (Hold b k end buf) (HeldBy j back) new =
@@ -103,7 +105,7 @@ answers old (Hold b k end buf) (HeldBy j back) new =
 answers old (Hold b k end buf) (Taken c back) new =
     IsFree old.hold b × (old.hold k end ≡ Some c) × (back ≡ buf) × (new ≡ old)
 answers old (Hold b k end buf) (Filled got) new =
-    IsFree old.hold b × (old.hold k end ≡ None) × Reads old.disk new.disk × IsContent old.disk b got × Takes k end b old.hold new.hold
+    IsFree old.hold b × (old.hold k end ≡ None) × Reads old.disk new.disk × IsContent old.disk new.disk b got × Takes k end b old.hold new.hold
 answers old (Hold b k end buf) (Fault (Some back)) new =
     IsFree old.hold b × (old.hold k end ≡ None) × Reads old.disk new.disk × Refuses old.disk new.disk back × (new.hold ≡ old.hold)
 answers old (Store b k buf) (HeldBy j back) new =

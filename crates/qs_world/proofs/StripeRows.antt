@@ -298,8 +298,9 @@ written_stands z k b bytes now v s t tells i at change stands told writes nows g
     chosen false no_ = absurd (never no_)
 
 -- a block's bytes were read
-pub can_read : (A b : ℕ) (got : List ℕ) (s : ℕ → StripeValue) (w : World) → StandsImage s w.tells w.image → StandsPlans s w.plans →
-    (IsTrue w.tells → IsTrue (s (stripe_of b)).disk.tells) → (s (stripe_of b)).disk.align ≡ A → IsContent (s (stripe_of b)).disk b got → CanRead A w b got
+pub can_read : {after : Seen} (A b : ℕ) (got : List ℕ) (s : ℕ → StripeValue) (w : World) → StandsImage s w.tells w.image → StandsPlans s w.plans →
+    (IsTrue w.tells → IsTrue (s (stripe_of b)).disk.tells) → (s (stripe_of b)).disk.align ≡ A →
+    IsContent (s (stripe_of b)).disk after b got → CanRead A w b got
 can_read A b got s w stands plans told align is = record {
   whole = is.whole ∙ align;
   now = λ tell. is.now (told tell) ∙ sym (stands.now tell b);

@@ -13,5 +13,5 @@ loop-done-preserved g c =
     record {
       gives = gives_write _ _ _ c.args.bytes.now c.loop-done.done c.in_ok-done.field-0 c.loop-done.invariant.gives c.in_ok-done.ensures.bytes;
       inside = omega (arith, few, length-drop c.loop-done.done c.args.bytes.now, c.loop-done.invariant.inside);
-      stays = omega (arith, c.in_ok-done.ensures.cause.later, c.loop-done.invariant.stays);
+      stays = omega (arith, c.in_ok-done.ensures.cause.kept, c.loop-done.invariant.stays);
     }
