@@ -17,55 +17,6 @@ use Rattle.qs_request.specs.Value.{bytes_of}
 use Rattle.qs_request.specs.Inside.{IsStoring, client_of}
 use Rattle.qs_request.proofs.Reached.{some_bytes, reaches}
 
--- one half of two blocks is written, and the other stays
-pub front_half : (old block : List ℕ) (A : ℕ) → length block ≡ A → length old ≡ A + A →
-    (take A (overlay old 0 block) ≡ block) × (drop A (overlay old 0 block) ≡ drop A old)
-unfolding overlay
-front_half old block A long room = (
-  take_at block (drop (0 + length block) old) A long,
-  drop_at block (drop (0 + length block) old) A long ∙ ap (λ (n : ℕ). drop n old) (omega (arith, long)),
-)
-
-pub back_half : (old block : List ℕ) (A : ℕ) → length block ≡ A → length old ≡ A + A →
-    (take A (overlay old A block) ≡ take A old) × (drop A (overlay old A block) ≡ block)
-unfolding overlay
-back_half old block A long room =
-    let front : length (take A old) ≡ A = length-take-le A old (omega (arith, room)) in
-    let rest : List ℕ = drop (A + length block) old in
-    let none : rest ≡ [] = drop_all (A + length block) old (omega (arith, long, room)) in
-    let whole : take A old ++ block ++ rest ≡ take A old ++ block = ap (λ (xs : List ℕ). take A old ++ block ++ xs) none ∙ append-nil (take A old ++ block) in (
-      ap (λ (xs : List ℕ). take A xs) whole ∙ take_at (take A old) block A front,
-      ap (λ (xs : List ℕ). drop A xs) whole ∙ drop_at (take A old) block A front,
-    )
-
-abbrev as_kept : ℕ → List ℕ → List ℕ → Kept
-as_kept a head tail = record { align = a; pads = record { head = head; tail = tail } }
-
--- the buffer with one more pad
-pub kept_head : (a : ℕ) (old new block : List ℕ) (head tail : Bool) (v : Kept) (end : Side) → length block ≡ v.align → length old ≡ a + a →
-    new ≡ overlay old 0 block →
-    ◌≡◌ {A = Kept} (record { align = a; pads = record { head = cond head (take a old) []; tail = cond tail (drop a old) [] } }) v → end ≡ Head →
-    ◌≡◌ {A = Kept} (record { align = a; pads = record { head = take a new; tail = cond tail (drop a new) [] } }) (record v { pads = keep v.pads end block })
-kept_head a old new block head tail v end long room is view side_is =
-    let size : a ≡ v.align = ap (λ (w : Kept). w.align) view in
-    let halves : (take a (overlay old 0 block) ≡ block) × (drop a (overlay old 0 block) ≡ drop a old) = front_half old block a (omega (arith, size, long)) room in
-    ap (λ (xs : List ℕ). as_kept a xs (cond tail (drop a new) [])) (ap (λ (xs : List ℕ). take a xs) is ∙ halves.0)
-    ∙ ap (λ (xs : List ℕ). as_kept a block (cond tail xs [])) (ap (λ (xs : List ℕ). drop a xs) is ∙ halves.1)
-    ∙ ap (λ (w : Kept). record w { pads = keep w.pads Head block }) view
-    ∙ ap (λ (s : Side). record v { pads = keep v.pads s block }) (sym side_is)
-
-pub kept_tail : (a : ℕ) (old new block : List ℕ) (head tail : Bool) (v : Kept) (end : Side) → length block ≡ v.align → length old ≡ a + a →
-    new ≡ overlay old a block →
-    ◌≡◌ {A = Kept} (record { align = a; pads = record { head = cond head (take a old) []; tail = cond tail (drop a old) [] } }) v → end ≡ Tail →
-    ◌≡◌ {A = Kept} (record { align = a; pads = record { head = cond head (take a new) []; tail = drop a new } }) (record v { pads = keep v.pads end block })
-kept_tail a old new block head tail v end long room is view side_is =
-    let size : a ≡ v.align = ap (λ (w : Kept). w.align) view in
-    let halves : (take a (overlay old a block) ≡ take a old) × (drop a (overlay old a block) ≡ block) = back_half old block a (omega (arith, size, long)) room in
-    ap (λ (xs : List ℕ). as_kept a (cond head (take a new) []) xs) (ap (λ (xs : List ℕ). drop a xs) is ∙ halves.1)
-    ∙ ap (λ (xs : List ℕ). as_kept a (cond head xs []) block) (ap (λ (xs : List ℕ). take a xs) is ∙ halves.0)
-    ∙ ap (λ (w : Kept). record w { pads = keep w.pads Tail block }) view
-    ∙ ap (λ (s : Side). record v { pads = keep v.pads s block }) (sym side_is)
-
 kept_pad : (pad_bytes : List ℕ) (A : ℕ) (work : List ℕ) → length pad_bytes ≡ A → cond (length pad_bytes == A) pad_bytes work ≡ pad_bytes
 kept_pad pad_bytes A work long = ap (λ (t : Bool). cond t pad_bytes work) (eq-eqb (length pad_bytes) A long)
 

@@ -1,5 +1,5 @@
 -- The image that requests go to, and the memory that one works in.
-use Rattle.std.specs.Prelude.{◌≡◌, ℕ, ◌+◌, ◌%◌, ◌^◌, ◌≤◌, ◌⊎◌, length}
+use Rattle.std.specs.Prelude.{◌≡◌, ℕ, ◌%◌, ◌^◌, ◌≤◌, ◌⊎◌, length}
 use Rattle.qs_request.specs.declared.shape.Shape.{Shape}
 use Rattle.qs_request.specs.declared.shape.Blocks.{Blocks}
 
@@ -12,4 +12,5 @@ pub record IsShape (s : Shape) : Type 0 where
 -- one block to work in, and room for two pads
 pub record IsRoom (A : ℕ) (blocks : Blocks) : Type 0 where
   pub work : length blocks.work ≡ A
-  pub pads : length blocks.pads ≡ A + A
+  pub head : length blocks.head ≡ A
+  pub tail : length blocks.tail ≡ A

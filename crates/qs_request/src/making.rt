@@ -43,8 +43,15 @@ fn given(alloc: Global, body: Option<Bytes>) -> Bytes
 {
     match body {
         Some(bytes) => bytes,
-        None => Bytes::of(Vec::new(alloc)),
+        None => none(alloc),
     }
+}
+
+/// A buffer of no bytes, which takes no memory.
+fn none(alloc: Global) -> Bytes
+    ensures { result ≡ [] }
+{
+    Bytes::of(Vec::new(alloc))
 }
 
 /// The block to work in, and the pads.
@@ -55,11 +62,10 @@ fn parted(alloc: Global, blocks: Option<Blocks>, align: u32) -> (Bytes, PadBuffe
     ensures pads { result.1 ≡ no_pads result.1.align }
 {
     match blocks {
-        Some(Blocks { work, pads }) => (work, PadBuffer::new(pads, align as usize)),
+        Some(Blocks { work, head, tail }) => (work, PadBuffer::new(head, tail, align as usize)),
         None => {
-            let none = Bytes::of(Vec::new(alloc));
-            let pads = PadBuffer::new(Bytes::of(Vec::new(alloc)), 0);
-            (none, pads)
+            let pads = PadBuffer::new(none(alloc), none(alloc), 0);
+            (none(alloc), pads)
         }
     }
 }

@@ -6,6 +6,7 @@ ghost use Rattle.qs_request.specs.Kept.{no_pads};
 use qs_bytes::Bytes;
 use qs_part::stripe::Side;
 use std::marker::Model;
+use std::mem;
 
 /// Writes the piece over the buffer, from the place `at` on.
 #[tactic(auto, unfolding(qs_bytes::specs::Pieces::overlay))]
@@ -24,17 +25,18 @@ pub fn write_part(buffer: &mut Bytes, at: usize, piece: &[u8])
     write_over(buffer.as_mut_slice(), at, piece);
 }
 
-/// The blocks that the holds of a span's head and tail gave, in one buffer of two blocks.
+/// The blocks that the holds of a span's head and tail gave.
 #[derive(Debug, Drop)]
 pub struct PadBuffer {
-    bytes: Bytes,
+    head: Bytes,
+    tail: Bytes,
     align: usize,
-    head: bool,
-    tail: bool,
+    has_head: bool,
+    has_tail: bool,
 }
 
 impl Model for PadBuffer {
-    ghost use Rattle.std.specs.Prelude.{◌≡◌, ◌+◌, [], length, take, drop, if◌then◌else◌};
+    ghost use Rattle.std.specs.Prelude.{◌≡◌, [], length, if◌then◌else◌};
     ghost use Rattle.qs_request.specs.Kept.{Kept};
 
     ghost Value = { Kept };
@@ -42,41 +44,44 @@ impl Model for PadBuffer {
     ghost view = { λ p. record {
       align = p.align;
       pads = record {
-        head = if p.head then take p.align p.bytes else [];
-        tail = if p.tail then drop p.align p.bytes else [];
+        head = if p.has_head then p.head else [];
+        tail = if p.has_tail then p.tail else [];
       };
     } };
 
-    ghost invariant = { λ p. length p.bytes ≡ p.align + p.align };
+    ghost invariant = { λ p. (length p.head ≡ p.align) × (length p.tail ≡ p.align) };
 }
 
 impl PadBuffer {
     /// No pad, and room for two of `align` bytes.
-    pub fn new(bytes: Bytes, align: usize) -> Self
-        requires { length bytes ≡ align + align }
+    pub fn new(head: Bytes, tail: Bytes, align: usize) -> Self
+        requires head { length head ≡ align }
+        requires tail { length tail ≡ align }
         ensures { result ≡ no_pads align }
     {
         PadBuffer {
-            bytes,
+            head,
+            tail,
             align,
-            head: false,
-            tail: false,
+            has_head: false,
+            has_tail: false,
         }
     }
 
-    /// Keeps a block as the pad of this end.
-    pub fn keep(&mut self, side: Side, block: &[u8])
-        requires { length block.now ≡ self.old.align }
-        ensures { self.new ≡ record self.old { pads = keep self.old.pads side block.now } }
+    /// Keeps a block as the pad of this end, and gives another buffer of its length for it.
+    pub fn keep(&mut self, side: Side, block: &mut Bytes)
+        requires { length block.old ≡ self.old.align }
+        ensures kept { self.new ≡ record self.old { pads = keep self.old.pads side block.old } }
+        ensures other { length block.new ≡ length block.old }
     {
         match side {
             Side::Head => {
-                write_part(&mut self.bytes, 0, block);
-                self.head = true;
+                mem::swap(&mut self.head, block);
+                self.has_head = true;
             }
             Side::Tail => {
-                write_part(&mut self.bytes, self.align, block);
-                self.tail = true;
+                mem::swap(&mut self.tail, block);
+                self.has_tail = true;
             }
         }
     }
@@ -85,22 +90,10 @@ impl PadBuffer {
     pub fn kept(&self, side: Side) -> &[u8]
         ensures { result.now ≡ pad self.now.pads side }
     {
-        let bytes = self.bytes.as_slice();
         match side {
-            Side::Head => {
-                if self.head {
-                    &bytes[..self.align]
-                } else {
-                    &bytes[..0]
-                }
-            }
-            Side::Tail => {
-                if self.tail {
-                    &bytes[self.align..]
-                } else {
-                    &bytes[..0]
-                }
-            }
+            Side::Head if self.has_head => self.head.as_slice(),
+            Side::Tail if self.has_tail => self.tail.as_slice(),
+            _ => &[],
         }
     }
 }

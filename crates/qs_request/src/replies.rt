@@ -135,9 +135,13 @@ impl Machine {
         ensures step { stage_of self.new self.new.stage ≡ InFlight k (held self.old.shape.align (client_of self.old) side) }
         ensures stands { Stands self.new self.new.stage }
         ensures buffers { HasBuffers self.new false }
-        ensures same { self.new ≡ record self.old { pads = record self.old.pads { pads = keep self.old.pads.pads side self.old.work }; stage = self.new.stage } }
+        ensures same { self.new ≡ record self.old {
+          pads = record self.old.pads { pads = keep self.old.pads.pads side self.old.work };
+          work = self.new.work;
+          stage = self.new.stage;
+        } }
     {
-        self.pads.keep(side, self.work.as_slice());
+        self.pads.keep(side, &mut self.work);
         self.stage = Stage::In(k, self.held(side));
     }
 

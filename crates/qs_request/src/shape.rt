@@ -11,12 +11,13 @@ pub struct Shape {
     pub size: u64,
 }
 
-/// The memory that a request of some length works in. `work` is one block, and is lent to each
-/// operation on a block; `pads` is two blocks, and keeps those of the span's two ends.
+/// The memory that a request of some length works in, three blocks. `work` is lent to each operation
+/// on a block; a pad that was read so is kept by an exchange for `head` or `tail`.
 #[derive(Debug, Drop)]
 pub struct Blocks {
     pub work: Bytes,
-    pub pads: Bytes,
+    pub head: Bytes,
+    pub tail: Bytes,
 }
 
 fn zeros(alloc: Global, count: usize) -> Result<Bytes, Memory>
@@ -34,8 +35,10 @@ impl Blocks {
         ensures { IfOk result (IsRoom align) }
     {
         let size = align as usize;
-        let work = zeros(alloc, size)?;
-        let pads = zeros(alloc, 2 * size)?;
-        Ok(Blocks { work, pads })
+        Ok(Blocks {
+            work: zeros(alloc, size)?,
+            head: zeros(alloc, size)?,
+            tail: zeros(alloc, size)?,
+        })
     }
 }
