@@ -23,7 +23,7 @@ use Rattle.qs_request.proofs.Rows.{row_leads}
 use Rattle.qs_world.specs.declared.live.Live.{Live}
 use Rattle.qs_world.specs.Cores.{StepsRequest}
 use Rattle.qs_world.specs.Events.{Does, HasCause, IsInside, IsRowAsPlanned}
-use Rattle.qs_world.specs.Follows.{Follows, IsElement, moved_to, next_of}
+use Rattle.qs_world.specs.Follows.{Follows, IsElement, moved_to, next_of, waiting}
 use Rattle.qs_world.specs.Images.{StandsImage, StandsPlans, stripe_at, all_tell}
 use Rattle.qs_world.specs.Keyed.{AreDistinct}
 use Rattle.qs_world.specs.Sound.{IsSound, IsIdle, IsStripe}
@@ -89,13 +89,9 @@ set_twice [] (suc i) y z = refl
 set_twice (x ∷ xs) zero y z = refl
 set_twice (x ∷ xs) (suc i) y z = ap (λ (ys : List _). x ∷ ys) (set_twice xs i y z)
 
--- the request as it waits for a reply
-abbrev pub waiting : Live → Live
-waiting l = record l { request = record l.request { waits = true } }
-
 -- the request, as it stands in the model
 abbrev pub req : Live → Req
-req l = l.request.request
+req l = l.request.value.request
 
 -- an idle request that moved on is idle
 moved_idle : {D : Type 0} (w : WorldValue D) (l : Live) (q : Req) → IsIdle w.shape w.next l → IsIdle w.shape w.next (moved_to (waiting l) q)
@@ -128,7 +124,7 @@ went_on w at l act note n q requests idle apart e goes same is =
     let this : IsIdle w.shape w.next l = idle_at w at l idle e in
     record {
       model = λ j. ap (λ (xs : List Live). request_at xs j) is
-          ∙ find_set (λ x. x.number) (λ x. x.request.request) w.requests at (moved_to (waiting l) q) l apart e.inside (sym number) j
+          ∙ find_set (λ x. x.number) (λ x. x.request.value.request) w.requests at (moved_to (waiting l) q) l apart e.inside (sym number) j
           ∙ ap (λ (k : ℕ). put (request_at w.requests) k (Some q) j) number
           ∙ ap (λ (o : Option Req). put (request_at w.requests) l.number o j) (sym goes.0);
       idle = subst (AllByRecursion (IsIdle w.shape w.next)) (sym is)
@@ -147,7 +143,7 @@ was_answered w at l act v n requests idle apart e gone told is =
     let number : (get_or w.requests at l).number ≡ l.number = ap (λ (x : Live). x.number) (e.is l) in
     record {
       model = λ j. ap (λ (xs : List Live). request_at xs j) is
-          ∙ find_gone (λ x. x.number) (λ x. x.request.request) w.requests at l apart e.inside j
+          ∙ find_gone (λ x. x.number) (λ x. x.request.value.request) w.requests at l apart e.inside j
           ∙ ap (λ (k : ℕ). put (request_at w.requests) k None j) number
           ∙ ap (λ (o : Option Req). put (request_at w.requests) l.number o j) (sym gone);
       idle = subst (AllByRecursion (IsIdle w.shape w.next)) (sym is) (all_gone (IsIdle w.shape w.next) w.requests at e.inside idle);
@@ -180,7 +176,7 @@ listed w at l act reply note _ requests idle apart e goes follows = absurd follo
 pub found : {D : Type 0} (w : WorldValue D) (at : ℕ) (l : Live) → AreDistinct (λ x. x.number) w.requests → IsElement w.requests at l → request_at w.requests l.number ≡ Some (req l)
 found w at l apart e =
     subst (λ (x : Live). request_at w.requests x.number ≡ Some (req x)) (e.is l)
-    (find_at (λ x. x.number) (λ x. x.request.request) w.requests at l apart e.inside)
+    (find_at (λ x. x.number) (λ x. x.request.value.request) w.requests at l apart e.inside)
 
 -- a core that is sound after a step
 pub stays_sound : {D : Type 0} (seen : D → Seen) (old new : WorldValue D) (r : ℕ) (q : Req) (act : Act q.stage) → IsSound seen old → Others seen old new →
@@ -209,7 +205,7 @@ pub did_answers : {D : Type 0} (seen : D → Seen) (old new : WorldValue D) (at 
     Follows (waiting l) reply note at (slice_set old.requests at (waiting l)) outcome new.requests → HasCause seen old outcome new →
     StepsRequest seen old l.number outcome new
 did_answers seen old new at l act reply note outcome sound e going is noted others may tracks images plans as_planned inside follows cause =
-    let align : l.request.shape.align ≡ old.shape.align = ap (λ (s : _). s.align) (idle_at old at l sound.requests e).shape_is in
+    let align : l.request.value.shape.align ≡ old.shape.align = ap (λ (s : _). s.align) (idle_at old at l sound.requests e).shape_is in
     let goes = finishes old.shape.align (req l).client (req l).dropped (req l).pads act reply note going is noted in
     let list : Listed old l act outcome new.requests =
     listed old at l act reply note outcome new.requests sound.requests sound.numbers e

@@ -236,24 +236,24 @@ away_not m e = go m.left refl
         never g = cc
 
 -- each request of a session that leaves is abandoned
-abandoned_req : (s : ℕ) (l : Live) → (abandoned_of s l).request.request ≡ cond (is_of s l) (abandon l.request.request) l.request.request
+abandoned_req : (s : ℕ) (l : Live) → (abandoned_of s l).request.value.request ≡ cond (is_of s l) (abandon l.request.value.request) l.request.value.request
 abandoned_req s l = go (is_of s l)
   where
-    go : (b : Bool) → (cond b (record l { request = record l.request { request = abandon l.request.request } }) l).request.request ≡ cond b (abandon l.request.request) l.request.request
+    go : (b : Bool) → (cond b (record l { request = record l.request { value = record l.request.value { request = abandon l.request.value.request } } }) l).request.value.request ≡ cond b (abandon l.request.value.request) l.request.value.request
     go true = refl
     go false = refl
 
 pub abandoned_number : (s : ℕ) (l : Live) → (abandoned_of s l).number ≡ l.number
 abandoned_number s l = go (is_of s l)
   where
-    go : (b : Bool) → (cond b (record l { request = record l.request { request = abandon l.request.request } }) l).number ≡ l.number
+    go : (b : Bool) → (cond b (record l { request = record l.request { value = record l.request.value { request = abandon l.request.value.request } } }) l).number ≡ l.number
     go true = refl
     go false = refl
 
 pub abandoned_idle : {D : Type 0} (w : WorldValue D) (s : ℕ) (l : Live) → IsIdle w.shape w.next l → IsIdle w.shape w.next (abandoned_of s l)
 abandoned_idle w s l idle = go (is_of s l)
   where
-    go : (b : Bool) → IsIdle w.shape w.next (cond b (record l { request = record l.request { request = abandon l.request.request } }) l)
+    go : (b : Bool) → IsIdle w.shape w.next (cond b (record l { request = record l.request { value = record l.request.value { request = abandon l.request.value.request } } }) l)
     go true = record { below = idle.below; shape_is = idle.shape_is; waits = idle.waits; answered = idle.answered }
     go false = idle
 
@@ -264,11 +264,11 @@ request_left s (l ∷ ls) r = go (request_left s ls r) (same_or l.number r)
     go : request_at (map (abandoned_of s) ls) r ≡ leaves s (request_at ls r) → (l.number ≡ r) ⊎ (l.number ≢ r) →
         request_at (map (abandoned_of s) (l ∷ ls)) r ≡ leaves s (request_at (l ∷ ls) r)
     go rest (inl e) =
-        find_head (λ x. x.number) (λ x. x.request.request) (abandoned_of s l) (map (abandoned_of s) ls) r (abandoned_number s l ∙ e)
-        ∙ ap Some (abandoned_req s l) ∙ sym (ap (leaves s) (find_head (λ x. x.number) (λ x. x.request.request) l ls r e))
+        find_head (λ x. x.number) (λ x. x.request.value.request) (abandoned_of s l) (map (abandoned_of s) ls) r (abandoned_number s l ∙ e)
+        ∙ ap Some (abandoned_req s l) ∙ sym (ap (leaves s) (find_head (λ x. x.number) (λ x. x.request.value.request) l ls r e))
     go rest (inr n) =
-        find_tail (λ x. x.number) (λ x. x.request.request) (abandoned_of s l) (map (abandoned_of s) ls) r (λ f. n (sym (abandoned_number s l) ∙ f))
-        ∙ rest ∙ sym (ap (leaves s) (find_tail (λ x. x.number) (λ x. x.request.request) l ls r n))
+        find_tail (λ x. x.number) (λ x. x.request.value.request) (abandoned_of s l) (map (abandoned_of s) ls) r (λ f. n (sym (abandoned_number s l) ∙ f))
+        ∙ rest ∙ sym (ap (leaves s) (find_tail (λ x. x.number) (λ x. x.request.value.request) l ls r n))
 
 -- a request of a session stands, or none does
 some_has : (ls : List Live) (r : ℕ) (q : Req) → request_at ls r ≡ Some q → HasKey (λ l. l.number) ls r
@@ -280,7 +280,7 @@ some_has (l ∷ ls) r q is = go (λ f. some_has ls r q f) (same_or l.number r)
   where
     go : (request_at ls r ≡ Some q → HasKey (λ x. x.number) ls r) → (l.number ≡ r) ⊎ (l.number ≢ r) → HasKey (λ x. x.number) (l ∷ ls) r
     go rest (inl e) = inl e
-    go rest (inr n) = inr (rest (sym (find_tail (λ x. x.number) (λ x. x.request.request) l ls r n) ∙ is))
+    go rest (inr n) = inr (rest (sym (find_tail (λ x. x.number) (λ x. x.request.value.request) l ls r n) ∙ is))
 
 abbrev pub HasIn : List Live → ℕ → Type 0
 HasIn ls s = (r : ℕ) × (q : Req) × ((request_at ls r ≡ Some q) × (q.client.session ≡ s))
@@ -293,10 +293,10 @@ any_has s [] apart is = absurd (never is)
 any_has s (l ∷ ls) apart is = go (λ f. any_has s ls apart.1 f) (is_of s l) refl is
   where
     go : (list_any (is_of s) ls ≡ true → HasIn ls s) → (b : Bool) → is_of s l ≡ b → (b || list_any (is_of s) ls) ≡ true → HasIn (l ∷ ls) s
-    go rest true e f = (l.number, l.request.request, (find_head (λ x. x.number) (λ x. x.request.request) l ls l.number refl, grind (arith, e)))
+    go rest true e f = (l.number, l.request.value.request, (find_head (λ x. x.number) (λ x. x.request.value.request) l ls l.number refl, grind (arith, e)))
     go rest false e f =
         let h = rest f in
-        (h.0, h.1, (find_tail (λ x. x.number) (λ x. x.request.request) l ls h.0 (λ g. apart.0 (subst (HasKey (λ x. x.number) ls) (sym g) (some_has ls h.0 h.1 h.2.0))) ∙ h.2.0, h.2.1))
+        (h.0, h.1, (find_tail (λ x. x.number) (λ x. x.request.value.request) l ls h.0 (λ g. apart.0 (subst (HasKey (λ x. x.number) ls) (sym g) (some_has ls h.0 h.1 h.2.0))) ∙ h.2.0, h.2.1))
 
 pub none_has_request : (s : ℕ) (ls : List Live) → list_any (is_of s) ls ≡ false → HasIn ls s → ⊥
 none_has_request s [] is h = never h.1 h.2.0
@@ -311,15 +311,15 @@ none_has_request s (l ∷ ls) is h = go (λ f. none_has_request s ls f) (is_of s
         never : true ≡ false → ⊥
         never g = cc
     go rest false e f (inl same) =
-        let q : l.request.request ≡ h.1 = one (sym (find_head (λ x. x.number) (λ x. x.request.request) l ls h.0 same) ∙ h.2.0) in
-        no (sym (eq-eqb l.request.request.client.session s (ap (λ (x : Req). x.client.session) q ∙ h.2.1)) ∙ e)
+        let q : l.request.value.request ≡ h.1 = one (sym (find_head (λ x. x.number) (λ x. x.request.value.request) l ls h.0 same) ∙ h.2.0) in
+        no (sym (eq-eqb l.request.value.request.client.session s (ap (λ (x : Req). x.client.session) q ∙ h.2.1)) ∙ e)
       where
-        one : Some l.request.request ≡ Some h.1 → l.request.request ≡ h.1
+        one : Some l.request.value.request ≡ Some h.1 → l.request.value.request ≡ h.1
         one g = cc
 
         no : true ≡ false → ⊥
         no g = cc
-    go rest false e f (inr n) = rest f (h.0, h.1, (sym (find_tail (λ x. x.number) (λ x. x.request.request) l ls h.0 n) ∙ h.2.0, h.2.1))
+    go rest false e f (inr n) = rest f (h.0, h.1, (sym (find_tail (λ x. x.number) (λ x. x.request.value.request) l ls h.0 n) ∙ h.2.0, h.2.1))
 
 -- what a core keeps sound whose sessions, graph or requests changed
 pub record Renews {D : Type 0} (seen : D → Seen) (old new : WorldValue D) : Type 0 where

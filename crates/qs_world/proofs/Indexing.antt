@@ -11,11 +11,10 @@ use Rattle.qs_request.specs.Table.{MayReply}
 use Rattle.qs_request.specs.Value.{RequestValue}
 use Rattle.qs_stripe.specs.Table.{StripeState, value_of as stripe_value}
 use Rattle.qs_world.specs.declared.live.Live.{Live}
-use Rattle.qs_world.specs.Follows.{Awaits, Follows, IsElement}
+use Rattle.qs_world.specs.Follows.{Awaits, Follows, IsElement, waiting}
 use Rattle.qs_world.specs.Images.{stripe_at, no_stripe}
 use Rattle.qs_world.specs.Sound.{IsIdle}
 use Rattle.qs_world.specs.Values.{WorldValue, stripes_of}
-use Rattle.qs_world.proofs.Answering.{waiting}
 
 -- what was written at an index is the element there
 pub written_at : {X : Type 0} (xs : List X) (i : ℕ) (y : X) → i < length xs → IsElement (slice_set xs i y) i y
@@ -24,28 +23,23 @@ written_at xs i y inside = record { inside = omega (arith, inside, length-set xs
 pub one_element : {X : Type 0} (xs : List X) (i : ℕ) (x y : X) → IsElement xs i x → IsElement xs i y → x ≡ y
 one_element xs i x y a b = sym (a.is x) ∙ b.is x
 
--- a request with its operation given
-abbrev pub given : Live → RequestValue → Live
-given x new = record { number = x.number; request = new }
-
-pub awaits_reply : (xs : List Live) (i : ℕ) (x l : Live) (new : RequestValue) (reply : PartReply) → i < length xs → new ≡ record x.request { waits = true } →
-    x.request.answered ≡ false → MayReply x.request.shape x.request.request reply → IsElement (slice_set xs i (given x new)) i l → Awaits l reply
+pub awaits_reply : (xs : List Live) (i : ℕ) (x l new : Live) (reply : PartReply) → i < length xs → new ≡ waiting x →
+    x.request.value.answered ≡ false → MayReply x.request.value.shape x.request.value.request reply → IsElement (slice_set xs i new) i l → Awaits l reply
 awaits_reply xs i x l new reply inside is unanswered may e =
-    let same : given x new ≡ l = one_element (slice_set xs i (given x new)) i (given x new) l (written_at xs i (given x new) inside) e in
+    let same : new ≡ l = one_element (slice_set xs i new) i new l (written_at xs i new inside) e in
     subst (λ (y : Live). Awaits y reply) same
-    (subst (λ (r : RequestValue). Awaits (given x r) reply) (sym is) (record { waits = refl; answered = unanswered; may = may }))
+    (subst (λ (y : Live). Awaits y reply) (sym is) (record { waits = refl; answered = unanswered; may = may }))
 
-pub follow_tells : (xs : List Live) (i : ℕ) (x : Live) (new : RequestValue) (reply : PartReply) (note told : Note) (outcome : Outcome) (requests : List Live) → i < length xs →
-    new ≡ record x.request { waits = true } → told ≡ note →
-    ((l : Live) → IsElement (slice_set xs i (given x new)) i l → Follows l reply told i (slice_set xs i (given x new)) outcome requests) →
+pub follow_tells : (xs : List Live) (i : ℕ) (x new : Live) (reply : PartReply) (note told : Note) (outcome : Outcome) (requests : List Live) → i < length xs →
+    new ≡ waiting x → told ≡ note →
+    ((l : Live) → IsElement (slice_set xs i new) i l → Follows l reply told i (slice_set xs i new) outcome requests) →
     Follows (waiting x) reply note i (slice_set xs i (waiting x)) outcome requests
 follow_tells xs i x new reply note told outcome requests inside is same tells =
     subst (λ (n : Note). Follows (waiting x) reply n i (slice_set xs i (waiting x)) outcome requests) same
-    (subst (λ (r : RequestValue). Follows (given x r) reply told i (slice_set xs i (given x r)) outcome requests) is
-    (tells (given x new) (written_at xs i (given x new) inside)))
+    (subst (λ (y : Live). Follows y reply told i (slice_set xs i y) outcome requests) is (tells new (written_at xs i new inside)))
 
 -- the shape of a live request is the core's
-pub shape_of : {D : Type 0} (w : WorldValue D) (i : ℕ) (x : Live) → IsElement w.requests i x → IsIdle w.shape w.next x → x.request.shape ≡ w.shape
+pub shape_of : {D : Type 0} (w : WorldValue D) (i : ℕ) (x : Live) → IsElement w.requests i x → IsIdle w.shape w.next x → x.request.value.shape ≡ w.shape
 shape_of w i x e idle = idle.shape_is
 
 -- a stripe of the core, by index

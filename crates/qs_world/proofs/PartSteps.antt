@@ -36,12 +36,12 @@ use Rattle.qs_tracker.specs.Table.{TrackerValue, answers}
 use Rattle.qs_world.specs.declared.live.Live.{Live}
 use Rattle.qs_world.specs.Cores.{StepsRequest}
 use Rattle.qs_world.specs.Events.{HasCause, stripe_by}
-use Rattle.qs_world.specs.Follows.{Follows, IsElement}
+use Rattle.qs_world.specs.Follows.{Follows, IsElement, waiting}
 use Rattle.qs_world.specs.Images.{Changed, stripe_at, all_tell, no_stripe}
 use Rattle.qs_world.specs.Notes.{tracker_note, tracker_kind, route_note, stripe_note, stripe_kind, block_of, short}
 use Rattle.qs_world.specs.Sound.{IsSound, IsStripe}
 use Rattle.qs_world.specs.Values.{WorldValue, stripes_of}
-use Rattle.qs_world.proofs.Answering.{did_answers, req, waiting}
+use Rattle.qs_world.proofs.Answering.{did_answers, req}
 use Rattle.qs_world.proofs.RequestRows.{Steps, tracker_row, graph_row, stripe_row}
 use Rattle.qs_tracker.proofs.Rows.{after_length}
 

@@ -116,26 +116,27 @@ refused_body ask (Some body) blocks = go (length body == ask.length) refl
 abbrev pub made_request : {D : Type 0} → WorldValue D → Client → RequestValue
 made_request w c = record { request = asked c; shape = w.shape; waits = false; answered = false }
 
-abbrev pub made_live : {D : Type 0} → WorldValue D → Client → Live
-made_live w c = record { number = w.next; request = made_request w c }
+-- behind a box of its own
+abbrev pub made_live : {D : Type 0} → WorldValue D → Client → Live → Live
+made_live w c l = record l { number = w.next; request = record l.request { value = made_request w c } }
 
-pub asked_handled : {D : Type 0} (seen : D → Seen) (old new : WorldValue D) (at : ℕ) (m : Member) (ask : Ask) (body : Option (List ℕ)) (blocks : Option Blocks) →
+pub asked_handled : {D : Type 0} (seen : D → Seen) (old new : WorldValue D) (at : ℕ) (m : Member) (ask : Ask) (body : Option (List ℕ)) (blocks : Option Blocks) (l : Live) →
     IsSound seen old → IsElement old.sessions at m → m.left ≡ false → old.next < 2 ^ 64 - 1 →
-    new ≡ record old { next = old.next + 1; requests = old.requests ++ made_live old (client_for m.session ask m.e (fitted body ask.length) blocks) ∷ [] } →
+    new ≡ record old { next = old.next + 1; requests = old.requests ++ made_live old (client_for m.session ask m.e (fitted body ask.length) blocks) l ∷ [] } →
     Handles seen old (AskEvent m.session ask body) (Made old.next) new
-asked_handled {D = D} seen old new at m ask body blocks sound el here room is =
+asked_handled {D = D} seen old new at m ask body blocks l sound el here room is =
     let c : Client = client_for m.session ask m.e (fitted body ask.length) blocks in
     let live : session_at old.sessions m.session ≡ LiveAt m.e = session_stands old.sessions at m sound.sessions el ∙ live_is m here in
     let keeps : Keeps old new = record { shape = ap (λ (w : WorldValue D). w.shape) is; tracker = ap (λ (w : WorldValue D). w.tracker) is; stripes = ap (λ (w : WorldValue D). w.stripes) is } in
     let next : new.next ≡ old.next + 1 = ap (λ (w : WorldValue D). w.next) is in
     let graph : new.graph ≡ old.graph = ap (λ (w : WorldValue D). w.graph) is in
-    let requests : new.requests ≡ old.requests ++ made_live old c ∷ [] = ap (λ (w : WorldValue D). w.requests) is in
+    let requests : new.requests ≡ old.requests ++ made_live old c l ∷ [] = ap (λ (w : WorldValue D). w.requests) is in
     let sessions : new.sessions ≡ old.sessions = ap (λ (w : WorldValue D). w.sessions) is in
     let never : HasKey (λ l. l.number) old.requests old.next → ⊥ = never_next old old.requests sound.requests in
     let does : Does seen old (Asked old.next c) new =
     asked_does seen old new c keeps next graph sessions room live refl (λ none. buffered ask (fitted body ask.length) blocks none)
     (λ writing has. whole_body ask body blocks writing has) (λ writing bare. refused_body ask body blocks) (λ reading. other_bytes ask.kind (given_bytes (fitted body ask.length)) reading)
-    (λ r. ap (λ (ls : List Live). request_at ls r) requests ∙ find_more (λ l. l.number) (λ l. l.request.request) old.requests (made_live old c) never r) in
+    (λ r. ap (λ (ls : List Live). request_at ls r) requests ∙ find_more (λ l. l.number) (λ l. l.request.value.request) old.requests (made_live old c l) never r) in
     handled seen old new (AskEvent m.session ask body) (Made old.next) (Asked old.next c) (refl, refl, brings m.session m.e ask body blocks) refl
     (λ h. not_now h live) does tt tt keeps.shape tt
     (renewed seen old new (Asked old.next c) sound (record {
@@ -144,11 +145,11 @@ asked_handled {D = D} seen old new at m ask body blocks sound el here room is =
       stripes = keeps.stripes;
       size = ap (λ (v : _). v.size) graph;
       places = ap (λ (v : _). length v.places) graph;
-      requests = rw (next, requests) (all_more (IsIdle old.shape (old.next + 1)) old.requests (made_live old c)
+      requests = rw (next, requests) (all_more (IsIdle old.shape (old.next + 1)) old.requests (made_live old c l)
           (all_weaker (IsIdle old.shape old.next) (IsIdle old.shape (old.next + 1)) old.requests
           (λ l idle. record { below = omega (arith, idle.below); shape_is = idle.shape_is; waits = idle.waits; answered = idle.answered }) sound.requests)
           (record { below = omega arith; shape_is = refl; waits = refl; answered = refl }));
-      numbers = rw requests (distinct_more (λ l. l.number) old.requests (made_live old c) sound.numbers never);
+      numbers = rw requests (distinct_more (λ l. l.number) old.requests (made_live old c l) sound.numbers never);
       sessions = rw sessions sound.sessions;
     }) does)
   where

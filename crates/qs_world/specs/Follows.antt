@@ -6,6 +6,8 @@ use Rattle.qs_part.specs.declared.event.Outcome.{Outcome}
 use Rattle.qs_part.specs.declared.event.Outcome.TheVariants.{Moved, Answered}
 use Rattle.qs_model.specs.Requests.{Req, Ready, abandon}
 use Rattle.qs_request.specs.declared.todo.PartReply.{PartReply}
+use Rattle.qs_request.specs.declared.todo.Todo.{Todo}
+use Rattle.qs_request.specs.declared.todo.Todo.TheVariants.{Answer}
 use Rattle.qs_request.specs.Table.{MayReply, followed}
 use Rattle.qs_request.specs.Value.{IsReady}
 use Rattle.qs_world.specs.declared.live.Live.{Live}
@@ -17,31 +19,40 @@ pub record IsElement {X : Type 0} (xs : List X) (i : ℕ) (x : X) : Type 0 where
 
 -- a request of this session
 abbrev pub is_of : ℕ → Live → Bool
-is_of session l = l.request.request.client.session == session
+is_of session l = l.request.value.request.client.session == session
 
 -- it may be asked for its next operation, and may be abandoned
 pub record IsFree (l : Live) : Type 0 where
-  pub waits : l.request.waits ≡ false
-  pub answered : l.request.answered ≡ false
+  pub waits : l.request.value.waits ≡ false
+  pub answered : l.request.value.answered ≡ false
 
 -- abandoned where it is of this session
 abbrev pub abandoned_of : ℕ → Live → Live
 abandoned_of session l =
-    if is_of session l then record l { request = record l.request { request = abandon l.request.request } } else l
+    if is_of session l then record l { request = record l.request { value = record l.request.value { request = abandon l.request.value.request } } } else l
 
 -- it waits for this reply, among others
 pub record Awaits (l : Live) (reply : PartReply) : Type 0 where
-  pub waits : l.request.waits ≡ true
-  pub answered : l.request.answered ≡ false
-  pub may : MayReply l.request.shape l.request.request reply
+  pub waits : l.request.value.waits ≡ true
+  pub answered : l.request.value.answered ≡ false
+  pub may : MayReply l.request.value.shape l.request.value.request reply
+
+-- the request as it waits for a reply
+abbrev pub waiting : Live → Live
+waiting l = record l { request = record l.request { value = record l.request.value { waits = true } } }
+
+-- it has given its next operation, and waits for the reply, or it has given its answer
+abbrev pub Gives : Live → Todo → Live → Type 0
+Gives old (Answer v) new = Unit {0}
+Gives old _ new = new ≡ waiting old
 
 -- the request after a reply
 abbrev pub next_of : Live → PartReply → Req
-next_of l reply = followed l.request.shape.align l.request.request reply
+next_of l reply = followed l.request.value.shape.align l.request.value.request reply
 
 -- the request has moved on, and waits for no reply
 abbrev pub moved_to : Live → Req → Live
-moved_to l q = record l { request = record l.request { request = q; waits = false } }
+moved_to l q = record l { request = record l.request { value = record l.request.value { request = q; waits = false } } }
 
 -- A reply leaves the request where its machine leads; one that it answers is taken out.
 abbrev pub Follows : Live → PartReply → Note → ℕ → List Live → Outcome → List Live → Type 0

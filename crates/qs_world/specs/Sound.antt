@@ -15,9 +15,9 @@ use Rattle.qs_world.specs.Stands.{Stands}
 -- a request may be asked for its next operation
 pub record IsIdle (shape : Shape) (next : ℕ) (l : Live) : Type 0 where
   pub below : l.number < next
-  pub shape_is : l.request.shape ≡ shape
-  pub waits : l.request.waits ≡ false
-  pub answered : l.request.answered ≡ false
+  pub shape_is : l.request.value.shape ≡ shape
+  pub waits : l.request.value.waits ≡ false
+  pub answered : l.request.value.answered ≡ false
 
 -- stripe j is of this number, and its disk has the image's shape
 abbrev pub IsStripe : {D : Type 0} → (D → Seen) → WorldValue D → ℕ → Type 0

@@ -24,7 +24,7 @@ pub record WorldValue (D : Type 0) : Type 0 where
 
 -- the request of a number
 abbrev pub request_at : List Live → ℕ → Option Req
-request_at ls r = find_by (λ l. l.number) (λ l. l.request.request) ls r
+request_at ls r = find_by (λ l. l.number) (λ l. l.request.value.request) ls r
 
 abbrev pub member_of : Member → Session
 member_of m = if m.left then Leaving m.e else LiveAt m.e

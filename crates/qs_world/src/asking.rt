@@ -48,7 +48,7 @@ fn blocks_for(alloc: Global, ask: &Ask, align: u32) -> Option<Blocks>
 
 impl<D: Disk + Drop> Core<D> {
     /// Notes a request that was made, by the next number. There is room for it.
-    fn make(&mut self, request: Req) -> Outcome
+    fn make(&mut self, request: Box<Req>) -> Outcome
         requires room { vec_len self.old.requests < vec_capacity self.old.requests }
         requires number { self.old.next < 2 ^ 64 - 1 }
         ensures made { result ≡ Made self.old.next }
@@ -85,6 +85,9 @@ impl<D: Disk + Drop> Core<D> {
         let blocks = blocks_for(self.alloc, &ask, self.shape.align);
         let body = fitting(body, ask.length);
         let request = Req::new(self.alloc, session, ask, member.e, body, blocks, self.shape);
-        self.make(request)
+        match Box::new(self.alloc, request) {
+            Ok(request) => self.make(request),
+            Err(_) => Outcome::Memory,
+        }
     }
 }

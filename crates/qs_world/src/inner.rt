@@ -43,7 +43,7 @@ impl<D: Disk + Drop> Core<D> {
         ensures { (l : ALive) → IsElement self.old.requests.items at l →
             StepsRequest D.seen (value_of self.old) l.number result (value_of self.new) }
     {
-        match self.requests[at].request.next(now) {
+        match self.requests[at].next(now) {
             Todo::Tracker(op) => {
                 let kind = tracker_kind(&op);
                 let reply = self.tracker.step(op);

@@ -3,17 +3,30 @@ ghost use Rattle.std.specs.List.{list_any, AllByRecursion};
 ghost use Rattle.qs_world.specs.declared.live.Live.{Live as ALive};
 ghost use Rattle.qs_model.specs.Requests.{Ready};
 ghost use Rattle.qs_request.specs.Value.{IsReady};
-ghost use Rattle.qs_world.specs.Follows.{Awaits, Follows, IsElement, IsFree, abandoned_of, is_of, moved_to, next_of};
+ghost use Rattle.qs_request.specs.Table.{FitsPart, Wants};
+ghost use Rattle.qs_world.specs.Follows.{Awaits, Follows, Gives, IsElement, IsFree, abandoned_of, is_of, moved_to, next_of};
 
 use qs_bytes::Verdict;
 use qs_part::event::{Note, Outcome};
 use qs_request::{PartReply, Req, Todo};
 
-/// A request that hasn't been answered, and its number.
+/// A request that hasn't been answered, and its number. It stays where it is as others come and go.
 #[derive(Debug, Drop)]
 pub struct Live {
     pub number: u64,
-    pub request: Req,
+    pub request: Box<Req>,
+}
+
+impl Live {
+    /// What the request does next.
+    pub fn next(&mut self, now: u64) -> Todo
+        requires { IsFree self.old }
+        ensures wants { Wants self.old.request.value.shape.align self.old.request.value.request result }
+        ensures fits { FitsPart self.old.request.value.shape result }
+        ensures gives { Gives self.old result self.new }
+    {
+        self.request.next(now)
+    }
 }
 
 /// A session at the export at place `e`; `left` where it has left and hasn't been detached.

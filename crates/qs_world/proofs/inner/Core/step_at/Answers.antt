@@ -13,7 +13,7 @@ use Rattle.qs_world.specs.declared.live.Live.{Live}
 use Rattle.qs_world.specs.Cores.{StepsRequest, value_of}
 use Rattle.qs_world.specs.Notes.{tracker_note, tracker_kind, stripe_note, stripe_kind, block_of}
 use Rattle.qs_world.proofs.Answering.{idle_at}
-use Rattle.qs_world.proofs.Indexing.{awaits_reply, follow_tells, given, one_element, stripe_here}
+use Rattle.qs_world.proofs.Indexing.{awaits_reply, follow_tells, one_element, stripe_here}
 use Rattle.qs_world.proofs.Keyed.{element, remove_set}
 use Rattle.qs_world.proofs.PartSteps.{tracker_steps, graph_steps, stripe_steps}
 use Rattle.qs_world.proofs.Ready.{answer_steps}
@@ -25,8 +25,8 @@ follow-requires-clause-awaits g c = λ l e.
     let x : Live = c.index_mut.result.now in
     let at = element c.args.self.now.requests.items c.args.at x c.requires.inside c.index_mut.ensures.value in
     let idle = idle_at (value_of c.args.self.now) c.args.at x c.requires.sound.requests at in
-    awaits_reply c.args.self.now.requests.items c.args.at x l c.next.new.self (ByTracker c.step-reply.result) c.requires.inside c.in-Tracker.ensures.leaves idle.answered
-    (tracker_may x.request.shape.align x.request.request.client x.request.request.pads x.request.request.stage c.in-Tracker.op c.step-reply.result
+    awaits_reply c.args.self.now.requests.items c.args.at x l c.next.new.self (ByTracker c.step-reply.result) c.requires.inside c.in-Tracker.ensures.gives idle.answered
+    (tracker_may x.request.value.shape.align x.request.value.request.client x.request.value.request.pads x.request.value.request.stage c.in-Tracker.op c.step-reply.result
     c.args.self.now.tracker c.step-reply.new.self c.requires.sound.seats
     c.in-Tracker.ensures.wants c.step-reply.ensures.legal) e
 
@@ -35,8 +35,8 @@ follow-requires-in-Graph-clause-awaits g c = λ l e.
     let x : Live = c.index_mut.result.now in
     let at = element c.args.self.now.requests.items c.args.at x c.requires.inside c.index_mut.ensures.value in
     let idle = idle_at (value_of c.args.self.now) c.args.at x c.requires.sound.requests at in
-    awaits_reply c.args.self.now.requests.items c.args.at x l c.next.new.self (ByGraph c.step-reply-in-Graph.result) c.requires.inside c.in-Graph.ensures.leaves idle.answered
-    (graph_may x.request.shape.align x.request.request.client x.request.request.pads x.request.request.stage x.request.shape c.in-Graph.op c.step-reply-in-Graph.result
+    awaits_reply c.args.self.now.requests.items c.args.at x l c.next.new.self (ByGraph c.step-reply-in-Graph.result) c.requires.inside c.in-Graph.ensures.gives idle.answered
+    (graph_may x.request.value.shape.align x.request.value.request.client x.request.value.request.pads x.request.value.request.stage x.request.value.shape c.in-Graph.op c.step-reply-in-Graph.result
     c.args.self.now.graph c.step-reply-in-Graph.new.self (c.requires.sound.size ∙ ap (λ (s : Shape). s.size) (sym idle.shape_is))
     c.in-Graph.ensures.wants c.step-reply-in-Graph.ensures.legal) e
 
@@ -64,8 +64,8 @@ follow-requires-in-Stripe-clause-awaits g c = λ l e.
     let below : c.from.result < 8 = rw c.from.ensures (stripe_below c.args.self.now.shape c.in-Stripe.stripe c.in-Stripe.op fits) in
     let inside : c.from.result < length c.args.self.now.stripes.items = omega (arith, below, c.requires.sound.count) in
     let here = stripe_here g.D.Disk.seen (value_of c.args.self.now) c.from.result c.index_mut-in-Stripe.result.now inside c.index_mut-in-Stripe.ensures.value in
-    awaits_reply c.args.self.now.requests.items c.args.at x l c.next.new.self (ByStripe c.step-reply-in-Stripe.result) c.requires.inside c.in-Stripe.ensures.leaves idle.answered
-    (stripe_may x.request.request.client x.request.request.pads x.request.request.stage x.request.shape c.in-Stripe.stripe c.in-Stripe.op c.step-reply-in-Stripe.result
+    awaits_reply c.args.self.now.requests.items c.args.at x l c.next.new.self (ByStripe c.step-reply-in-Stripe.result) c.requires.inside c.in-Stripe.ensures.gives idle.answered
+    (stripe_may x.request.value.request.client x.request.value.request.pads x.request.value.request.stage x.request.value.shape c.in-Stripe.stripe c.in-Stripe.op c.step-reply-in-Stripe.result
     (stripe_value g.D.Disk.seen c.index_mut-in-Stripe.result.now) (stripe_value g.D.Disk.seen c.step-reply-in-Stripe.new.self)
     (sym (ap (λ (s : Geometry). s.align) (ap geometry here)) ∙ ap (λ (s : Geometry). s.align) (c.requires.sound.stripes c.from.result below)
     ∙ ap (λ (s : Shape). s.align) (sym idle.shape_is))
@@ -76,8 +76,8 @@ returns-in-Tracker g c = λ l e.
     let x : Live = c.index_mut.result.now in
     let at = element c.args.self.now.requests.items c.args.at x c.requires.inside c.index_mut.ensures.value in
     let idle = idle_at (value_of c.args.self.now) c.args.at x c.requires.sound.requests at in
-    let wants : WantsAt c.args.self.now.shape.align x.request.request.client x.request.request.pads x.request.request.stage (OnTracker c.in-Tracker.op) =
-    subst (λ (s : Shape). WantsAt s.align x.request.request.client x.request.request.pads x.request.request.stage (OnTracker c.in-Tracker.op)) idle.shape_is
+    let wants : WantsAt c.args.self.now.shape.align x.request.value.request.client x.request.value.request.pads x.request.value.request.stage (OnTracker c.in-Tracker.op) =
+    subst (λ (s : Shape). WantsAt s.align x.request.value.request.client x.request.value.request.pads x.request.value.request.stage (OnTracker c.in-Tracker.op)) idle.shape_is
     c.in-Tracker.ensures.wants in
     subst (λ (y : Live). StepsRequest g.D.Disk.seen (value_of c.args.self.now) y.number c.follow.result
     (record (value_of c.args.self.now) { requests = c.follow.new.requests.items; tracker = c.step-reply.new.self }))
@@ -86,7 +86,7 @@ returns-in-Tracker g c = λ l e.
     c.args.at x c.in-Tracker.op c.step-reply.result c.follow.result c.requires.sound at wants
     c.step-reply.ensures.legal refl refl refl refl refl
     (follow_tells c.args.self.now.requests.items c.args.at x c.next.new.self (ByTracker c.step-reply.result) (tracker_note (tracker_kind c.in-Tracker.op) c.step-reply.result)
-    c.tracker_note.result c.follow.result c.follow.new.requests.items c.requires.inside c.in-Tracker.ensures.leaves
+    c.tracker_note.result c.follow.result c.follow.new.requests.items c.requires.inside c.in-Tracker.ensures.gives
     (c.tracker_note.ensures ∙ ap (λ (k : OpKind). tracker_note k c.step-reply.result) c.tracker_kind-kind.ensures) c.follow.ensures))
 
 pub returns-in-Graph : goal.returns-in-Graph
@@ -94,8 +94,8 @@ returns-in-Graph g c = λ l e.
     let x : Live = c.index_mut.result.now in
     let at = element c.args.self.now.requests.items c.args.at x c.requires.inside c.index_mut.ensures.value in
     let idle = idle_at (value_of c.args.self.now) c.args.at x c.requires.sound.requests at in
-    let wants : WantsAt c.args.self.now.shape.align x.request.request.client x.request.request.pads x.request.request.stage (OnGraph c.in-Graph.op) =
-    subst (λ (s : Shape). WantsAt s.align x.request.request.client x.request.request.pads x.request.request.stage (OnGraph c.in-Graph.op)) idle.shape_is
+    let wants : WantsAt c.args.self.now.shape.align x.request.value.request.client x.request.value.request.pads x.request.value.request.stage (OnGraph c.in-Graph.op) =
+    subst (λ (s : Shape). WantsAt s.align x.request.value.request.client x.request.value.request.pads x.request.value.request.stage (OnGraph c.in-Graph.op)) idle.shape_is
     c.in-Graph.ensures.wants in
     subst (λ (y : Live). StepsRequest g.D.Disk.seen (value_of c.args.self.now) y.number c.follow-in-Graph.result
     (record (value_of c.args.self.now) { requests = c.follow-in-Graph.new.requests.items; graph = c.step-reply-in-Graph.new.self }))
@@ -104,7 +104,7 @@ returns-in-Graph g c = λ l e.
     c.args.at x c.in-Graph.op c.step-reply-in-Graph.result c.follow-in-Graph.result c.requires.sound at wants
     c.step-reply-in-Graph.ensures.legal refl refl refl refl refl
     (follow_tells c.args.self.now.requests.items c.args.at x c.next.new.self (ByGraph c.step-reply-in-Graph.result) _
-    c.route_note-note.result c.follow-in-Graph.result c.follow-in-Graph.new.requests.items c.requires.inside c.in-Graph.ensures.leaves
+    c.route_note-note.result c.follow-in-Graph.result c.follow-in-Graph.new.requests.items c.requires.inside c.in-Graph.ensures.gives
     c.route_note-note.ensures c.follow-in-Graph.ensures))
 
 pub returns-in-Stripe : goal.returns-in-Stripe
@@ -112,8 +112,8 @@ returns-in-Stripe g c = λ l e.
     let x : Live = c.index_mut.result.now in
     let at = element c.args.self.now.requests.items c.args.at x c.requires.inside c.index_mut.ensures.value in
     let idle = idle_at (value_of c.args.self.now) c.args.at x c.requires.sound.requests at in
-    let wants : WantsAt c.args.self.now.shape.align x.request.request.client x.request.request.pads x.request.request.stage (OnStripe c.from.result c.in-Stripe.op) =
-    rw c.from.ensures (subst (λ (s : Shape). WantsAt s.align x.request.request.client x.request.request.pads x.request.request.stage (OnStripe c.in-Stripe.stripe c.in-Stripe.op))
+    let wants : WantsAt c.args.self.now.shape.align x.request.value.request.client x.request.value.request.pads x.request.value.request.stage (OnStripe c.from.result c.in-Stripe.op) =
+    rw c.from.ensures (subst (λ (s : Shape). WantsAt s.align x.request.value.request.client x.request.value.request.pads x.request.value.request.stage (OnStripe c.in-Stripe.stripe c.in-Stripe.op))
     idle.shape_is c.in-Stripe.ensures.wants) in
     let fits : FitsStripe c.args.self.now.shape c.from.result c.in-Stripe.op =
     rw c.from.ensures (subst (λ (s : Shape). FitsStripe s c.in-Stripe.stripe c.in-Stripe.op) idle.shape_is c.in-Stripe.ensures.fits) in
@@ -135,7 +135,7 @@ returns-in-Stripe g c = λ l e.
     c.requires.sound at wants fits below here refl c.step-reply-in-Stripe.ensures.legal c.step-reply-in-Stripe.ensures.same refl refl refl refl refl
     (follow_tells c.args.self.now.requests.items c.args.at x c.next.new.self (ByStripe c.step-reply-in-Stripe.result)
     (stripe_note (stripe_kind c.in-Stripe.op) (block_of c.in-Stripe.op) c.step-reply-in-Stripe.result)
-    c.stripe_note-note.result c.follow-in-Stripe.result c.follow-in-Stripe.new.requests.items c.requires.inside c.in-Stripe.ensures.leaves
+    c.stripe_note-note.result c.follow-in-Stripe.result c.follow-in-Stripe.new.requests.items c.requires.inside c.in-Stripe.ensures.gives
     (c.stripe_note-note.ensures ∙ ap (λ (k : OpKind). stripe_note k c.stripe_kind-kind.result.1 c.step-reply-in-Stripe.result) c.stripe_kind-kind.ensures.kind
     ∙ ap (λ (b : ℕ). stripe_note (stripe_kind c.in-Stripe.op) b c.step-reply-in-Stripe.result) c.stripe_kind-kind.ensures.block) c.follow-in-Stripe.ensures))
 
@@ -144,10 +144,10 @@ returns-in-Answer g c = λ l e.
     let x : Live = c.index_mut.result.now in
     let at = element c.args.self.now.requests.items c.args.at x c.requires.inside c.index_mut.ensures.value in
     let idle = idle_at (value_of c.args.self.now) c.args.at x c.requires.sound.requests at in
-    let wants : WantsAt c.args.self.now.shape.align x.request.request.client x.request.request.pads x.request.request.stage (Answer c.in-Answer.verdict) =
-    subst (λ (s : Shape). WantsAt s.align x.request.request.client x.request.request.pads x.request.request.stage (Answer c.in-Answer.verdict)) idle.shape_is
+    let wants : WantsAt c.args.self.now.shape.align x.request.value.request.client x.request.value.request.pads x.request.value.request.stage (Answer c.in-Answer.verdict) =
+    subst (λ (s : Shape). WantsAt s.align x.request.value.request.client x.request.value.request.pads x.request.value.request.stage (Answer c.in-Answer.verdict)) idle.shape_is
     c.in-Answer.ensures.wants in
     subst (λ (y : Live). StepsRequest g.D.Disk.seen (value_of c.args.self.now) y.number (Answered c.in-Answer.verdict None) (record (value_of c.args.self.now) { requests = c.remove.new.self.items }))
     (one_element c.args.self.now.requests.items c.args.at x l at e)
     (answer_steps g.D.Disk.seen (value_of c.args.self.now) c.args.at x c.in-Answer.verdict c.remove.new.self.items c.requires.sound at wants
-    (c.remove.ensures.items ∙ remove_set c.args.self.now.requests.items c.args.at (given x c.next.new.self)))
+    (c.remove.ensures.items ∙ remove_set c.args.self.now.requests.items c.args.at c.next.new.self))

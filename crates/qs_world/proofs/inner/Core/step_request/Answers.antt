@@ -18,10 +18,10 @@ returns-in-Some g c =
     (ap (λ (xs : List Live). position (λ l. l.number == c.args.number) xs) (sym c.deref.ensures.value) ∙ sym c.find_request.ensures ∙ c.in-Some.is) in
     let is = found (value_of c.args.self.now) c.in-Some.at at.0 c.requires.sound.numbers at.1.0 in
     request_handled g.D.Disk.seen (value_of c.args.self.now) (value_of c.step_at.new.self) c.args.number c.args.now at.0 c.step_at.result
-    (λ none. never at.0.request.request (sym is ∙ ap (request_at c.args.self.now.requests.items) at.1.1 ∙ none)) at.1.1 (c.step_at.ensures at.0 at.1.0)
+    (λ none. never at.0.request.value.request (sym is ∙ ap (request_at c.args.self.now.requests.items) at.1.1 ∙ none)) at.1.1 (c.step_at.ensures at.0 at.1.0)
 
 pub returns-in-None : goal.returns-in-None
 returns-in-None g c =
     not_next g.D.Disk.seen (value_of c.args.self.now) _ c.requires.sound
-    (none_found (λ l. l.number) (λ l. l.request.request) c.args.self.now.requests.items c.args.number
+    (none_found (λ l. l.number) (λ l. l.request.value.request) c.args.self.now.requests.items c.args.number
     (ap (λ (xs : List Live). position (λ l. l.number == c.args.number) xs) (sym c.deref.ensures.value) ∙ sym c.find_request.ensures ∙ c.in-None.is))
