@@ -4,3 +4,5 @@ pub mod Spans
 pub mod Errnos
 pub mod Names
 pub mod Stored
+pub mod Geometry
+pub mod Payloads

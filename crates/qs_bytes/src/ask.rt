@@ -3,6 +3,9 @@ ghost use Rattle.qs_bytes.specs.Errnos.{errno_number};
 
 use crate::buffer::Bytes;
 
+/// The most bytes of a READ, and of the data that come with a WRITE (NBD proto.md, "Block size constraints").
+pub const MAX_PAYLOAD: u64 = 33_554_432;
+
 /// What a client asks for. A number that names no kind is kept (NBD proto.md, "Request types").
 #[derive(Clone, Copy, Debug, PartialEq, Eq)]
 pub enum Kind {

@@ -12,7 +12,8 @@ use Rattle.qs_tracker.specs.declared.seat.Seat.{Seat}
 use Rattle.qs_tracker.specs.declared.seat.Seat.TheVariants.{Vacant, Present, Has}
 use Rattle.qs_tracker.specs.Seats.{is_vacant, seat_at}
 use Rattle.qs_tracker.specs.Table.{MayStart}
-use Rattle.qs_model.specs.Worlds.{Image, World, stripe_of}
+use Rattle.qs_model.specs.Worlds.{Image, World}
+use Rattle.qs_bytes.specs.Geometry.{stripe_of}
 use Rattle.qs_model.specs.Acts.{Act, Answers, Waits, Enters, Routes, Shuts, Lists, Starts, Loads, LoadFails, Holds, HoldFails, Stores, StoreFails, Frees, Ends, Wait, Quiesced, Full, NotYet, HeldBy, Taken, Strange, NotHeld}
 use Rattle.qs_model.specs.Guards.{MayDo, MayWait, CanStore}
 use Rattle.qs_model.specs.Histories.{IsOdd, IsOddRow}

@@ -7,7 +7,8 @@ use Rattle.qs_part.specs.declared.event.Actor.TheVariants.{Session as ASession, 
 use Rattle.qs_part.specs.declared.event.Event.TheVariants.{Attach, Leave, Ask as AskEvent, Step as StepEvent}
 use Rattle.qs_model.specs.Puts.{put}
 use Rattle.qs_model.specs.Requests.{Client, Pads, Req, Stage}
-use Rattle.qs_model.specs.Worlds.{World, stripe_of}
+use Rattle.qs_model.specs.Worlds.{World}
+use Rattle.qs_bytes.specs.Geometry.{stripe_of}
 use Rattle.qs_model.specs.Acts.{Act, Stores, StoreFails, Element, Attached, NoExport, Crowded, Left, Detached, NotAttached, Asked, Did, Planned, Crashed}
 use Rattle.qs_model.specs.Guards.{May, CanAsk}
 use Rattle.qs_model.specs.Steps.{happens}

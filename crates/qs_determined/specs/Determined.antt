@@ -3,7 +3,8 @@ use Rattle.std.specs.Prelude.{◌≡◌, ℕ, true, Some}
 use Rattle.qs_outside.specs.declared.rigged_disk.Fail.{Fail}
 use Rattle.qs_part.specs.declared.event.Event.{Event}
 use Rattle.qs_model.specs.Requests.{Client, Stage, edge}
-use Rattle.qs_model.specs.Worlds.{World, stripe_of}
+use Rattle.qs_model.specs.Worlds.{World}
+use Rattle.qs_bytes.specs.Geometry.{stripe_of}
 use Rattle.qs_model.specs.Acts.{Act, LoadFails, HoldFails, StoreFails, Element, Asked, Did, Planned}
 use Rattle.qs_model.specs.Events.{IsEvent}
 

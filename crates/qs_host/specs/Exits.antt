@@ -5,10 +5,10 @@ use Rattle.std.specs.declared.io.Error.{Error}
 use Rattle.qs_host.specs.declared.start_fault.Unfit.TheVariants.{System}
 use Rattle.std.specs.declared.io.ErrorKind.{ErrorKind}
 use Rattle.std.specs.declared.io.ErrorKind.TheVariants.{OutOfMemory}
-use Rattle.qs_bytes.specs.declared.status.SessionEnd.{SessionEnd}
-use Rattle.qs_bytes.specs.declared.status.SessionEnd.TheVariants as end
-use Rattle.qs_bytes.specs.declared.status.Status.{Status}
-use Rattle.qs_bytes.specs.declared.status.Status.TheVariants as status
+use Rattle.qs_status.specs.declared.status.SessionEnd.{SessionEnd}
+use Rattle.qs_status.specs.declared.status.SessionEnd.TheVariants as end
+use Rattle.qs_status.specs.declared.status.Status.{Status}
+use Rattle.qs_status.specs.declared.status.Status.TheVariants as status
 use Rattle.qs_host.specs.declared.start_fault.StartFault.{StartFault}
 use Rattle.qs_host.specs.declared.start_fault.StartFault.TheVariants.{Memory, NotText, NotOpened}
 

@@ -1,7 +1,7 @@
 ghost use Rattle.std.specs.Prelude.{◌≡◌};
 ghost use Rattle.qs_host.specs.Exits.{end_exit, status_exit};
 
-use qs_bytes::{SessionEnd, Status};
+use qs_status::{SessionEnd, Status};
 
 /// The exit status that stands for the end of a run.
 pub fn exit_of(status: Status) -> u8

@@ -6,6 +6,7 @@ use crate::faults::Faults;
 use crate::file_syncs::FileSyncs;
 use crate::image::{handle_of, open_image};
 use crate::start_fault::StartFault;
+use qs_bytes::STRIPES;
 use qs_outside::{Disk, Failed};
 use std::alloc::Global;
 use std::fs::File;
@@ -13,9 +14,6 @@ use std::io;
 use std::os::unix::fs::FileExt;
 use std::rt::Files;
 use std::sync::{Arc, Wait};
-
-/// How many disks hold the image.
-const STRIPES: u8 = 8;
 
 /// One stripe of an image file, with a file handle of its own. It tells no content.
 #[derive(Drop)]

@@ -3,7 +3,7 @@ ghost use Rattle.std.specs.Prelude.{◌≡◌};
 
 use crate::exit::exit_of;
 use crate::streams::{Reading, Writing};
-use qs_bytes::{OpenBad, SessionEnd, Status};
+use qs_status::{OpenBad, SessionEnd, Status};
 use std::{fmt, io};
 
 /// How a run ended, and why the system refused the call that ended it.

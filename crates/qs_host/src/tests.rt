@@ -3,8 +3,8 @@ ghost use Rattle.std.specs.Prelude.{◌≡◌};
 use crate::{
     FileKind, Reading, StartFault, SyncLog, SyncNeed, Unfit, Writing, exit_of, file_disks,
 };
-use qs_bytes::{OpenBad, SessionEnd, Status};
 use qs_outside::{Disk, Failed, Sink, Source};
+use qs_status::{OpenBad, SessionEnd, Status};
 use std::fs::{self, File, OpenOptions};
 use std::io::{self, PipeReader, Read, Write};
 use std::os::fd::{AsRawFd, RawFd};

@@ -7,7 +7,8 @@ use Rattle.std.proofs.Math.Seq.{take-length}
 use Rattle.qs_bytes.proofs.Overlays.{overlay-none}
 use Rattle.qs_bytes.specs.Pieces.{part, overlay}
 use Rattle.qs_outside.specs.Faults.{Rose, HasCause}
-use Rattle.qs_outside.specs.Blocks.{Seen, Fixed, Same, Stored, StoredOrNot, stripe_of, IsBlock}
+use Rattle.qs_outside.specs.Blocks.{Seen, Fixed, Same, Stored, StoredOrNot, IsBlock}
+use Rattle.qs_bytes.specs.Geometry.{stripe_of}
 use Rattle.qs_image.specs.Image.{no_disk, disk, align_of, size_of, block_now, block_past, image, content, AllTell, SameDisks, HasByte, RoseAt, Loads, Stores}
 use Rattle.qs_image.specs.Opening.{IsAlike, IsImage}
 use Rattle.qs_image.proofs.Contents.{image-same, image-stored, part-image}

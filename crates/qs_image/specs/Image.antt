@@ -3,7 +3,8 @@ use Rattle.std.specs.Prelude.{◌≡◌, ℕ, ◌+◌, ◌*◌, ◌/◌, ◌%◌
 use Rattle.std.specs.List.{range_with_len}
 use Rattle.qs_bytes.specs.Pieces.{part, overlay}
 use Rattle.qs_outside.specs.Faults.{Rose}
-use Rattle.qs_outside.specs.Blocks.{Seen, Same, stripe_of}
+use Rattle.qs_outside.specs.Blocks.{Seen, Same}
+use Rattle.qs_bytes.specs.Geometry.{stripe_of}
 
 -- what stands for a disk that isn't there
 abbrev pub no_disk : Seen

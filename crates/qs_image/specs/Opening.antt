@@ -1,7 +1,7 @@
 -- When eight disks are an image, and which rule they break first if they aren't.
 use Rattle.std.specs.Prelude.{◌≡◌, ◌≢◌, ℕ, ◌%◌, ◌^◌, ◌<◌, ◌≤◌, ◌⊎◌, List, length, Option, None, Some}
-use Rattle.qs_bytes.specs.declared.status.OpenBad.{OpenBad}
-use Rattle.qs_bytes.specs.declared.status.OpenBad.TheVariants.{Count, Different, Align, Length, TooLarge}
+use Rattle.qs_status.specs.declared.status.OpenBad.{OpenBad}
+use Rattle.qs_status.specs.declared.status.OpenBad.TheVariants.{Count, Different, Align, Length, TooLarge}
 use Rattle.qs_outside.specs.Blocks.{Seen}
 use Rattle.qs_image.specs.Image.{disk, align_of, size_of}
 

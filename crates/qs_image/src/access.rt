@@ -2,6 +2,7 @@ ghost use Rattle.std.specs.Prelude.{◌≡◌, ◌+◌, ◌*◌, ◌%◌, ◌≤
 ghost use Rattle.qs_image.specs.Image.{align_of, size_of, Loads, Stores};
 ghost use Rattle.qs_image.specs.Opening.{IsImage};
 
+use qs_bytes::stripe_of;
 use qs_outside::{Disk, Failed};
 
 /// Reads block `b` of the image into `into`, which has a block's bytes.
@@ -11,7 +12,7 @@ pub fn load_block<D: Disk>(disks: &mut [D], b: u64, into: &mut [u8]) -> Result<(
     requires whole { length into.old ≡ align_of (map D.seen disks.old) }
     ensures { Loads (map D.seen disks.old) (b * align_of (map D.seen disks.old)) into.new result (map D.seen disks.new) }
 {
-    let k = (b / 16 % 8) as usize;
+    let k = usize::from(stripe_of(b));
     disks[k].load(b, into)
 }
 
@@ -22,7 +23,7 @@ pub fn store_block<D: Disk>(disks: &mut [D], b: u64, bytes: &[u8]) -> Result<(),
     requires whole { length bytes.now ≡ align_of (map D.seen disks.old) }
     ensures { Stores (map D.seen disks.old) (b * align_of (map D.seen disks.old)) bytes.now result (map D.seen disks.new) }
 {
-    let k = (b / 16 % 8) as usize;
+    let k = usize::from(stripe_of(b));
     disks[k].store(b, bytes)
 }
 
@@ -43,10 +44,7 @@ pub fn load_span<D: Disk>(
     let first = at / align as u64;
     for i in 0..into.len() / align {
         let start = i * align;
-        match load_block(disks, first + i as u64, &mut into[start..start + align]) {
-            Ok(()) => {}
-            Err(failed) => return Err(failed),
-        }
+        load_block(disks, first + i as u64, &mut into[start..start + align])?;
     }
     Ok(())
 }
@@ -68,10 +66,7 @@ pub fn store_span<D: Disk>(
     let first = at / align as u64;
     for i in 0..bytes.len() / align {
         let start = i * align;
-        match store_block(disks, first + i as u64, &bytes[start..start + align]) {
-            Ok(()) => {}
-            Err(failed) => return Err(failed),
-        }
+        store_block(disks, first + i as u64, &bytes[start..start + align])?;
     }
     Ok(())
 }

@@ -1,11 +1,11 @@
 ghost use Rattle.std.specs.Prelude.{◌≡◌, ◌<◌, ◌↔◌, length, map, IsTrue};
 ghost use Rattle.qs_image.specs.Opening.{IsAlike, Opens, SizeFaults};
 
-use qs_bytes::OpenBad;
 use qs_outside::Disk;
+use qs_status::OpenBad;
 
 /// How many disks an image has.
-const STRIPES: usize = 8;
+const STRIPES: usize = qs_bytes::STRIPES as usize;
 
 /// The longest image, in bytes.
 const LONGEST: u64 = 1 << 40;

@@ -4,8 +4,9 @@ ghost use Rattle.qs_outside.specs.Faults.{Rose};
 ghost use Rattle.qs_image.specs.Opening.{IsImage};
 
 use super::*;
-use qs_bytes::{Memory, OpenBad};
+use qs_bytes::Memory;
 use qs_outside::{Disk, Failed, QuietDisk};
+use qs_status::OpenBad;
 use std::alloc::Global;
 use std::test::Fail;
 

@@ -1,5 +1,6 @@
 -- Every step of a run keeps the facts.
 use Rattle.std.proofs.Common.{◌≡◌, ◌≢◌, ℕ, ◌+◌, ◌-◌, ◌<◌, ◌⊎◌, inl, inr, Bool, true, false, not, ◌&&◌, ◌||◌, ◌==◌, cond, nat_lt, List, [], ◌∷◌, ◌++◌, length, Option, Some, None, refl, sym, ap, ◌∙◌, subst, arith, true≢false}
+use Rattle.qs_bytes.specs.Payloads.{max_payload}
 use Rattle.qs_bytes.specs.declared.ask.Ask.{Ask}
 use Rattle.qs_outside.specs.declared.rigged_disk.Plans.{Plans}
 use Rattle.qs_outside.specs.Rigged.{planned_too}
@@ -222,7 +223,7 @@ did_ok A w r q act pos ok may = record {
 
 -- a request that was made
 pub kind_of : (a : Ask) → form_error a ≡ false → is_read a.kind ≡ false → is_write a.kind ≡ true
-kind_of a none read = go (is_read a.kind) (is_write a.kind) (not a.flags_fit) a.fua (is_read a.kind && nat_lt 33554432 a.length) none read
+kind_of a none read = go (is_read a.kind) (is_write a.kind) (not a.flags_fit) a.fua (is_read a.kind && nat_lt max_payload a.length) none read
   where
     go : (r w x y z : Bool) → not (r || w) || x || y || z ≡ false → r ≡ false → w ≡ true
     go true w x y z e f = absurd (true≢false f)

@@ -11,7 +11,8 @@ use Rattle.qs_part.specs.declared.tracker.TrackerReply.TheVariants.{Entered, Qui
 use Rattle.qs_graph.specs.Table.{May as GraphMay}
 use Rattle.qs_tracker.specs.Table.{May as TrackerMay}
 use Rattle.qs_model.specs.Requests.{Client, Pads, Req, Stage, ToList, ToStart, ToHold, ToStore, ToFree, ToEnd, Entering, In, edge, merged_at, no_route, serial, span_of, writes}
-use Rattle.qs_model.specs.Worlds.{Hold, Image, stripe_of, Away, Live, Leaving, World}
+use Rattle.qs_model.specs.Worlds.{Hold, Image, Away, Live, Leaving, World}
+use Rattle.qs_bytes.specs.Geometry.{stripe_of}
 use Rattle.qs_model.specs.Acts.{Act, Answers, Waits, Enters, Routes, Shuts, Lists, Starts, Loads, LoadFails, Holds, HoldFails, Stores, StoreFails, Frees, Ends, Wait, Quiesced, Full, NotYet, HeldBy, Taken, Strange, NotHeld, Element, Attached, NoExport, Crowded, Left, Detached, NotAttached, Asked, Did, Exported, Planned, Crashed}
 
 -- what the tracker is asked to list for a request: the whole blocks that its span reaches

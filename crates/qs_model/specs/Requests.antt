@@ -1,5 +1,6 @@
 -- A client's request: the places that it covers, the blocks that it reaches, and the machine that it is.
 use Rattle.std.specs.Prelude.{ℕ, ◌+◌, ◌-◌, ◌*◌, ◌/◌, ◌%◌, min, max, Bool, true, false, not, ◌&&◌, ◌||◌, ◌==◌, nat_lt, nat_le, if◌then◌else◌, List, [], ◌++◌, get_or}
+use Rattle.qs_bytes.specs.Payloads.{max_payload}
 use Rattle.qs_bytes.specs.declared.ask.Ask.{Ask}
 use Rattle.qs_bytes.specs.declared.ask.Kind.{Kind}
 use Rattle.qs_bytes.specs.declared.ask.Kind.TheVariants.{Read, Write}
@@ -105,7 +106,7 @@ keep p Tail bytes = record p { tail = bytes }
 
 -- neither a READ nor a WRITE, a flag that this server doesn't take yet, or a READ that is too long
 abbrev pub form_error : Ask → Bool
-form_error a = not (is_read a.kind || is_write a.kind) || not a.flags_fit || a.fua || (is_read a.kind && nat_lt 33554432 a.length)
+form_error a = not (is_read a.kind || is_write a.kind) || not a.flags_fit || a.fua || (is_read a.kind && nat_lt max_payload a.length)
 
 -- the request as it was made
 abbrev pub asked : Client → Req

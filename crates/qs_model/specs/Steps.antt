@@ -12,7 +12,8 @@ use Rattle.qs_graph.specs.Table.{after as graph_after}
 use Rattle.qs_tracker.specs.Table.{TrackerValue, after as tracker_after}
 use Rattle.qs_model.specs.Puts.{put, without}
 use Rattle.qs_model.specs.Requests.{Client, Pads, Req, Stage, ToRoute, ToStart, ToEnd, In, edge, keep, asked, routed, started, loaded, held, hold_failed, stored, store_failed, abandon}
-use Rattle.qs_model.specs.Worlds.{Image, stripe_of, Away, Live, Leaving, World, Opening, new_world}
+use Rattle.qs_model.specs.Worlds.{Image, Away, Live, Leaving, World, Opening, new_world}
+use Rattle.qs_bytes.specs.Geometry.{stripe_of}
 use Rattle.qs_model.specs.Acts.{Act, Answers, Waits, Enters, Routes, Shuts, Lists, Starts, Loads, LoadFails, Holds, HoldFails, Stores, StoreFails, Frees, Ends, Element, Attached, NoExport, Crowded, Left, Detached, NotAttached, Asked, Did, Exported, Planned, Crashed}
 use Rattle.qs_model.specs.Guards.{list_op, May}
 

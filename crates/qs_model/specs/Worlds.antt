@@ -19,10 +19,6 @@ pub record Image : Type 0 where
   pub holder : ℕ → Option Hold
   pub clean : ℕ → Bool
 
--- the stripe of a block
-abbrev pub stripe_of : ℕ → ℕ
-stripe_of b = (b / 16) % 8
-
 -- the byte at place x, where a block is A bytes
 abbrev pub byte_at : ℕ → Image → ℕ → ℕ
 byte_at A image x = get_or (image.now (x / A)) (x % A) 0

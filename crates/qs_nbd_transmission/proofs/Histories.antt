@@ -6,8 +6,8 @@ use Rattle.std.proofs.lemmas.List.Elements.{All-append, All-cons, All-nil}
 use Rattle.std.proofs.lemmas.Grind.{flat_map-append}
 use Rattle.std.proofs.lemmas.Bool.{ltb-true}
 use Rattle.qs_bytes.specs.declared.ask.Ask.{Ask}
-use Rattle.qs_bytes.specs.declared.status.SessionEnd.{SessionEnd}
-use Rattle.qs_bytes.specs.declared.status.SessionEnd.TheVariants.{BadMagic, TooLong}
+use Rattle.qs_status.specs.declared.status.SessionEnd.{SessionEnd}
+use Rattle.qs_status.specs.declared.status.SessionEnd.TheVariants.{BadMagic, TooLong}
 use Rattle.qs_nbd_transmission.specs.declared.head.Head.{Head}
 use Rattle.qs_nbd_transmission.specs.declared.event.Room.{Room}
 use Rattle.qs_nbd_transmission.specs.declared.event.Room.TheVariants.{Keep, Drop}

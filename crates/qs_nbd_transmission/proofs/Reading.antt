@@ -3,12 +3,13 @@ use Rattle.std.proofs.Common.{◌≡◌, ◌≢◌, ℕ, ◌+◌, ◌≤◌, Boo
 use Rattle.std.proofs.lemmas.Bool.{eq-eqb, ne_eqb, cases_eq}
 use Rattle.std.proofs.lemmas.List.{length-append, take_at, append_cancel_left}
 use Rattle.qs_bytes.specs.Numbers.{number32}
-use Rattle.qs_bytes.specs.declared.status.SessionEnd.TheVariants.{BadMagic, TooLong}
+use Rattle.qs_status.specs.declared.status.SessionEnd.TheVariants.{BadMagic, TooLong}
 use Rattle.qs_nbd_transmission.specs.declared.head.Head.{Head}
 use Rattle.qs_nbd_transmission.specs.declared.event.Room.TheVariants.{Keep, Drop}
 use Rattle.qs_nbd_transmission.specs.declared.event.WireEvent.{WireEvent}
 use Rattle.qs_nbd_transmission.specs.declared.event.WireEvent.TheVariants as event
-use Rattle.qs_nbd_transmission.specs.Heads.{request_magic, IsHead, IsHeadFront, head_of, ask_of, disc, is_too_long, longest, has_body, has_data, is_write, kind_of}
+use Rattle.qs_bytes.specs.Payloads.{max_payload}
+use Rattle.qs_nbd_transmission.specs.Heads.{request_magic, IsHead, IsHeadFront, head_of, ask_of, disc, is_too_long, has_body, has_data, is_write, kind_of}
 use Rattle.qs_bytes.specs.declared.ask.Ask.{Ask}
 use Rattle.qs_bytes.specs.declared.ask.Kind.{Kind}
 use Rattle.qs_bytes.specs.declared.ask.Kind.TheVariants.{Read, Zero, Trim, Flush, Unknown}
@@ -67,7 +68,7 @@ whole_of : (bytes : List ℕ) (h : Head) → IsHead bytes h → length bytes ≡
 whole_of bytes h is = ap (λ xs. length xs) is.spelled ∙ length-head_bytes h
 
 disc_short : (h : Head) → h.kind ≡ disc → is_too_long h ≡ false
-disc_short h e = ap (λ k. (k == 1) && nat_lt longest h.size) e
+disc_short h e = ap (λ k. (k == 1) && nat_lt max_payload h.size) e
 
 -- what a head tells is told by its bytes
 tells : (s : Bool) (bytes : List ℕ) (told : WireEvent) (new : Phase) → HeadTells s bytes (Some told) new → (told ≡ told_at s bytes) × (new ≡ phase_at bytes)

@@ -9,7 +9,7 @@ use Rattle.qs_bytes.specs.declared.ask.Errno.{Errno}
 use Rattle.qs_bytes.specs.declared.ask.Errno.TheVariants.{Perm, Io, NoMem, Inval, NoSpace, Shutdown}
 use Rattle.qs_bytes.specs.declared.ask.Verdict.{Verdict}
 use Rattle.qs_bytes.specs.declared.ask.Verdict.TheVariants.{Got, Fine, Refused, Dropped}
-use Rattle.qs_nbd_transmission.specs.Heads.{longest}
+use Rattle.qs_bytes.specs.Payloads.{max_payload}
 use Rattle.qs_nbd_transmission.specs.Replies.{CanReply, is_read, error_of, data_of, simple_front, chunk_head, chunk_front}
 use Rattle.qs_nbd_transmission.specs.Laws.{RepliesStandApart}
 use Rattle.qs_nbd_transmission.proofs.Widths.{length-bytes16, length-bytes32, length-bytes64, number32_at}
@@ -110,7 +110,7 @@ chunks_apart xs ys more m n p q e =
       q.holds,
     ))
 
-bytes_chunk : (ask : Ask) (b : List ℕ) → length b ≡ ask.length → ask.length ≤ longest → (d : Bool) → (ask.length == 0) ≡ d →
+bytes_chunk : (ask : Ask) (b : List ℕ) → length b ≡ ask.length → ask.length ≤ max_payload → (d : Bool) → (ask.length == 0) ≡ d →
     (size : ℕ) × IsChunk ((if d then chunk_head 0 ask.cookie 0 else chunk_head 1 ask.cookie (8 + ask.length) ++ bytes64 ask.offset) ++ b) size
 bytes_chunk ask b e most true zero =
     (0, record { kind = 0; cookie = ask.cookie; body = b; is = refl; holds = e ∙ eqb-true ask.length 0 zero; fits = lit< tt })

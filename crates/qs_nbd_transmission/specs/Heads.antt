@@ -2,6 +2,7 @@
 use Rattle.std.specs.Prelude.{◌≡◌, ℕ, ◌<◌, ◌≤◌, ◌^◌, Bool, true, false, not, ◌&&◌, ◌||◌, ◌==◌, nat_lt, if◌then◌else◌, List, ◌++◌, length}
 use Rattle.std.specs.Int.Bits.{bit_and}
 use Rattle.qs_bytes.specs.Numbers.{bytes16, bytes32, bytes64, number16, number32, number64}
+use Rattle.qs_bytes.specs.Payloads.{max_payload}
 use Rattle.qs_bytes.specs.declared.ask.Ask.{Ask}
 use Rattle.qs_bytes.specs.declared.ask.Kind.{Kind}
 use Rattle.qs_bytes.specs.declared.ask.Kind.TheVariants.{Read, Write, Zero, Trim, Flush, Unknown}
@@ -47,10 +48,6 @@ pub record IsHeadFront (bytes : List ℕ) : Type 0 where
 abbrev pub disc : ℕ
 disc = 2
 
--- the most data of a WRITE, in bytes
-abbrev pub longest : ℕ
-longest = 33554432
-
 -- the types of proto.md, "Request types"
 abbrev pub kind_of : ℕ → Kind
 kind_of n = if n == 0 then Read else (if n == 1 then Write else (if n == 3 then Flush else (if n == 4 then Trim else (if n == 6 then Zero else Unknown n))))
@@ -61,7 +58,7 @@ is_write_head h = h.kind == 1
 
 -- a WRITE of more than 32 MiB
 abbrev pub is_too_long : Head → Bool
-is_too_long h = is_write_head h && nat_lt longest h.size
+is_too_long h = is_write_head h && nat_lt max_payload h.size
 
 -- data follow the head
 abbrev pub has_body : Head → Bool

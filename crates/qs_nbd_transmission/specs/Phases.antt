@@ -2,8 +2,8 @@
 use Rattle.std.specs.Prelude.{◌≡◌, ◌≢◌, ℕ, ◌+◌, ◌-◌, ◌<◌, Bool, true, false, if◌then◌else◌, List, [], ◌∷◌, ◌++◌, length, Option, Some, None}
 use Rattle.qs_bytes.specs.Numbers.{number32}
 use Rattle.qs_bytes.specs.declared.ask.Ask.{Ask}
-use Rattle.qs_bytes.specs.declared.status.SessionEnd.{SessionEnd}
-use Rattle.qs_bytes.specs.declared.status.SessionEnd.TheVariants.{Done, Truncated, BadMagic, TooLong}
+use Rattle.qs_status.specs.declared.status.SessionEnd.{SessionEnd}
+use Rattle.qs_status.specs.declared.status.SessionEnd.TheVariants.{Done, Truncated, BadMagic, TooLong}
 use Rattle.qs_nbd_transmission.specs.declared.head.Head.{Head}
 use Rattle.qs_nbd_transmission.specs.declared.event.Room.{Room}
 use Rattle.qs_nbd_transmission.specs.declared.event.Room.TheVariants.{Keep, Drop}

@@ -8,7 +8,7 @@ use Rattle.qs_bytes.specs.declared.ask.Kind.{Kind}
 use Rattle.qs_bytes.specs.declared.ask.Kind.TheVariants.{Read}
 use Rattle.qs_bytes.specs.declared.ask.Verdict.{Verdict}
 use Rattle.qs_bytes.specs.declared.ask.Verdict.TheVariants.{Got, Fine, Refused, Dropped}
-use Rattle.qs_nbd_transmission.specs.Heads.{longest}
+use Rattle.qs_bytes.specs.Payloads.{max_payload}
 
 abbrev pub is_read : Kind → Bool
 is_read Read = true
@@ -17,7 +17,7 @@ is_read other = false
 -- What can be replied to a request: bytes to a READ of so many, success to what asks for no bytes, or
 -- an error.
 abbrev pub CanReply : Ask → Verdict → Type 0
-CanReply ask (Got bytes) = (ask.kind ≡ Read) × (length bytes ≡ ask.length) × (ask.length ≤ longest)
+CanReply ask (Got bytes) = (ask.kind ≡ Read) × (length bytes ≡ ask.length) × (ask.length ≤ max_payload)
 CanReply ask Fine = is_read ask.kind ≡ true → ask.length ≡ 0
 CanReply ask (Refused errno) = Unit {0}
 CanReply ask Dropped = ⊥

@@ -1,7 +1,8 @@
 ghost use Rattle.std.specs.Prelude.{◌≡◌};
 ghost use Rattle.qs_nbd_transmission.specs.Heads.{has_data};
 
-use qs_bytes::{Ask, Bytes, Kind, SessionEnd};
+use qs_bytes::{Ask, Bytes, Kind};
+use qs_status::SessionEnd;
 
 /// Where the data of a WRITE go: into a buffer, or nowhere. Each has room for exactly the data.
 #[derive(Debug, Drop)]

@@ -1,16 +1,13 @@
 ghost use Rattle.std.specs.Prelude.{◌≡◌, length};
 ghost use Rattle.qs_nbd_transmission.specs.Heads.{FitsHead, ask_of, flags_fit_of, has_body, has_flag, head_of, is_too_long, kind_of};
 
-use qs_bytes::{Ask, Kind, u16_at, u32_at, u64_at};
+use qs_bytes::{Ask, Kind, MAX_PAYLOAD, u16_at, u32_at, u64_at};
 
 /// The bytes of a head.
 pub const HEAD_BYTES: usize = 28;
 
 /// The number that every head begins with (NBD proto.md, "Request message").
 pub const REQUEST_MAGIC: u32 = 0x25609513;
-
-/// The most data of a WRITE, in bytes.
-const LONGEST: u32 = 33_554_432;
 
 // Types of requests (NBD proto.md, "Request types").
 const READ: u16 = 0;
@@ -107,7 +104,7 @@ pub fn ask(structured: bool, head: &Head) -> Ask
 pub fn is_over_long(head: &Head) -> bool
     ensures { result ≡ is_too_long head.now }
 {
-    head.kind == WRITE && head.size > LONGEST
+    head.kind == WRITE && u64::from(head.size) > MAX_PAYLOAD
 }
 
 /// Whether data follow the head.

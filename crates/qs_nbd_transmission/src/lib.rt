@@ -2,7 +2,6 @@
 //! replies. Nothing here takes memory.
 #![tactic(auto)]
 
-mod copy;
 mod event;
 mod head;
 pub mod laws;

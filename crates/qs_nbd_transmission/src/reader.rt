@@ -4,7 +4,8 @@ ghost use Rattle.qs_nbd_transmission.specs.Phases.{CanFeed, CanGive, Reaches, In
 use crate::event::{Room, WireEvent};
 use crate::head::HEAD_BYTES;
 use crate::stage::{Advance, Stage, take_piece};
-use qs_bytes::{Fed, Mode, SessionEnd};
+use qs_bytes::{Fed, Mode};
+use qs_status::SessionEnd;
 use std::marker::Model;
 use std::mem;
 

@@ -1,11 +1,10 @@
 ghost use Rattle.std.specs.Prelude.{◌≡◌, ℕ, ◌+◌, ◌≤◌, true, List, [], ◌++◌, length};
 ghost use Rattle.qs_bytes.specs.Numbers.{bytes16, bytes32, bytes64};
 ghost use Rattle.qs_bytes.specs.declared.ask.Verdict.TheVariants.{Got};
-ghost use Rattle.qs_nbd_transmission.specs.Heads.{longest};
+ghost use Rattle.qs_bytes.specs.Payloads.{max_payload};
 ghost use Rattle.qs_nbd_transmission.specs.Replies.{CanReply, bytes_front, chunk_front, chunk_head, error_front, error_of, is_read, reply_front, simple_front};
 
-use crate::copy::write_over;
-use qs_bytes::{Ask, Errno, Kind, Mode, Verdict};
+use qs_bytes::{Ask, Errno, Kind, Mode, Verdict, write_over};
 use std::marker::Model;
 
 const SIMPLE_MAGIC: u32 = 0x67446698;
@@ -138,7 +137,7 @@ fn chunk(kind: u16, cookie: u64, size: u32) -> ReplyHead
 
 /// The chunk that answers a READ with its bytes, before them.
 fn bytes_chunk(ask: &Ask) -> ReplyHead
-    requires { ask.now.length ≤ longest }
+    requires { ask.now.length ≤ max_payload }
     ensures { result ≡ bytes_front ask.now }
 {
     if ask.length == 0 {
@@ -191,7 +190,7 @@ pub fn reply_head(mode: &Mode, ask: &Ask, verdict: &Verdict) -> ReplyHead
 /// behind them. Whatever these are, it is what `reply_head` gives.
 pub fn data_head(mode: &Mode, ask: &Ask) -> ReplyHead
     requires read { is_read ask.now.kind ≡ true }
-    requires short { ask.now.length ≤ longest }
+    requires short { ask.now.length ≤ max_payload }
     ensures { (bytes : List ℕ) → result ≡ reply_front mode.now.structured ask.now (Got bytes) }
 {
     if mode.structured {

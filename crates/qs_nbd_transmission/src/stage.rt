@@ -4,10 +4,10 @@ ghost use Rattle.qs_nbd_transmission.specs.Heads.{head_of, request_magic};
 ghost use Rattle.qs_nbd_transmission.specs.Phases.{CanFeed, Reaches, InHead, Fills, Skips, is_stuck};
 ghost use Rattle.qs_nbd_transmission.specs.Stages.{IsSound, phase_of};
 
-use crate::copy::{write_into, write_over};
 use crate::event::{Room, WireEvent};
 use crate::head::{DISC, HEAD_BYTES, REQUEST_MAGIC, ask, head_at, is_over_long, wants_body};
-use qs_bytes::{Bytes, SessionEnd, u32_at};
+use qs_bytes::{Bytes, u32_at, write_over, write_into};
+use qs_status::SessionEnd;
 
 /// What is held of the next request, beside the bytes of its head.
 #[derive(Debug, Drop)]

@@ -3,7 +3,8 @@ ghost use Rattle.qs_nbd_transmission.specs.Phases.{room_size};
 ghost use Rattle.qs_nbd_transmission.specs.Replies.{CanReply};
 
 use crate::{ReplyHead, Room, Transmission, WireEvent, awaits_data, data_head, reply_head};
-use qs_bytes::{Ask, Bytes, Errno, Kind, Mode, SessionEnd, Verdict};
+use qs_bytes::{Ask, Bytes, Errno, Kind, Mode, Verdict};
+use qs_status::SessionEnd;
 use std::alloc::{AllocError, Global};
 use std::process::Abort;
 use std::test::Fail;

@@ -9,7 +9,8 @@ use Rattle.std.proofs.lemmas.Bool.Decides.{eqb_tells}
 use Rattle.std.proofs.lemmas.Slice.{between_is, between-put_mid, take-put_mid_below, drop-put_mid}
 use borrow.Rule.Slice.PartMut.{put_mid}
 use Rattle.qs_bytes.specs.Pieces.{part}
-use Rattle.qs_outside.specs.Blocks.{Stored, stripe_of}
+use Rattle.qs_outside.specs.Blocks.{Stored}
+use Rattle.qs_bytes.specs.Geometry.{stripe_of}
 use Rattle.qs_outside.specs.Held.{Held, block_of, rank_of}
 
 -- a block of the stripe is a part of the bytes

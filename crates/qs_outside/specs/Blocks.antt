@@ -1,6 +1,7 @@
 -- What a disk means: one of eight that hold an image in turn, sixteen blocks at a time.
 use Rattle.std.specs.Prelude.{◌≡◌, ◌≢◌, ℕ, ◌+◌, ◌*◌, ◌/◌, ◌%◌, ◌≤◌, ◌⊎◌, Bool, false, List, Option, None, Some, Contains}
 use Rattle.std.specs.List.{AllByRecursion}
+use Rattle.qs_bytes.specs.Geometry.{stripe_of}
 use Rattle.qs_outside.specs.declared.rigged_disk.Plans.{Plans}
 
 -- All that a disk means. A real file tells neither its content nor its plans; `now` and `past` are
@@ -15,10 +16,6 @@ pub record Seen : Type 0 where
   pub past : ℕ → List (List ℕ)
   pub planned : Option Plans
   pub full : Option Bool
-
--- the stripe of a block
-abbrev pub stripe_of : ℕ → ℕ
-stripe_of b = (b / 16) % 8
 
 -- a block of this disk's stripe, inside the image
 pub record IsBlock (disk : Seen) (b : ℕ) : Type 0 where

@@ -2,7 +2,8 @@
 use Rattle.std.specs.Prelude.{◌≡◌, ℕ, ◌+◌, ◌*◌, ◌/◌, ◌%◌, ◌==◌, if◌then◌else◌, true, List, [], ◌∷◌, None, replicate}
 use Rattle.std.specs.Int.{div_ceil}
 use Rattle.qs_bytes.specs.Pieces.{part}
-use Rattle.qs_outside.specs.Blocks.{Seen, IsBlock, stripe_of}
+use Rattle.qs_outside.specs.Blocks.{Seen, IsBlock}
+use Rattle.qs_bytes.specs.Geometry.{stripe_of}
 
 -- the stripe, the bytes of a block and of the image, and the stripe's blocks in order
 pub record Held : Type 0 where

@@ -1,6 +1,7 @@
 ghost use Rattle.std.specs.Prelude.{◌≡◌, ◌+◌, ◌*◌, ◌/◌, ◌<◌, ◌≤◌, length, replicate, IfOk};
 ghost use Rattle.std.specs.Int.{div_ceil};
-ghost use Rattle.qs_outside.specs.Blocks.{Fixed, Stored, stripe_of};
+ghost use Rattle.qs_outside.specs.Blocks.{Fixed, Stored};
+ghost use Rattle.qs_bytes.specs.Geometry.{stripe_of};
 ghost use Rattle.qs_outside.specs.Held.{IsZeros, block_of, quiet_seen, rank_of, zeros_of};
 
 use qs_bytes::Memory;
@@ -18,7 +19,7 @@ pub struct BlockStore {
 
 impl Model for BlockStore {
     ghost use Rattle.std.specs.Prelude.{◌≡◌, ℕ, ◌+◌, ◌*◌, ◌≤◌, vec_len};
-    ghost use Rattle.qs_outside.specs.Blocks.{stripe_of};
+    ghost use Rattle.qs_bytes.specs.Geometry.{stripe_of};
     ghost use Rattle.qs_outside.specs.Held.{Held, rank_of};
 
     ghost Value = { Held };

@@ -3,8 +3,8 @@ use Rattle.std.proofs.Common.{◌≡◌, ◌≢◌, ◌⊎◌, ℕ, zero, suc, �
 use Rattle.std.proofs.Common.{refl, sym, subst, ap, ◌∙◌, inl, inr, arith, ne_eqb, append_assoc, append-nil, length-append}
 use Rattle.std.specs.Prelude.{Option, None, Some}
 use Rattle.qs_outside.specs.Blocks.{Seen}
-use Rattle.qs_bytes.specs.declared.status.Status.{Status}
-use Rattle.qs_bytes.specs.declared.status.Status.TheVariants as status
+use Rattle.qs_status.specs.declared.status.Status.{Status}
+use Rattle.qs_status.specs.declared.status.Status.TheVariants as status
 use Rattle.qs_script.specs.Cuts.{longest}
 use Rattle.qs_script.specs.Finds.{HasNo}
 use Rattle.qs_world.specs.Values.{WorldValue}

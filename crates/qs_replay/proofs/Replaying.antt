@@ -8,8 +8,8 @@ use Rattle.qs_replay.specs.declared.desk.Desk.{Desk}
 use Rattle.qs_replay.specs.declared.stop.Stop.{Stop}
 use Rattle.qs_replay.specs.Effects.{PlaysLine}
 use Rattle.qs_outside.specs.Blocks.{Seen}
-use Rattle.qs_bytes.specs.declared.status.Status.{Status}
-use Rattle.qs_bytes.specs.declared.status.Status.TheVariants as status
+use Rattle.qs_status.specs.declared.status.Status.{Status}
+use Rattle.qs_status.specs.declared.status.Status.TheVariants as status
 use Rattle.qs_world.specs.Values.{WorldValue}
 use Rattle.qs_replay.specs.declared.stop.Stop.TheVariants as stop
 use Rattle.qs_replay.specs.declared.replay.Turn.{Turn}

@@ -1,8 +1,8 @@
 -- From the disks to the run.
 use Rattle.std.proofs.Common.{◌≡◌, ℕ, ◌<◌, List, [], ◌∷◌, ◌++◌, refl, sym, subst, ap, ◌∙◌, inl, inr, true, codes, arith}
 use Rattle.std.specs.Prelude.{false, Option, map}
-use Rattle.qs_bytes.specs.declared.status.Status.{Status}
-use Rattle.qs_bytes.specs.declared.status.Status.TheVariants as status
+use Rattle.qs_status.specs.declared.status.Status.{Status}
+use Rattle.qs_status.specs.declared.status.Status.TheVariants as status
 use Rattle.qs_outside.specs.Blocks.{Seen}
 use Rattle.qs_graph.specs.Table.{GraphValue}
 use Rattle.qs_image.specs.Image.{align_of}

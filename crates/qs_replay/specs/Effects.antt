@@ -1,6 +1,7 @@
 -- What a line of a script does: the events that it makes, what it prints, and the names after it.
 use Rattle.std.specs.Prelude.{◌≡◌, ℕ, ◌<◌, ◌≤◌, ◌⊎◌, Bool, true, false, List, [], ◌∷◌, ◌++◌, length, replicate, All, Option, Some, None, Result, Ok, Err}
 use Rattle.std.specs.FinMap as map
+use Rattle.qs_bytes.specs.Payloads.{max_payload}
 use Rattle.qs_bytes.specs.declared.ask.Ask.{Ask}
 use Rattle.qs_bytes.specs.declared.ask.Kind.TheVariants as kind
 use Rattle.qs_bytes.specs.declared.ask.Verdict.{Verdict}
@@ -50,14 +51,10 @@ abbrev pub IsKey : Names → ScriptActor → Option (ℕ × ℕ) → Type 0
 IsKey t (who.Session s) key = key ≡ None
 IsKey t (who.Request s c) key = (n : ℕ) × (IsKnown t.sessions s n × (key ≡ Some (n, c)))
 
--- the longest request that is served, in bytes
-abbrev pub longest_request : ℕ
-longest_request = 33554432
-
 -- A READ's buffer has its length. There is none where it is too long to be served, or memory was refused.
 abbrev pub IsRoom : Option (List ℕ) → ℕ → Type 0
 IsRoom None n = 0 < n
-IsRoom (Some bytes) n = (bytes ≡ replicate n 0) × (n ≤ longest_request)
+IsRoom (Some bytes) n = (bytes ≡ replicate n 0) × (n ≤ max_payload)
 
 -- a WRITE's bytes, or none where memory was refused for them, so that they were lost
 abbrev pub bytes_or : Bool → List ℕ → Option (List ℕ)

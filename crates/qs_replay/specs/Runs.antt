@@ -1,9 +1,9 @@
 -- What `run_replay` does, from its words to its status.
 use Rattle.std.specs.Prelude.{◌≡◌, ◌^◌, ℕ, ◌⊎◌, true, false, List, [], ◌∷◌, ◌++◌, map, codes, Option, Some, None, String}
 use Rattle.std.specs.Global.{Global}
-use Rattle.qs_bytes.specs.declared.status.OpenBad.{OpenBad}
-use Rattle.qs_bytes.specs.declared.status.Status.{Status}
-use Rattle.qs_bytes.specs.declared.status.Status.TheVariants as status
+use Rattle.qs_status.specs.declared.status.OpenBad.{OpenBad}
+use Rattle.qs_status.specs.declared.status.Status.{Status}
+use Rattle.qs_status.specs.declared.status.Status.TheVariants as status
 use Rattle.qs_outside.specs.Blocks.{Seen}
 use Rattle.qs_image.specs.Image.{align_of}
 use Rattle.qs_image.specs.Opening.{Opens}

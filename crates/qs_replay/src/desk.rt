@@ -9,7 +9,7 @@ ghost use Rattle.qs_replay.specs.declared.stop.Stop.TheVariants.{NotNext, Memory
 
 use crate::stop::Stop;
 use crate::table::Table;
-use qs_bytes::{Bytes, Memory, Verdict};
+use qs_bytes::{Bytes, MAX_PAYLOAD, Memory, Verdict};
 use qs_outside::Disk;
 use qs_part::event::{Actor, Event, GraphNote, Note, NoteReply, Outcome, StripeNote};
 use qs_part::tracker::TrackerReply;
@@ -162,7 +162,7 @@ pub fn run_lines(alloc: Global, who: &ScriptActor, outcome: &Outcome) -> Result<
 pub fn room_for(alloc: Global, length: u64) -> Option<Bytes>
     ensures { IsRoom result length }
 {
-    if length > LONGEST {
+    if length > MAX_PAYLOAD {
         return None;
     }
     if length == 0 {
@@ -192,9 +192,6 @@ pub struct Found {
     pub actor: Actor,
     pub key: Option<(u32, u64)>,
 }
-
-/// The longest request that is served, in bytes.
-const LONGEST: u64 = 33_554_432;
 
 /// The actor that a script names, or why there is none.
 pub fn actor_for(table: &mut Table, who: &ScriptActor) -> Result<Found, Stop>

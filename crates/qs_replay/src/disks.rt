@@ -3,12 +3,9 @@ ghost use Rattle.qs_image.specs.Opening.{IsAlign};
 ghost use Rattle.qs_replay.specs.ZeroDisks.{AreDisksOf, AreZeroDisks, IsZeroDisk};
 
 use crate::words::{ReplayWords, replay_words};
-use qs_bytes::Memory;
+use qs_bytes::{Memory, STRIPES};
 use qs_outside::MemDisk;
 use std::alloc::Global;
-
-/// How many disks hold an image.
-const STRIPES: u8 = 8;
 
 /// How many stores a disk keeps before it is full.
 const ROOM: u32 = 4096;

@@ -1,6 +1,6 @@
 ghost use Rattle.std.specs.Prelude.{◌≡◌, ◌<◌, ◌≤◌, ◌-◌, ◌^◌, ◌⊎◌, List, ℕ};
 ghost use Rattle.qs_script.specs.Lines.{IsLineFault, Reads};
-ghost use Rattle.qs_bytes.specs.declared.status.Status.TheVariants as S;
+ghost use Rattle.qs_status.specs.declared.status.Status.TheVariants as S;
 ghost use Rattle.qs_outside.specs.Faults.{Rose};
 ghost use Rattle.qs_replay.specs.Scripts.{Finishes, PlaysText, Replays, Turns, status_of};
 ghost use Rattle.qs_replay.specs.declared.replay.Turn.TheVariants.{ReadFault, WriteFault};
@@ -10,9 +10,10 @@ use crate::inbox::Inbox;
 use crate::lines::{Came, next_line};
 use crate::outbox::flush;
 use crate::stop::Stop;
-use qs_bytes::{Bytes, Status};
+use qs_bytes::Bytes;
 use qs_outside::{RiggedDisk, Sink, Source};
 use qs_script::{LineFault, read_line};
+use qs_status::Status;
 use std::alloc::Global;
 
 /// What came of one line of a script.

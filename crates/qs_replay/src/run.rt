@@ -1,5 +1,5 @@
 ghost use Rattle.std.specs.Prelude.{◌≡◌, MatchResult};
-ghost use Rattle.qs_bytes.specs.declared.status.Status.TheVariants as S;
+ghost use Rattle.qs_status.specs.declared.status.Status.TheVariants as S;
 ghost use Rattle.qs_outside.specs.Faults.{Rose};
 ghost use Rattle.qs_replay.specs.Runs.{Begins, ComesBack, Opening, Ran, fault_of};
 
@@ -8,8 +8,9 @@ use crate::inbox::Inbox;
 use crate::replay::replay;
 use crate::table::Table;
 use crate::words::replay_words;
-use qs_bytes::{Bytes, Name, OpenBad, Status};
+use qs_bytes::{Bytes, Name};
 use qs_outside::{Disk, RiggedDisk, Sink, Source};
+use qs_status::{OpenBad, Status};
 use qs_world::world::World;
 use std::alloc::Global;
 use std::mem;

@@ -1,6 +1,7 @@
 use crate::{ReplayWords, replay_words, run_replay};
-use qs_bytes::{Bytes, Memory, OpenBad, Status};
+use qs_bytes::{Bytes, Memory};
 use qs_outside::{MemDisk, MemSink, MemSource};
+use qs_status::{OpenBad, Status};
 use std::alloc::Global;
 use std::test::Fail;
 

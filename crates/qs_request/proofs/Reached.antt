@@ -8,7 +8,7 @@ use Rattle.qs_model.proofs.Geometry.{Reaches, head_high, tail_low, head_reached}
 use Rattle.qs_request.specs.declared.shape.Shape.{Shape}
 use Rattle.qs_request.specs.declared.machine.Machine.{Machine}
 use Rattle.qs_request.specs.Shapes.{IsShape}
-use Rattle.qs_model.specs.Worlds.{stripe_of}
+use Rattle.qs_bytes.specs.Geometry.{stripe_of}
 use Rattle.qs_request.specs.Table.{FitsBlock}
 use Rattle.qs_request.specs.Inside.{IsGoing, IsReached, IsPlaced, client_of}
 

@@ -13,7 +13,7 @@ use Rattle.qs_part.specs.declared.stripe.StripeOp.TheVariants.{Load, Hold, Store
 use Rattle.qs_part.specs.declared.stripe.StripeReply.{StripeReply}
 use Rattle.qs_part.specs.declared.stripe.StripeReply.TheVariants.{Filled, Fault, HeldBy, Taken, Done, Freed, NotHeld}
 use Rattle.qs_model.specs.Requests.{Client, Pads, Req, Stage, ToRoute, ToList, ToStart, ToLoad, ToHold, ToStore, ToFree, ToEnd, Ready, Entering, In, edge, span_of, serial}
-use Rattle.qs_model.specs.Worlds.{stripe_of}
+use Rattle.qs_bytes.specs.Geometry.{stripe_of}
 use Rattle.qs_request.specs.declared.shape.Shape.{Shape}
 use Rattle.qs_request.specs.declared.todo.Todo.{Todo}
 use Rattle.qs_request.specs.declared.todo.Todo.TheVariants.{Tracker, Graph, Stripe, Answer}

@@ -15,7 +15,7 @@ use Rattle.qs_part.specs.declared.stripe.StripeOp.TheVariants.{Load, Hold, Store
 use Rattle.qs_part.specs.declared.stripe.StripeReply.{StripeReply}
 use Rattle.qs_part.specs.declared.stripe.StripeReply.TheVariants.{Filled, Fault, HeldBy, Taken, Done, Freed, NotHeld}
 use Rattle.qs_model.specs.Requests.{Client, Req, Stage, ToRoute, ToList, ToStart, ToLoad, ToHold, ToStore, ToFree, ToEnd, Ready, Entering, In, Pads, edge, span_of, serial, merged_at, keep, routed, held, started, loaded, stored, hold_failed, store_failed, verdict}
-use Rattle.qs_model.specs.Worlds.{stripe_of}
+use Rattle.qs_bytes.specs.Geometry.{stripe_of}
 use Rattle.qs_request.specs.declared.shape.Shape.{Shape}
 use Rattle.qs_request.specs.declared.todo.Todo.{Todo}
 use Rattle.qs_request.specs.declared.todo.Todo.TheVariants.{Tracker, Graph, Stripe, Answer}

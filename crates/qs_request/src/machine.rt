@@ -2,7 +2,6 @@ ghost use Rattle.std.specs.Prelude.{◌≡◌, ℕ, ◌+◌, ◌*◌, ◌<◌, �
 ghost use Rattle.std.specs.List.{slice_index_or};
 ghost use Rattle.qs_padding.specs.Padding.{merged_at};
 ghost use Rattle.qs_model.specs.Requests.{abandon};
-ghost use Rattle.qs_model.specs.Worlds.{stripe_of};
 ghost use Rattle.qs_request.specs.Shapes.{IsShape};
 ghost use Rattle.qs_request.specs.Table.{FitsPart, IsMerged, WantsAt};
 ghost use Rattle.qs_request.specs.Value.{Leaves};
@@ -13,7 +12,7 @@ use crate::pads::PadBuffer;
 use crate::shape::Shape;
 use crate::stage::{Ending, Stage, Step};
 use crate::todo::Todo;
-use qs_bytes::{Ask, Bytes, Span, Verdict};
+use qs_bytes::{Ask, Bytes, Span, Verdict, stripe_of};
 use qs_padding::padding::merge;
 use qs_part::graph::{GraphOp, Route};
 use qs_part::stripe::{Side, StripeOp};
@@ -44,13 +43,6 @@ pub struct Machine {
     pub answered: bool,
     /// Makes buffers of no bytes, which take no memory.
     pub alloc: Global,
-}
-
-/// The stripe of a block: every eighth run of 16 blocks.
-fn stripe_of(b: u64) -> u8
-    ensures { result ≡ stripe_of b }
-{
-    (b / 16 % 8) as u8
 }
 
 /// Puts the pad over the block, if there is one.

@@ -11,11 +11,8 @@ use crate::moves::{is_read, is_write};
 use crate::pads::PadBuffer;
 use crate::shape::{Blocks, Shape};
 use crate::stage::{Ending, Stage};
-use qs_bytes::{Ask, Bytes, Errno};
+use qs_bytes::{Ask, Bytes, Errno, MAX_PAYLOAD};
 use std::alloc::Global;
-
-/// The most bytes that a READ may ask for.
-const MAX_READ: u64 = 33_554_432;
 
 /// Whether a request is refused by its form alone.
 fn is_form_error(ask: Ask) -> bool
@@ -23,7 +20,7 @@ fn is_form_error(ask: Ask) -> bool
 {
     let reads = is_read(ask.kind);
     let known = reads || is_write(ask.kind);
-    !known || !ask.flags_fit || ask.fua || (reads && ask.length > MAX_READ)
+    !known || !ask.flags_fit || ask.fua || (reads && ask.length > MAX_PAYLOAD)
 }
 
 fn first_stage(ask: Ask, buffered: bool) -> Stage

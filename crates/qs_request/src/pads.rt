@@ -1,5 +1,4 @@
-ghost use Rattle.std.specs.Prelude.{◌≡◌, ◌+◌, ◌≤◌, length};
-ghost use Rattle.qs_bytes.specs.Pieces.{overlay};
+ghost use Rattle.std.specs.Prelude.{◌≡◌, length};
 ghost use Rattle.qs_model.specs.Requests.{keep, pad};
 ghost use Rattle.qs_request.specs.Kept.{no_pads};
 
@@ -7,23 +6,6 @@ use qs_bytes::Bytes;
 use qs_part::stripe::Side;
 use std::marker::Model;
 use std::mem;
-
-/// Writes the piece over the buffer, from the place `at` on.
-#[tactic(auto, unfolding(qs_bytes::specs::Pieces::overlay))]
-fn write_over(buffer: &mut [u8], at: usize, piece: &[u8])
-    requires { at + length piece.now ≤ length buffer.old }
-    ensures { buffer.new ≡ overlay buffer.old at piece.now }
-{
-    buffer[at..at + piece.len()].copy_from_slice(piece);
-}
-
-/// The same of the bytes of a buffer.
-pub fn write_part(buffer: &mut Bytes, at: usize, piece: &[u8])
-    requires { at + length piece.now ≤ length buffer.old }
-    ensures { buffer.new ≡ overlay buffer.old at piece.now }
-{
-    write_over(buffer.as_mut_slice(), at, piece);
-}
 
 /// The blocks that the holds of a span's head and tail gave.
 #[derive(Debug, Drop)]

@@ -7,10 +7,9 @@ ghost use Rattle.qs_request.specs.Inside.{AwaitsReply, Follows, Goes, HasBuffers
 ghost use Rattle.qs_request.specs.Shapes.{IsShape};
 
 use crate::machine::Machine;
-use crate::pads::write_part;
 use crate::stage::{Ending, Stage, Step};
 use crate::todo::PartReply;
-use qs_bytes::{Bytes, Errno};
+use qs_bytes::{Bytes, Errno, write_over};
 use qs_part::graph::GraphReply;
 use qs_part::stripe::{Side, StripeReply};
 use qs_part::tracker::TrackerReply;
@@ -110,7 +109,7 @@ impl Machine {
         let start = self.start(b);
         let part = cut_of(span.lo(), span.hi(), start, u64::from(self.shape.align));
         let piece = &self.work.as_slice()[part.from..part.to];
-        write_part(&mut self.body, part.at, piece);
+        write_over(self.body.as_mut_slice(), part.at, piece);
     }
 
     /// A READ has block `b`.

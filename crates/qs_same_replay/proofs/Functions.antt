@@ -1,11 +1,12 @@
 -- A replay is a function of its script and of what its disks held.
 use Rattle.std.proofs.Common.{◌≡◌, ◌⊎◌, ℕ, inl, inr, List, [], ◌∷◌, ◌++◌, map, refl, sym, subst, ap, ◌∙◌, append-nil}
 use Rattle.std.specs.Prelude.{Option, Some, IsTrue}
-use Rattle.qs_bytes.specs.declared.status.Status.{Status}
-use Rattle.qs_bytes.specs.declared.status.Status.TheVariants as status
+use Rattle.qs_status.specs.declared.status.Status.{Status}
+use Rattle.qs_status.specs.declared.status.Status.TheVariants as status
 use Rattle.qs_outside.specs.Blocks.{Seen}
 use Rattle.qs_image.specs.Image.{align_of, block_now, disk}
-use Rattle.qs_model.specs.Worlds.{World, stripe_of}
+use Rattle.qs_model.specs.Worlds.{World}
+use Rattle.qs_bytes.specs.Geometry.{stripe_of}
 use Rattle.qs_world.specs.Stands.{Stands}
 use Rattle.qs_world.specs.Values.{WorldValue}
 use Rattle.qs_world.proofs.Opening.{disk_of}

@@ -2,6 +2,7 @@
 use Rattle.std.proofs.Common.{◌≡◌, ℕ, ◌<◌, inl, inr, List, [], ◌∷◌, length, Bool, true, false, nat_lt, cond, refl, sym, subst, ap, ◌∙◌, arith, true≢false}
 use Rattle.std.specs.Prelude.{Option, Some, None, replicate}
 use Rattle.std.specs.FinMap as map
+use Rattle.qs_bytes.specs.Payloads.{max_payload}
 use Rattle.qs_bytes.specs.declared.ask.Ask.{Ask}
 use Rattle.qs_outside.specs.Blocks.{Seen}
 use Rattle.qs_part.specs.declared.event.Actor.{Actor}
@@ -22,7 +23,7 @@ use Rattle.qs_model.proofs.Basics.{either}
 use Rattle.qs_world.specs.Stands.{Stands}
 use Rattle.qs_world.specs.Values.{WorldValue}
 use Rattle.qs_same_replay.specs.Same.{HasBuffers}
-use Rattle.qs_replay.specs.Effects.{Adds, IsActor, IsKey, IsRoom, Notes, Settles, bytes_or, longest_request, read_ask, write_ask}
+use Rattle.qs_replay.specs.Effects.{Adds, IsActor, IsKey, IsRoom, Notes, Settles, bytes_or, read_ask, write_ask}
 use Rattle.qs_replay.specs.Tables.{Gives, Names, settled}
 use Rattle.qs_replay.proofs.Playing.{gives_number, known_one}
 use Rattle.qs_same_replay.proofs.Twins.{asked_buffers}
@@ -49,20 +50,20 @@ actor_one t a b (who.Request s c) x y is at =
 
 -- the buffer that a READ brings where no memory is refused
 abbrev pub room_of : ℕ → Option (List ℕ)
-room_of n = cond (nat_lt longest_request n) None (Some (replicate n 0))
+room_of n = cond (nat_lt max_payload n) None (Some (replicate n 0))
 
 -- a READ brings it
 pub read_body : {D : Type 0} (seen : D → Seen) (A n cookie offset long : ℕ) (body : Option (List ℕ)) (e : Element) (o : Outcome) (m : World) (v : WorldValue D) → IsRoom body long →
     IsEvent (event.Ask n (read_ask cookie offset long) body) e → outcome_of A e ≡ Some o → HasBuffers o v → Stands seen v (happens A m e) → body ≡ room_of long
-read_body seen A n cookie offset long None (Asked s c) o m v room is told buffers stands = elim (either (nat_lt longest_request long)) [
+read_body seen A n cookie offset long None (Asked s c) o m v room is told buffers stands = elim (either (nat_lt max_payload long)) [
   | inl big ↦ sym (ap (λ (b : Bool). cond b None (Some (replicate long 0))) big)
   | inr fits ↦ absurd (elim is.2.wanted [
     | inl empty ↦ let none : long ≡ 0 = ap (λ (a : Ask). a.length) is.1 ∙ empty in omega (arith, none, room)
     | inr refused ↦ true≢false (sym (asked_buffers seen A s c o m v told buffers stands (ap form_error (sym is.1) ∙ fits)) ∙ refused)
   ])
 ]
-read_body seen A n cookie offset long (Some bytes) (Asked s c) o m v room is told buffers stands = elim (either (nat_lt longest_request long)) [
-  | inl big ↦ let above : longest_request < long = grind (arith, big) in absurd (omega (arith, above, room.1))
+read_body seen A n cookie offset long (Some bytes) (Asked s c) o m v room is told buffers stands = elim (either (nat_lt max_payload long)) [
+  | inl big ↦ let above : max_payload < long = grind (arith, big) in absurd (omega (arith, above, room.1))
   | inr fits ↦ ap Some room.0 ∙ sym (ap (λ (b : Bool). cond b None (Some (replicate long 0))) fits)
 ]
 read_body seen A n cookie offset long body _ o m v room is told buffers stands = absurd is

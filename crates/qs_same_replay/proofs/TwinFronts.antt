@@ -1,8 +1,8 @@
 -- Of two replays of one script neither goes further than the other, and both end alike.
 use Rattle.std.proofs.Common.{◌≡◌, ◌≢◌, ◌<◌, ◌≤◌, ◌⊎◌, ℕ, inl, inr, List, [], ◌∷◌, ◌++◌, length, refl, sym, subst, ap, ◌∙◌, arith, append_assoc, length-append, Bool, true, false, ◌&&◌, true≢false}
 use Rattle.std.specs.Prelude.{Option}
-use Rattle.qs_bytes.specs.declared.status.Status.{Status}
-use Rattle.qs_bytes.specs.declared.status.Status.TheVariants as status
+use Rattle.qs_status.specs.declared.status.Status.{Status}
+use Rattle.qs_status.specs.declared.status.Status.TheVariants as status
 use Rattle.qs_outside.specs.Blocks.{Seen}
 use Rattle.qs_script.proofs.OneLine.{one_line}
 use Rattle.qs_model.specs.Worlds.{World}

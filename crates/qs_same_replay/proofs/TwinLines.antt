@@ -2,6 +2,7 @@
 use Rattle.std.proofs.Common.{◌≡◌, ◌<◌, ◌⊎◌, ℕ, inl, inr, List, [], ◌∷◌, ◌++◌, Bool, true, false, cond, nat_lt, refl, sym, subst, ap, ◌∙◌, arith, true≢false}
 use Rattle.std.specs.Prelude.{All, Option, None, Some, replicate}
 use Rattle.std.proofs.lemmas.List.Elements.{All-head, All-tail}
+use Rattle.qs_bytes.specs.Payloads.{max_payload}
 use Rattle.qs_outside.specs.Blocks.{Seen}
 use Rattle.qs_part.specs.declared.event.Actor.{Actor}
 use Rattle.qs_part.specs.declared.event.Event.{Event}
@@ -17,7 +18,7 @@ use Rattle.qs_model.specs.Worlds.{World}
 use Rattle.qs_world.specs.Stands.{Stands}
 use Rattle.qs_world.specs.Values.{WorldValue}
 use Rattle.qs_replay.specs.Calls.{Call, Happened, Rigged, Plays}
-use Rattle.qs_replay.specs.Effects.{Does, GoesOn, IsRoom, Notes, Rests, RunsOut, bytes_or, goes_on, longest_request, read_ask, text_of, write_ask}
+use Rattle.qs_replay.specs.Effects.{Does, GoesOn, IsRoom, Notes, Rests, RunsOut, bytes_or, goes_on, read_ask, text_of, write_ask}
 use Rattle.qs_same_replay.specs.Same.{AreCalm, HasBuffers, IsCalmDone}
 use Rattle.qs_replay.specs.Scripts.{AllDone, DoesText}
 use Rattle.qs_replay.specs.Tables.{Names}
@@ -183,8 +184,8 @@ module _ {D : Type 0} (seen : D → Seen) (A : ℕ) (o o' : World) (never : Neve
 
   read_tame : (n cookie offset long : ℕ) (body : Option (List ℕ)) → body ≡ room_of long → IsTame (event.Ask n (read_ask cookie offset long) body)
   read_tame n cookie offset long body is bad =
-      let big : nat_lt longest_request long ≡ true = bad in
-      let above : longest_request < long = grind (arith, big) in
+      let big : nat_lt max_payload long ≡ true = bad in
+      let above : max_payload < long = grind (arith, big) in
       (is ∙ ap (λ (b : Bool). cond b None (Some (replicate long 0))) big, λ none. omega (arith, above, none))
 
   -- one line

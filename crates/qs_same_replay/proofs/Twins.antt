@@ -20,7 +20,8 @@ use Rattle.qs_model.specs.Histories.{IsOddStep}
 use Rattle.qs_model.specs.Laws.{NeverOdd}
 use Rattle.qs_model.specs.Requests.{Client, Stage, asked, edge, form_error}
 use Rattle.qs_model.specs.Steps.{Runs, after, happens}
-use Rattle.qs_model.specs.Worlds.{World, stripe_of}
+use Rattle.qs_model.specs.Worlds.{World}
+use Rattle.qs_bytes.specs.Geometry.{stripe_of}
 use Rattle.qs_model.proofs.Basics.{either, put_here}
 use Rattle.qs_determined.proofs.Steps.{one_outcome}
 use Rattle.qs_request.specs.declared.shape.Shape.{Shape}

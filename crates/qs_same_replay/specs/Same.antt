@@ -1,7 +1,7 @@
 -- Two replays of one script side by side, and what they have in common.
 use Rattle.std.specs.Prelude.{◌≡◌, ◌≢◌, ℕ, true, false, List, [], ◌∷◌, map, Option, Some, None}
-use Rattle.qs_bytes.specs.declared.status.Status.{Status}
-use Rattle.qs_bytes.specs.declared.status.Status.TheVariants as status
+use Rattle.qs_status.specs.declared.status.Status.{Status}
+use Rattle.qs_status.specs.declared.status.Status.TheVariants as status
 use Rattle.qs_outside.specs.Blocks.{Seen}
 use Rattle.qs_outside.specs.Rigged.{plans_of}
 use Rattle.qs_part.specs.declared.event.NoteReply.TheVariants.{Stripe as OfStripe}
@@ -12,7 +12,7 @@ use Rattle.qs_part.specs.declared.event.Outcome.TheVariants.{Made, Moved}
 use Rattle.qs_part.specs.declared.event.StripeNote.TheVariants.{Fault}
 use Rattle.qs_image.specs.Image.{AllTell, align_of, block_now, size_of}
 use Rattle.qs_model.specs.Requests.{Req, form_error}
-use Rattle.qs_model.specs.Worlds.{stripe_of}
+use Rattle.qs_bytes.specs.Geometry.{stripe_of}
 use Rattle.qs_world.specs.Images.{stripe_at}
 use Rattle.qs_world.specs.Openings.{planned_of}
 use Rattle.qs_world.specs.Values.{WorldValue, request_at, stripes_of}

@@ -1,5 +1,5 @@
 ghost use Rattle.std.specs.Prelude.{List, Option, ℕ};
-ghost use Rattle.qs_bytes.specs.declared.status.Status.{Status};
+ghost use Rattle.qs_status.specs.declared.status.Status.{Status};
 ghost use Rattle.qs_replay.specs.Runs.{IsReplayed};
 ghost use Rattle.qs_same_replay.specs.Same.{IsFunction};
 

@@ -7,10 +7,11 @@ use Rattle.std.proofs.Math.Seq.{get_or-append_seam}
 use Rattle.hex.proofs.HexLemmas.{decode_of-ok}
 use Rattle.qs_outside.specs.declared.rigged_disk.Fail.{Fail}
 use Rattle.qs_outside.specs.declared.rigged_disk.Fail.TheVariants as fail
+use Rattle.qs_bytes.specs.Payloads.{max_payload}
 use Rattle.qs_script.specs.Finds.{HasNo}
 use Rattle.qs_script.specs.Lines.{Asks, Drives, IsQuiet, Reads, WordsSpell, words_of}
 use Rattle.qs_script.specs.SessionNames.{IsSessionName}
-use Rattle.qs_script.specs.Spelled.{Repeats, SpellsActor, SpellsData, SpellsNumber, fail_word, greatest, greatest_length, most_data, nothing, repeated, pairs}
+use Rattle.qs_script.specs.Spelled.{Repeats, SpellsActor, SpellsData, SpellsNumber, fail_word, greatest, greatest_length, nothing, repeated, pairs}
 use Rattle.qs_script.specs.declared.actor.ScriptActor.{ScriptActor}
 use Rattle.qs_script.specs.declared.actor.ScriptActor.TheVariants as actor
 use Rattle.qs_script.specs.declared.line.Line.{Line}
@@ -55,7 +56,7 @@ one_repeat pair digits xs ys a b =
     let one = a.one in
     let other = b.one in
     let byte : a.byte ≡ b.byte = cc in
-    let count = one_number most_data digits a.count b.count (omega arith) a.times b.times in
+    let count = one_number max_payload digits a.count b.count (omega arith) a.times b.times in
     a.is ∙ ap (λ (n : ℕ). replicate n a.byte) count ∙ ap (replicate b.count) byte ∙ sym b.is
 
 -- `-` has no pairs of digits, and no star

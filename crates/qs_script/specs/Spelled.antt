@@ -3,6 +3,7 @@ use Rattle.std.specs.Prelude.{◌≡◌, ℕ, ◌<◌, ◌≤◌, EachIndex, sli
 use Rattle.std.specs.Fmt.{decimal}
 use Rattle.std.specs.Int.{IsInRange}
 use Rattle.hex.specs.Hex.{decode_of}
+use Rattle.qs_bytes.specs.Payloads.{max_payload}
 use Rattle.qs_outside.specs.declared.rigged_disk.Fail.{Fail}
 use Rattle.qs_outside.specs.declared.rigged_disk.Fail.TheVariants.{Load, StoreOld, StoreNew, Sync}
 use Rattle.qs_script.specs.SessionNames.{IsSessionName}
@@ -22,15 +23,12 @@ pub record SpellsNumber (most : ℕ) (word : List ℕ) (n : ℕ) : Type 0 where
   pub small : n ≤ most
   pub digits : word ≡ decimal n
 
--- the greatest cookie, offset or reading, the greatest length, and the most bytes of a WRITE
+-- the greatest cookie, offset or reading, and the greatest length
 abbrev pub greatest : ℕ
 greatest = 0xffff_ffff_ffff_ffff
 
 abbrev pub greatest_length : ℕ
 greatest_length = 0xffff_ffff
-
-abbrev pub most_data : ℕ
-most_data = 33554432
 
 -- a session, or a request of one by its cookie: `A` and `A.1`
 abbrev pub SpellsActor : List ℕ → ScriptActor → Type 0
@@ -42,7 +40,7 @@ pub record Repeats (pair digits bytes : List ℕ) : Type 0 where
   pub byte : ℕ
   pub count : ℕ
   pub one : decode_of pair ≡ Ok (byte ∷ [])
-  pub times : SpellsNumber most_data digits count
+  pub times : SpellsNumber max_payload digits count
   pub is : bytes ≡ replicate count byte
 
 -- the data of a WRITE: `-` for none, `11*512` for one byte over and over, or pairs of hexadecimal digits

@@ -5,11 +5,8 @@ ghost use Rattle.qs_script.specs.Spelled.{IsDataFault, Repeats, SpellsData};
 
 use crate::number::number;
 use hex::FromHexError;
-use qs_bytes::Bytes;
+use qs_bytes::{Bytes, MAX_PAYLOAD};
 use std::alloc::Global;
-
-/// The most bytes of a WRITE.
-const MOST: u64 = 33_554_432;
 
 /// Why a word gives no data.
 #[derive(Clone, Copy, Debug, PartialEq, Eq)]
@@ -97,7 +94,7 @@ fn repeated(alloc: Global, pair: &[u8], digits: &[u8]) -> Result<Bytes, DataFaul
         Ok(()) => {}
         Err(_) => return Err(DataFault::OutOfForm),
     }
-    let Some(count) = number(digits, MOST) else {
+    let Some(count) = number(digits, MAX_PAYLOAD) else {
         return Err(DataFault::OutOfForm);
     };
     match vec![in alloc; byte[0]; count as usize] {

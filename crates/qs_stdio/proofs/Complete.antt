@@ -9,12 +9,12 @@ use Rattle.std.proofs.lemmas.List.{length-map}
 use Rattle.std.proofs.lemmas.List.Folds.{flat_map-map}
 use Rattle.std.proofs.lemmas.List.Elements.{All-from_recursion}
 use Rattle.qs_bytes.specs.Numbers.{number32}
-use Rattle.qs_bytes.specs.declared.status.OpenBad.{OpenBad}
-use Rattle.qs_bytes.specs.declared.status.OpenBad.TheVariants as bad
-use Rattle.qs_bytes.specs.declared.status.Status.{Status}
-use Rattle.qs_bytes.specs.declared.status.Status.TheVariants as status
-use Rattle.qs_bytes.specs.declared.status.SessionEnd.{SessionEnd}
-use Rattle.qs_bytes.specs.declared.status.SessionEnd.TheVariants as end
+use Rattle.qs_status.specs.declared.status.OpenBad.{OpenBad}
+use Rattle.qs_status.specs.declared.status.OpenBad.TheVariants as bad
+use Rattle.qs_status.specs.declared.status.Status.{Status}
+use Rattle.qs_status.specs.declared.status.Status.TheVariants as status
+use Rattle.qs_status.specs.declared.status.SessionEnd.{SessionEnd}
+use Rattle.qs_status.specs.declared.status.SessionEnd.TheVariants as end
 use Rattle.qs_nbd_transmission.specs.declared.head.Head.{Head}
 use Rattle.qs_nbd_transmission.specs.declared.event.WireEvent.TheVariants as event
 use Rattle.qs_nbd_transmission.specs.Heads.{request_magic, head_bytes, head_of, disc, has_body, is_too_long, IsHead, IsHeadFront}

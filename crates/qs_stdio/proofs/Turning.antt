@@ -2,9 +2,9 @@
 use Rattle.std.proofs.Common.{◌≡◌, ℕ, ◌<◌, inr, Bool, true, false, List, [], ◌++◌, length, refl, sym, ap, ◌∙◌, subst, append-nil}
 use Rattle.std.specs.Prelude.{Option, Some, Result, Ok, Err, if◌then◌else◌}
 use Rattle.qs_bytes.specs.declared.ask.Ask.{Ask}
-use Rattle.qs_bytes.specs.declared.status.Status.{Status}
-use Rattle.qs_bytes.specs.declared.status.Status.TheVariants as status
-use Rattle.qs_bytes.specs.declared.status.SessionEnd.TheVariants as end
+use Rattle.qs_status.specs.declared.status.Status.{Status}
+use Rattle.qs_status.specs.declared.status.Status.TheVariants as status
+use Rattle.qs_status.specs.declared.status.SessionEnd.TheVariants as end
 use Rattle.qs_nbd_transmission.specs.declared.head.Head.{Head}
 use Rattle.qs_nbd_transmission.specs.declared.event.Room.{Room}
 use Rattle.qs_nbd_transmission.specs.declared.event.Room.TheVariants.{Keep, Drop}

@@ -1,8 +1,8 @@
 -- What `run_stdio` does, from its words to its status.
 use Rattle.std.specs.Prelude.{◌≡◌, ◌^◌, ℕ, ◌⊎◌, Bool, true, false, List, [], ◌++◌, length, Some, String, Result, Ok, Err}
 use Rattle.std.specs.Global.{Global}
-use Rattle.qs_bytes.specs.declared.status.Status.{Status}
-use Rattle.qs_bytes.specs.declared.status.Status.TheVariants as status
+use Rattle.qs_status.specs.declared.status.Status.{Status}
+use Rattle.qs_status.specs.declared.status.Status.TheVariants as status
 use Rattle.qs_image.specs.Image.{content, align_of, size_of, AllTell, SameDisks}
 use Rattle.qs_image.specs.Opening.{IsImage, Opens}
 use Rattle.qs_stream.specs.declared.state.State.{State}

@@ -1,9 +1,9 @@
 -- What is seen of a session from outside, and how it ends.
 use Rattle.std.specs.Prelude.{◌≡◌, ◌≢◌, ℕ, ◌<◌, ◌⊎◌, true, false, List, [], ◌++◌, length, map, Option}
 use Rattle.qs_bytes.specs.Numbers.{number32}
-use Rattle.qs_bytes.specs.declared.status.SessionEnd.TheVariants as end
-use Rattle.qs_bytes.specs.declared.status.Status.{Status}
-use Rattle.qs_bytes.specs.declared.status.Status.TheVariants.{Done, Ended}
+use Rattle.qs_status.specs.declared.status.SessionEnd.TheVariants as end
+use Rattle.qs_status.specs.declared.status.Status.{Status}
+use Rattle.qs_status.specs.declared.status.Status.TheVariants.{Done, Ended}
 use Rattle.qs_nbd_transmission.specs.Heads.{request_magic, head_of, IsHead, IsHeadFront, disc, is_too_long, has_body}
 use Rattle.qs_nbd_transmission.specs.Messages.{IsMessage, spelling}
 use Rattle.qs_outside.specs.Blocks.{Seen}

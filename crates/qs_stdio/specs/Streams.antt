@@ -1,8 +1,8 @@
 -- Which input is served to its end.
 use Rattle.std.specs.Prelude.{◌≡◌, ℕ, ◌<◌, ◌^◌, ◌⊎◌, List, [], ◌++◌, length, All}
 use Rattle.std.specs.List.{flat_map}
-use Rattle.qs_bytes.specs.declared.status.Status.{Status}
-use Rattle.qs_bytes.specs.declared.status.Status.TheVariants as status
+use Rattle.qs_status.specs.declared.status.Status.{Status}
+use Rattle.qs_status.specs.declared.status.Status.TheVariants as status
 use Rattle.qs_nbd_transmission.specs.Messages.{Message, IsMessage, spelling}
 use Rattle.qs_stdio.specs.Scenes.{IsLeave}
 

@@ -2,10 +2,10 @@
 use Rattle.std.specs.Prelude.{◌≡◌, ◌≢◌, ℕ, ◌<◌, false, List, [], length, Option, None, Some, Result, Ok, Err}
 use Rattle.qs_bytes.specs.declared.ask.Ask.{Ask}
 use Rattle.qs_bytes.specs.declared.ask.Verdict.{Verdict}
-use Rattle.qs_bytes.specs.declared.status.SessionEnd.{SessionEnd}
-use Rattle.qs_bytes.specs.declared.status.SessionEnd.TheVariants as end
-use Rattle.qs_bytes.specs.declared.status.Status.{Status}
-use Rattle.qs_bytes.specs.declared.status.Status.TheVariants.{Done, Ended}
+use Rattle.qs_status.specs.declared.status.SessionEnd.{SessionEnd}
+use Rattle.qs_status.specs.declared.status.SessionEnd.TheVariants as end
+use Rattle.qs_status.specs.declared.status.Status.{Status}
+use Rattle.qs_status.specs.declared.status.Status.TheVariants.{Done, Ended}
 use Rattle.qs_nbd_transmission.specs.declared.head.Head.{Head}
 use Rattle.qs_nbd_transmission.specs.declared.event.Room.{Room}
 use Rattle.qs_nbd_transmission.specs.declared.event.Room.TheVariants.{Keep, Drop}

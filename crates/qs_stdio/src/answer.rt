@@ -1,4 +1,5 @@
 ghost use Rattle.std.specs.Prelude.{◌≡◌, ◌+◌, ◌≤◌, true, false, [], length, map, nat_le, vec_len, OnErr, OnOk, ◌<◌};
+ghost use Rattle.qs_bytes.specs.Payloads.{max_payload};
 ghost use Rattle.qs_bytes.specs.declared.ask.Verdict.TheVariants.{Got, Refused};
 ghost use Rattle.qs_image.specs.Image.{align_of, size_of};
 ghost use Rattle.qs_image.specs.Opening.{IsAlign, IsImage};
@@ -8,7 +9,7 @@ ghost use Rattle.qs_stream.specs.Flows.{Puts, side};
 ghost use Rattle.qs_stdio.specs.Calls.{Answers};
 ghost use Rattle.qs_stdio.specs.Service.{is_valid};
 
-use qs_bytes::{Ask, Errno, Kind, Memory, Mode, Verdict};
+use qs_bytes::{Ask, Errno, Kind, MAX_PAYLOAD, Memory, Mode, Verdict};
 use qs_image::{load_span, store_span};
 use qs_nbd_transmission::{data_head, reply_head};
 use qs_outside::{Disk, Sink};
@@ -19,9 +20,6 @@ const MODE: Mode = Mode {
     no_zeroes: false,
     structured: false,
 };
-
-/// The longest READ, in bytes.
-const LONGEST: u64 = 33_554_432;
 
 /// The size of an image's blocks and of the whole image, in bytes.
 #[derive(Clone, Copy, Debug, PartialEq, Eq)]
@@ -59,7 +57,7 @@ pub fn is_served(shape: Shape, ask: &Ask) -> bool
 {
     let align = shape.align as u64;
     let known = asks_bytes(ask.kind) || writes(ask.kind);
-    let too_long = asks_bytes(ask.kind) && ask.length > LONGEST;
+    let too_long = asks_bytes(ask.kind) && ask.length > MAX_PAYLOAD;
     let whole = ask.offset % align == 0 && ask.length % align == 0;
     known && !ask.fua && ask.flags_fit && !too_long && whole && is_inside(shape.size, ask)
 }
@@ -85,7 +83,7 @@ fn put_reply<O: Sink>(stream: &mut Stream, output: &mut O, ask: &Ask, verdict: &
 /// Puts the reply to a READ that has its bytes.
 fn put_data<O: Sink>(stream: &mut Stream, output: &mut O, ask: &Ask, bytes: &[u8])
     requires read { is_read ask.now.kind ≡ true }
-    requires short { ask.now.length ≤ 33554432 }
+    requires short { ask.now.length ≤ max_payload }
     ensures { Puts (reply_of false ask.now (Got bytes.now)) (side O.sent O.write_faults output.old) stream.old
         (side O.sent O.write_faults output.new) stream.new }
 {

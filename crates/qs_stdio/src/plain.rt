@@ -5,7 +5,7 @@ ghost use Rattle.qs_nbd_transmission.specs.Heads.{is_write};
 ghost use Rattle.qs_stdio.specs.Service.{Leads, MayGet, is_valid};
 
 use crate::answer::asks_bytes;
-use qs_bytes::{Ask, Bytes, Errno, Kind, Memory, Verdict, put16, put32, put64};
+use qs_bytes::{Ask, Bytes, Errno, Kind, MAX_PAYLOAD, Memory, Verdict, put16, put32, put64, write_into};
 use std::alloc::Global;
 
 /// A request as a client sends it, and the byte that a WRITE's data repeat.
@@ -65,38 +65,18 @@ impl Request {
 /// The bytes of a block.
 const BLOCK: u64 = 512;
 
-/// The longest READ, in bytes.
-const LONGEST: u64 = 33_554_432;
-
 /// Whether a request of an image of `size` bytes is served, and not refused with EINVAL.
 fn is_good(size: usize, ask: &Ask) -> bool
     ensures { result ≡ is_valid 512 size ask.now }
 {
     let kind_fits = match ask.kind {
-        Kind::Read => ask.length <= LONGEST,
+        Kind::Read => ask.length <= MAX_PAYLOAD,
         Kind::Write => true,
         _ => false,
     };
     let end = u128::from(ask.offset) + u128::from(ask.length);
     let whole = ask.offset % BLOCK == 0 && ask.length % BLOCK == 0;
     kind_fits && !ask.fua && ask.flags_fit && whole && end <= size as u128
-}
-
-#[tactic(auto, unfolding(qs_bytes::specs::Pieces::overlay))]
-fn put_over(buffer: &mut [u8], at: usize, piece: &[u8])
-    requires { at + length piece.now ≤ length buffer.old }
-    ensures { buffer.new ≡ overlay buffer.old at piece.now }
-{
-    buffer[at..at + piece.len()].copy_from_slice(piece);
-}
-
-/// Writes the piece over the buffer, from `at` on.
-fn put(buffer: &mut Vec<u8>, at: usize, piece: &[u8])
-    requires { at + length piece.now ≤ vec_len buffer.old }
-    ensures items { buffer.new.items ≡ overlay buffer.old.items at piece.now }
-    ensures len { vec_len buffer.new ≡ vec_len buffer.old }
-{
-    put_over(buffer.as_mut_slice(), at, piece);
 }
 
 /// Answers one request from the whole content, over which a WRITE's data are written.
@@ -121,7 +101,7 @@ pub fn plain_answer(
         let bytes = Vec::from_slice(alloc, &content.as_slice()[from..to])?;
         return Ok(Verdict::Got(Bytes::of(bytes)));
     }
-    put(content, from, body);
+    write_into(content, from, body);
     Ok(Verdict::Fine)
 }
 

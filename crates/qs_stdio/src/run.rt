@@ -14,7 +14,7 @@ use crate::answer::Shape;
 use crate::serve::Turn;
 use crate::session::Session;
 use crate::words::stdio_words;
-use qs_bytes::Status;
+use qs_status::Status;
 use qs_image::open_fault;
 use qs_outside::{Clock, Disk, Failed, Sink, Source};
 use qs_stream::{State, Stream};

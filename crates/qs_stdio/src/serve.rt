@@ -1,4 +1,5 @@
 ghost use Rattle.std.specs.Prelude.{◌≡◌, ℕ, ◌≤◌, true, false, List, [], length, map};
+ghost use Rattle.qs_bytes.specs.Payloads.{max_payload};
 ghost use Rattle.qs_image.specs.Opening.{IsImage};
 ghost use Rattle.qs_nbd_transmission.specs.Heads.{has_data};
 ghost use Rattle.qs_stream.specs.declared.state.State.TheVariants.{Open};
@@ -10,7 +11,8 @@ ghost use Rattle.qs_stdio.specs.Turns.{AwaitsRoom, Finishes, HasRoom, IsData, Ta
 
 use crate::answer::{Shape, answer_read, answer_write, asks_bytes, data_follow, is_served, refuse};
 use crate::session::{Came, Session, room_for};
-use qs_bytes::{Ask, Errno, SessionEnd, Status};
+use qs_bytes::{Ask, Errno};
+use qs_status::{SessionEnd, Status};
 use qs_nbd_transmission::Room;
 use qs_outside::{Disk, Failed, Sink, Source};
 use qs_stream::Stream;
@@ -82,7 +84,7 @@ fn answer_data<O: Sink, D: Disk>(
 
 /// Room for the data of a WRITE: none where it will be refused whatever they are.
 fn choose_room(alloc: Global, spare: &mut Vec<u8>, size: u64, valid: bool) -> Room
-    requires { size ≤ 33554432 }
+    requires { size ≤ max_payload }
     ensures { HasRoom size result }
 {
     if valid {
@@ -115,7 +117,7 @@ impl Session {
         requires image { IsImage (map D.seen disks.old) }
         requires shape { IsShape shape (map D.seen disks.old) }
         requires data { has_data ask.now ≡ true }
-        requires short { ask.now.length ≤ 33554432 }
+        requires short { ask.now.length ≤ max_payload }
         requires valid { valid ≡ is_valid shape.align shape.size ask.now }
         requires awaits { AwaitsRoom self.old.reader ask.now }
         requires ongoing { self.old.stream.state ≡ Open }

@@ -1,11 +1,13 @@
 ghost use Rattle.std.specs.Prelude.{◌≡◌, ◌≤◌, ◌<◌, [], IfOk};
+ghost use Rattle.qs_bytes.specs.Payloads.{max_payload};
 ghost use Rattle.qs_stream.specs.Buffers.{new_buffers};
 ghost use Rattle.qs_stream.specs.declared.state.State.TheVariants.{Open};
 ghost use Rattle.qs_stream.specs.Flows.{flow};
 ghost use Rattle.qs_stdio.specs.Turns.{Asking, Bringing, HasRoom, IsFilling, between, status_at};
 
 use crate::event::next_event;
-use qs_bytes::{Ask, Bytes, Memory, Mode, SessionEnd, Status};
+use qs_bytes::{Ask, Bytes, Memory, Mode};
+use qs_status::{SessionEnd, Status};
 use qs_nbd_transmission::{Room, Transmission, WireEvent};
 use qs_outside::{Failed, Sink, Source};
 use qs_stream::Stream;
@@ -41,7 +43,7 @@ fn status_of(end: SessionEnd) -> Status
 
 /// Room for the data of a WRITE: the buffer, or none where memory is refused.
 pub fn room_for(alloc: Global, spare: &mut Vec<u8>, size: u64) -> Room
-    requires { size ≤ 33554432 }
+    requires { size ≤ max_payload }
     ensures { HasRoom size result }
 {
     let count = size as usize;

@@ -6,7 +6,8 @@ use Rattle.qs_part.specs.declared.stripe.StripeOp.TheVariants.{Load, Hold, Store
 use Rattle.qs_part.specs.declared.stripe.StripeReply.{StripeReply}
 use Rattle.qs_part.specs.declared.stripe.StripeReply.TheVariants.{Filled, Fault, HeldBy, Taken, Done, Freed, NotHeld}
 use Rattle.qs_outside.specs.Faults.{Rose}
-use Rattle.qs_outside.specs.Blocks.{Seen, Fixed, Same, Stored, StoredOrNot, MayLeave, stripe_of, load_spent, store_spent}
+use Rattle.qs_outside.specs.Blocks.{Seen, Fixed, Same, Stored, StoredOrNot, MayLeave, load_spent, store_spent}
+use Rattle.qs_bytes.specs.Geometry.{stripe_of}
 use Rattle.qs_outside.specs.Rigged.{AsPlanned, MayLoad, MayStore}
 use Rattle.qs_stripe.specs.declared.geometry.Geometry.{Geometry}
 use Rattle.qs_stripe.specs.declared.holds.Ends.{Ends}

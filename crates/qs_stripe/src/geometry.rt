@@ -1,7 +1,7 @@
 ghost use Rattle.std.specs.Prelude.{◌≡◌, ◌↔◌, length, IsTrue};
 ghost use Rattle.qs_stripe.specs.Table.{Fits, IsBlockOf, IsWhole};
 
-use qs_bytes::Bytes;
+use qs_bytes::{Bytes, stripe_of};
 use qs_part::stripe::StripeOp;
 
 /// What never changes about a stripe.
@@ -19,7 +19,7 @@ impl Geometry {
     fn has_block(&self, b: u64) -> bool
         ensures { IsTrue result ↔ IsBlockOf self.now b }
     {
-        let here = b / 16 % 8 == u64::from(self.stripe);
+        let here = stripe_of(b) == self.stripe;
         let end = (u128::from(b) + 1) * u128::from(self.align);
         here && end <= u128::from(self.size)
     }

@@ -1,5 +1,6 @@
 -- What the table of replies says of the lines that a request has passed.
 use Rattle.std.proofs.Common.{◌≡◌, ◌≢◌, ℕ, Bool, true, false, not, ◌&&◌, ◌||◌, cond, if◌then◌else◌, nat_lt, List, Option, Some, None, refl, sym, ap, ◌∙◌, true≢false}
+use Rattle.qs_bytes.specs.Payloads.{max_payload}
 use Rattle.qs_bytes.specs.declared.ask.Ask.{Ask}
 use Rattle.qs_bytes.specs.declared.ask.Kind.{Kind}
 use Rattle.qs_bytes.specs.declared.ask.Kind.TheVariants.{Read}
@@ -51,7 +52,7 @@ perm_line a route fault got h = go (is_write a.kind && not route.writable) h
 
 -- what is served is a READ or a WRITE
 pub served_kind : (a : Ask) → is_malformed a ≡ false → is_write a.kind ≡ false → is_read a.kind ≡ true
-served_kind a form none = go (is_read a.kind) (is_write a.kind) (not a.flags_fit) a.fua (is_read a.kind && nat_lt 33554432 a.length) form none
+served_kind a form none = go (is_read a.kind) (is_write a.kind) (not a.flags_fit) a.fua (is_read a.kind && nat_lt max_payload a.length) form none
   where
     go : (r w x y z : Bool) → (not (r || w) || x || y || z) ≡ false → w ≡ false → r ≡ true
     go true w x y z e f = refl

@@ -1,5 +1,6 @@
 -- The answer of a request, by the table of replies: the first line that applies (NBD proto.md, and this server's own order).
 use Rattle.std.specs.Prelude.{◌≡◌, ◌↔◌, ℕ, ◌+◌, ◌⊎◌, Bool, true, false, not, ◌&&◌, ◌||◌, nat_lt, if◌then◌else◌, List, [], ◌∷◌, Option, Some, None}
+use Rattle.qs_bytes.specs.Payloads.{max_payload}
 use Rattle.qs_bytes.specs.declared.ask.Ask.{Ask}
 use Rattle.qs_bytes.specs.declared.ask.Kind.{Kind}
 use Rattle.qs_bytes.specs.declared.ask.Errno.TheVariants.{Perm, Io, NoMem, Inval, NoSpace, Shutdown}
@@ -19,7 +20,7 @@ is_served kind = is_read kind || is_write kind
 
 -- EINVAL: the type is none that is served, the flags don't fit, or a READ is longer than 33,554,432 bytes
 abbrev pub is_malformed : Ask → Bool
-is_malformed a = not (is_served a.kind) || not a.flags_fit || a.fua || is_read a.kind && nat_lt 33554432 a.length
+is_malformed a = not (is_served a.kind) || not a.flags_fit || a.fua || is_read a.kind && nat_lt max_payload a.length
 
 -- the range passes the end of the export
 abbrev pub passes : Ask → Route → Bool

@@ -19,7 +19,8 @@ use Rattle.qs_world.specs.Events.{Does}
 use Rattle.qs_world.proofs.Coming.{Keeps, exported_does}
 use Rattle.qs_world.proofs.Handling.{renewed}
 use Rattle.qs_graph.proofs.Standing.{nobody as no_export}
-use Rattle.qs_model.specs.Worlds.{Hold, stripe_of}
+use Rattle.qs_model.specs.Worlds.{Hold}
+use Rattle.qs_bytes.specs.Geometry.{stripe_of}
 use Rattle.qs_model.specs.Laws.{opening}
 use Rattle.qs_request.specs.declared.shape.Shape.{Shape}
 use Rattle.qs_stripe.specs.Table.{StripeState, value_of as stripe_value, Opened}

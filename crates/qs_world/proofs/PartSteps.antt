@@ -22,7 +22,7 @@ use Rattle.qs_part.specs.declared.stripe.StripeReply.TheVariants.{Filled, Fault,
 use Rattle.qs_part.specs.declared.tracker.TrackerOp.{TrackerOp}
 use Rattle.qs_part.specs.declared.tracker.TrackerReply.{TrackerReply}
 use Rattle.qs_model.specs.Requests.{Client, Pads, Stage, Ready}
-use Rattle.qs_model.specs.Worlds.{stripe_of}
+use Rattle.qs_bytes.specs.Geometry.{stripe_of}
 use Rattle.qs_model.proofs.Basics.{same_or}
 use Rattle.qs_graph.specs.Table.{answers as graph_answers}
 use Rattle.qs_request.specs.declared.shape.Shape.{Shape}

@@ -6,7 +6,7 @@ use Rattle.qs_outside.specs.declared.rigged_disk.Plans.{Plans}
 use Rattle.qs_outside.specs.Blocks.{load_spent, store_spent}
 use Rattle.qs_outside.specs.Rigged.{plans_of, planned_too}
 use Rattle.qs_model.specs.Puts.{put}
-use Rattle.qs_model.specs.Worlds.{stripe_of}
+use Rattle.qs_bytes.specs.Geometry.{stripe_of}
 use Rattle.qs_model.specs.Steps.{load_done, store_done}
 use Rattle.qs_model.proofs.Basics.{put_here, put_other, same_or}
 use Rattle.qs_stripe.specs.Table.{StripeValue}

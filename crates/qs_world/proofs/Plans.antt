@@ -8,7 +8,8 @@ use Rattle.qs_outside.specs.declared.rigged_disk.Fail.{Fail}
 use Rattle.qs_outside.specs.Rigged.{planned_too, plans_of}
 use Rattle.qs_model.specs.Acts.{Planned as PlannedStep}
 use Rattle.qs_model.specs.Steps.{happens}
-use Rattle.qs_model.specs.Worlds.{Image, stripe_of}
+use Rattle.qs_model.specs.Worlds.{Image}
+use Rattle.qs_bytes.specs.Geometry.{stripe_of}
 use Rattle.qs_stripe.specs.Holds.{holds_of}
 use Rattle.qs_stripe.specs.Table.{StripeState, StripeValue, value_of as stripe_value}
 use Rattle.qs_world.specs.Images.{StandsImage, Changed, stripe_at, all_tell}

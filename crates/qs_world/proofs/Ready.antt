@@ -11,7 +11,8 @@ use Rattle.qs_part.specs.declared.tracker.TrackerOp.TheVariants.{Enter as EnterO
 use Rattle.qs_bytes.specs.Spans.{aligned_out}
 use Rattle.qs_model.specs.Requests.{Client, Pads, Stage, ToRoute, ToList, ToStart, ToLoad, ToHold, ToStore, ToFree, ToEnd, Ready, Entering, In, edge, span_of, serial}
 use Rattle.qs_tracker.specs.Table.{TrackerValue}
-use Rattle.qs_model.specs.Worlds.{stripe_of, Image, World}
+use Rattle.qs_model.specs.Worlds.{Image, World}
+use Rattle.qs_bytes.specs.Geometry.{stripe_of}
 use Rattle.qs_model.specs.Acts.{block_of, Act, Answers, Did}
 use Rattle.qs_model.specs.Guards.{MayDo}
 use Rattle.qs_outside.specs.declared.rigged_disk.Plans.{Plans}

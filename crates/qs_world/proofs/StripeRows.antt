@@ -9,7 +9,8 @@ use Rattle.qs_part.specs.declared.stripe.Side.{Side}
 use Rattle.qs_part.specs.declared.stripe.Side.TheVariants.{Head, Tail}
 use Rattle.qs_model.specs.Puts.{put}
 use Rattle.qs_model.specs.Requests.{Client, Pads, merged_at}
-use Rattle.qs_model.specs.Worlds.{Hold, Image, stripe_of, World}
+use Rattle.qs_model.specs.Worlds.{Hold, Image, World}
+use Rattle.qs_bytes.specs.Geometry.{stripe_of}
 use Rattle.qs_model.specs.Guards.{CanHold, CanRead, CanStore, MayKeep}
 use Rattle.qs_model.specs.Steps.{written}
 use Rattle.qs_model.proofs.Basics.{put_here, put_other, put_tells, same_or}

@@ -13,7 +13,8 @@ use Rattle.qs_part.specs.declared.event.Outcome.TheVariants.{NotNext, Memory, Mo
 use Rattle.qs_part.specs.declared.event.NoteReply.TheVariants.{Stripe}
 use Rattle.qs_part.specs.declared.event.StripeNote.TheVariants.{Fault}
 use Rattle.qs_model.specs.Requests.{Req, Stage}
-use Rattle.qs_model.specs.Worlds.{World, Away, Live, Leaving, stripe_of}
+use Rattle.qs_model.specs.Worlds.{World, Away, Live, Leaving}
+use Rattle.qs_bytes.specs.Geometry.{stripe_of}
 use Rattle.qs_model.specs.Acts.{Act, StoreFails, Element, Did, block_of}
 use Rattle.qs_model.specs.Guards.{May}
 use Rattle.qs_model.specs.Steps.{happens}

@@ -4,7 +4,8 @@ use Rattle.qs_part.specs.declared.stripe.Side.{Side}
 use Rattle.qs_image.specs.Image.{no_disk}
 use Rattle.qs_outside.specs.declared.rigged_disk.Plans.{Plans}
 use Rattle.qs_outside.specs.Rigged.{plans_of}
-use Rattle.qs_model.specs.Worlds.{Hold, Image, stripe_of}
+use Rattle.qs_model.specs.Worlds.{Hold, Image}
+use Rattle.qs_bytes.specs.Geometry.{stripe_of}
 use Rattle.qs_stripe.specs.Table.{StripeValue}
 
 -- what stands for a stripe that isn't there

@@ -1,7 +1,8 @@
 -- The core as it is made.
 use Rattle.std.specs.Prelude.{◌≡◌, ◌≢◌, ℕ, true, ◌&&◌, ◌∷◌, [], Bool, List, map, Option, Some, None}
-use Rattle.qs_bytes.specs.declared.status.OpenBad.{OpenBad}
-use Rattle.qs_outside.specs.Blocks.{Seen, stripe_of}
+use Rattle.qs_status.specs.declared.status.OpenBad.{OpenBad}
+use Rattle.qs_outside.specs.Blocks.{Seen}
+use Rattle.qs_bytes.specs.Geometry.{stripe_of}
 use Rattle.qs_image.specs.Image.{disk, align_of, size_of, block_now}
 use Rattle.qs_image.specs.Opening.{Opens, IsImage}
 use Rattle.qs_outside.specs.declared.rigged_disk.Fail.{Fail}

@@ -1,5 +1,6 @@
 use crate::world::World;
-use qs_bytes::{Ask, Bytes, Errno, Kind, Name, OpenBad, Verdict};
+use qs_bytes::{Ask, Bytes, Errno, Kind, Name, Verdict};
+use qs_status::OpenBad;
 use qs_outside::{Fail, MemDisk};
 use qs_part::event::{Actor, Event, GraphNote, Note, NoteReply, Outcome, StripeNote};
 use qs_part::tracker::TrackerReply;

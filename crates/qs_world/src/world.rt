@@ -7,7 +7,8 @@ ghost use Rattle.qs_world.specs.Stands.{Stands};
 
 use crate::disks::{put_away, put_back};
 use crate::inner::Core;
-use qs_bytes::{Memory, Name, OpenBad};
+use qs_bytes::{Memory, Name};
+use qs_status::OpenBad;
 use qs_graph::graph::Graph;
 use qs_image::open_fault;
 use qs_outside::{Disk, Fail, RiggedDisk};

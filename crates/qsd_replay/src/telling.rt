@@ -1,5 +1,5 @@
 use crate::stray::stray_word;
-use qs_bytes::Status;
+use qs_status::Status;
 use qs_host::Ended;
 use std::fmt;
 

@@ -1,5 +1,5 @@
 use crate::stray::stray_word;
-use qs_bytes::Status;
+use qs_status::Status;
 use qs_host::{BrokenRule, Ended, StartFault};
 use qs_stdio::stdio_words;
 use std::fmt;

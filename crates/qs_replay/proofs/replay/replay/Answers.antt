@@ -1,6 +1,6 @@
 -- One line more, and the end.
 use Rattle.std.proofs.Common.{◌+◌, arith}
-use Rattle.qs_bytes.specs.declared.status.Status.TheVariants.{Spent}
+use Rattle.qs_status.specs.declared.status.Status.TheVariants.{Spent}
 use Rattle.qs_replay.specs.Scripts.{status_of}
 use Rattle.qs_replay.proofs.Replaying.{closes, closes_spent, finished, read_rose, so_far_more, so_far_none, write_rose}
 use Rattle.qs_replay.proofs.Running.{so_far_at}

@@ -1,6 +1,6 @@
 -- The stream failed.
 use Rattle.std.proofs.Common.{sym, subst}
-use Rattle.qs_bytes.specs.declared.status.Status.{Status}
+use Rattle.qs_status.specs.declared.status.Status.{Status}
 use Rattle.qs_stdio.specs.Runs.{Sitting}
 use Rattle.qs_stdio.specs.Scenes.{scene}
 use Rattle.qs_stdio.proofs.session.Session.serve.Goals as goal

@@ -4,7 +4,7 @@ use Rattle.std.specs.List.{AllByRecursion}
 use Rattle.qs_stripe.specs.Table.{Opened, value_of as stripe_value}
 use Rattle.qs_tracker.specs.Table.{fresh as fresh_tracker}
 use Rattle.std.proofs.lemmas.List.{length-map}
-use Rattle.qs_bytes.specs.declared.status.OpenBad.{OpenBad}
+use Rattle.qs_status.specs.declared.status.OpenBad.{OpenBad}
 use Rattle.qs_outside.specs.Blocks.{Seen}
 use Rattle.qs_image.specs.Image.{align_of, size_of}
 use Rattle.qs_image.specs.Opening.{IsImage, Opens}
