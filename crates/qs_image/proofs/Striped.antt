@@ -216,32 +216,36 @@ module _ {D : Type 0} (seen : D → Seen) (disks : List D) (b : ℕ) (d : D) whe
       seen_at seen disks (stripe_of b) d (omega (arith, is.0.0, length-map disks seen))
 
   -- it has the block, and blocks of the image's size
-  pub has_block : IsImage (map seen disks) → (b + 1) * align_of (map seen disks) ≤ size_of (map seen disks) →
-      IsBlock (seen (get_or disks (stripe_of b) d)) b
-      × ((seen (get_or disks (stripe_of b) d)).align ≡ align_of (map seen disks))
-  has_block is inside =
-      subst (λ (s : Seen). IsBlock s b × (s.align ≡ align_of (map seen disks))) (called_disk is) (block_of (map seen disks) b is inside)
+  pub has_block : (k : ℕ) → k ≡ stripe_of b → IsImage (map seen disks) → (b + 1) * align_of (map seen disks) ≤ size_of (map seen disks) →
+      IsBlock (seen (get_or disks k d)) b × ((seen (get_or disks k d)).align ≡ align_of (map seen disks))
+  has_block k here is inside =
+      subst (λ (j : ℕ). IsBlock (seen (get_or disks j d)) b × ((seen (get_or disks j d)).align ≡ align_of (map seen disks))) (sym here)
+      (subst (λ (s : Seen). IsBlock s b × (s.align ≡ align_of (map seen disks))) (called_disk is) (block_of (map seen disks) b is inside))
 
   -- one block was read from the disks
-  pub loads_by : {E : Type 0} (bytes : List ℕ) (result : Result Unit E) (called : D) →
+  pub loads_by : {E : Type 0} (k : ℕ) (bytes : List ℕ) (result : Result Unit E) (called : D) → k ≡ stripe_of b →
       IsImage (map seen disks) → (b + 1) * align_of (map seen disks) ≤ size_of (map seen disks) →
-      length bytes ≡ align_of (map seen disks) → ReadsBlock b bytes result (seen (get_or disks (stripe_of b) d)) (seen called) →
-      Loads (map seen disks) (b * align_of (map seen disks)) bytes result (map seen (set disks (stripe_of b) called))
-  loads_by bytes result called is inside whole reads =
+      length bytes ≡ align_of (map seen disks) → ReadsBlock b bytes result (seen (get_or disks k d)) (seen called) →
+      Loads (map seen disks) (b * align_of (map seen disks)) bytes result (map seen (set disks k called))
+  loads_by k bytes result called here is inside whole reads =
       let before : ReadsBlock b bytes result (disk (map seen disks) (stripe_of b)) (seen called) =
-      subst (λ (s : Seen). ReadsBlock b bytes result s (seen called)) (sym (called_disk is)) reads in
-      subst (λ (new : List Seen). Loads (map seen disks) (b * align_of (map seen disks)) bytes result new)
+      subst (λ (s : Seen). ReadsBlock b bytes result s (seen called)) (sym (called_disk is))
+      (subst (λ (j : ℕ). ReadsBlock b bytes result (seen (get_or disks j d)) (seen called)) here reads) in
+      subst (λ (j : ℕ). Loads (map seen disks) (b * align_of (map seen disks)) bytes result (map seen (set disks j called))) (sym here)
+      (subst (λ (new : List Seen). Loads (map seen disks) (b * align_of (map seen disks)) bytes result new)
       (sym (map-set seen disks (stripe_of b) called))
-      (loads_block (map seen disks) b bytes result (seen called) is inside whole before.fixed before.cause before.bytes_are before.kept before.past)
+      (loads_block (map seen disks) b bytes result (seen called) is inside whole before.fixed before.cause before.bytes_are before.kept before.past))
 
   -- one block was written to the disks
-  pub stores_by : {E : Type 0} (bytes : List ℕ) (result : Result Unit E) (called : D) →
+  pub stores_by : {E : Type 0} (k : ℕ) (bytes : List ℕ) (result : Result Unit E) (called : D) → k ≡ stripe_of b →
       IsImage (map seen disks) → (b + 1) * align_of (map seen disks) ≤ size_of (map seen disks) →
-      length bytes ≡ align_of (map seen disks) → WritesBlock b bytes result (seen (get_or disks (stripe_of b) d)) (seen called) →
-      Stores (map seen disks) (b * align_of (map seen disks)) bytes result (map seen (set disks (stripe_of b) called))
-  stores_by bytes result called is inside whole writes =
+      length bytes ≡ align_of (map seen disks) → WritesBlock b bytes result (seen (get_or disks k d)) (seen called) →
+      Stores (map seen disks) (b * align_of (map seen disks)) bytes result (map seen (set disks k called))
+  stores_by k bytes result called here is inside whole writes =
       let before : WritesBlock b bytes result (disk (map seen disks) (stripe_of b)) (seen called) =
-      subst (λ (s : Seen). WritesBlock b bytes result s (seen called)) (sym (called_disk is)) writes in
-      subst (λ (new : List Seen). Stores (map seen disks) (b * align_of (map seen disks)) bytes result new)
+      subst (λ (s : Seen). WritesBlock b bytes result s (seen called)) (sym (called_disk is))
+      (subst (λ (j : ℕ). WritesBlock b bytes result (seen (get_or disks j d)) (seen called)) here writes) in
+      subst (λ (j : ℕ). Stores (map seen disks) (b * align_of (map seen disks)) bytes result (map seen (set disks j called))) (sym here)
+      (subst (λ (new : List Seen). Stores (map seen disks) (b * align_of (map seen disks)) bytes result new)
       (sym (map-set seen disks (stripe_of b) called))
-      (stores_block (map seen disks) b bytes result (seen called) is inside whole before.fixed before.cause before.stored before.refused)
+      (stores_block (map seen disks) b bytes result (seen called) is inside whole before.fixed before.cause before.stored before.refused))

@@ -44,7 +44,10 @@ pub fn load_span<D: Disk>(
     let first = at / align as u64;
     for i in 0..into.len() / align {
         let start = i * align;
-        load_block(disks, first + i as u64, &mut into[start..start + align])?;
+        match load_block(disks, first + i as u64, &mut into[start..start + align]) {
+            Ok(()) => {}
+            Err(failed) => return Err(failed),
+        }
     }
     Ok(())
 }
@@ -66,7 +69,10 @@ pub fn store_span<D: Disk>(
     let first = at / align as u64;
     for i in 0..bytes.len() / align {
         let start = i * align;
-        store_block(disks, first + i as u64, &bytes[start..start + align])?;
+        match store_block(disks, first + i as u64, &bytes[start..start + align]) {
+            Ok(()) => {}
+            Err(failed) => return Err(failed),
+        }
     }
     Ok(())
 }

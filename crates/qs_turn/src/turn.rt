@@ -48,8 +48,19 @@ const WORDS: usize = 16;
 /// The place of the word that is used.
 const WORD: usize = 8;
 
-/// How often a thread looks whether the turn gets free before it sleeps: about a microsecond.
-const LOOKS: u32 = 100;
+/// How often a thread looks whether the turn gets free before it sleeps.
+const LOOKS: u32 = 8;
+
+/// How many pauses it makes before each look, which is about half a microsecond. A thread that looks seldom
+/// leaves the word to the one that calls.
+const PAUSES: u32 = 100;
+
+/// Lets some time go by.
+fn pause() {
+    for _ in 0..PAUSES {
+        spin_loop();
+    }
+}
 
 impl<P: Part> Turn<P> {
     /// A turn for the part, and its first pass, which has seen no call.
@@ -134,7 +145,7 @@ impl<P: Part> Turn<P> {
     /// Whether the turn gets free within some looks at it.
     fn is_soon_free(&self) -> bool {
         for _ in 0..LOOKS {
-            spin_loop();
+            pause();
             if self.is_free() {
                 return true;
             }

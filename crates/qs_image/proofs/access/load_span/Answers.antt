@@ -8,7 +8,7 @@ use Rattle.qs_image.proofs.access.load_span.Goals as goal
 
 pub loop-i-preserved : goal.loop-i-preserved
 loop-i-preserved g c =
-    let loads = c.in_ok-load_block.ensures in
+    let loads = c.in-Ok.ensures in
     let seen = g.D.Disk.seen in
     let align_is : align_of (map seen c.loop-i.disks) ≡ c.args.align = c.loop-i.invariant.same.align 0 ∙ sym c.requires.align in
     let piece : length c.load_block.new.into ≡ c.args.align = omega arith in
@@ -24,9 +24,9 @@ loop-i-preserved g c =
       same = same_disks_trans _ _ _ c.loop-i.invariant.same loads.same;
     }
 
-pub returns-in_err-load_block : goal.returns-in_err-load_block
-returns-in_err-load_block g c =
-    let loads = c.in_err-load_block.ensures in
+pub returns-in-Err : goal.returns-in-Err
+returns-in-Err g c =
+    let loads = c.in-Err.ensures in
     let seen = g.D.Disk.seen in
     let align_is : align_of (map seen c.loop-i.disks) ≡ c.args.align = c.loop-i.invariant.same.align 0 ∙ sym c.requires.align in
     let piece : length c.load_block.new.into ≡ c.args.align = omega arith in

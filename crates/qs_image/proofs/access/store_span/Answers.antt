@@ -19,7 +19,7 @@ loop-i-init g c = record {
 
 pub loop-i-preserved : goal.loop-i-preserved
 loop-i-preserved g c =
-    let stores = c.in_ok-store_block.ensures in
+    let stores = c.in-Ok.ensures in
     let seen = g.D.Disk.seen in
     let align_is : align_of (map seen c.loop-i.disks) ≡ c.args.align = c.loop-i.invariant.same.align 0 ∙ sym c.requires.align in
     let within : c.loop-i.i * c.args.align + c.args.align ≤ length c.args.bytes.now =
@@ -35,9 +35,9 @@ loop-i-preserved g c =
       same = same_disks_trans _ _ _ c.loop-i.invariant.same stores.same;
     }
 
-pub returns-in_err-store_block : goal.returns-in_err-store_block
-returns-in_err-store_block g c =
-    let stores = c.in_err-store_block.ensures in
+pub returns-in-Err : goal.returns-in-Err
+returns-in-Err g c =
+    let stores = c.in-Err.ensures in
     let seen = g.D.Disk.seen in
     let align_is : align_of (map seen c.loop-i.disks) ≡ c.args.align = c.loop-i.invariant.same.align 0 ∙ sym c.requires.align in
     let within : c.loop-i.i * c.args.align + c.args.align ≤ length c.args.bytes.now =
@@ -46,7 +46,7 @@ returns-in_err-store_block g c =
       written = λ _. tt;
       cut =
           stores_cut (map seen c.args.disks.now) (map seen c.loop-i.disks) (map seen c.store_block.new.disks)
-          c.args.at (c.loop-i.i * c.args.align) _ _ c.args.bytes.now c.in_err-store_block.field-0
+          c.args.at (c.loop-i.i * c.args.align) _ _ c.args.bytes.now c.in-Err.failed
           (omega arith) c.requires.inside (block_place c.args.at c.loop-i.i c.args.align _ c.requires.blocks.0 align_is)
           c.loop-i.invariant.same c.loop-i.invariant.written stores;
       same = same_disks_trans _ _ _ c.loop-i.invariant.same stores.same;
