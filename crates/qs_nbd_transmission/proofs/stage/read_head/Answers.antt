@@ -51,7 +51,7 @@ pub returns-then-now-lt-HEAD_BYTES-clause-step : goal.returns-then-now-lt-HEAD_B
 returns-then-now-lt-HEAD_BYTES-clause-step c = (
   rw c.write_over.ensures (take-overlay c.args.head.now c.args.held (take c.min-taken.result c.args.piece.now) _ (omega (arith, c.requires.whole, c.requires.sound.0))
       (omega (arith, length-take-le c.min-taken.result c.args.piece.now (omega (arith, c.min-taken.ensures))))),
-  front_more c.write_over.new.buffer _ c.if-now-lt-HEAD_BYTES.true (λ four.
+  front_more c.write_over.new.bytes _ c.if-now-lt-HEAD_BYTES.true (λ four.
       elim c.if-now-ge4.branch [
         | then-now-ge4+else-found-ne-REQUEST_MAGIC w ↦ sym w.u32_at-found.ensures ∙ w.if-found-ne-REQUEST_MAGIC.false
         | else-now-ge4 w ↦ absurd (omega (arith, w.if-now-ge4.false))
@@ -61,7 +61,7 @@ returns-then-now-lt-HEAD_BYTES-clause-step c = (
 pub returns-then-now-lt-HEAD_BYTES-clause-sound : goal.returns-then-now-lt-HEAD_BYTES-clause-sound
 returns-then-now-lt-HEAD_BYTES-clause-sound c = (
   c.if-now-lt-HEAD_BYTES.true,
-  front_more c.write_over.new.buffer _ c.if-now-lt-HEAD_BYTES.true (λ four.
+  front_more c.write_over.new.bytes _ c.if-now-lt-HEAD_BYTES.true (λ four.
       elim c.if-now-ge4.branch [
         | then-now-ge4+else-found-ne-REQUEST_MAGIC w ↦ sym w.u32_at-found.ensures ∙ w.if-found-ne-REQUEST_MAGIC.false
         | else-now-ge4 w ↦ absurd (omega (arith, w.if-now-ge4.false))
@@ -73,9 +73,9 @@ returns-clause-step c =
     let piece = take c.min-taken.result c.args.piece.now in
     let fed : length piece ≡ c.min-taken.result = length-take-le c.min-taken.result c.args.piece.now (omega (arith, c.min-taken.ensures)) in
     let full : 28 ≡ c.args.held + length piece = omega (arith, c.min-taken.ensures, c.requires.sound.0, c.if-now-lt-HEAD_BYTES.false) in
-    let whole : take c.args.held c.args.head.now ++ piece ≡ c.write_over.new.buffer =
+    let whole : take c.args.held c.args.head.now ++ piece ≡ c.write_over.new.bytes =
     sym (take-overlay c.args.head.now c.args.held piece 28 (omega (arith, c.requires.whole, c.requires.sound.0)) full)
     ∙ take_all 28 (overlay c.args.head.now c.args.held piece) (omega (arith, length-overlay c.args.head.now c.args.held piece (omega (arith, c.requires.whole)), c.requires.whole))
     ∙ sym c.write_over.ensures in
     rw c.end_head.ensures.taken
-    (subst (λ (xs : List ℕ). Reaches c.args.structured (InHead []) xs c.end_head.result.event (phase_of c.write_over.new.buffer c.end_head.result.stage)) (sym whole) c.end_head.ensures.step)
+    (subst (λ (xs : List ℕ). Reaches c.args.structured (InHead []) xs c.end_head.result.event (phase_of c.write_over.new.bytes c.end_head.result.stage)) (sym whole) c.end_head.ensures.step)
