@@ -3,11 +3,11 @@ use Rattle.std.proofs.Common.{◌≡◌, ℕ, ◌+◌, ◌<◌, ◌≤◌, ◌�
 use Rattle.std.proofs.lemmas.Bool.{cases_eq, cases_lt}
 use Rattle.std.proofs.lemmas.Option.{none-some}
 use Rattle.std.specs.BTreeMap.{get}
-use Rattle.qs_cookies.specs.Used.{AreApart, IsBefore, IsInRun, IsRun, IsStart, Runs, by_session}
+use Rattle.qs_cookies.specs.Used.{AreApart, IsBefore, IsInRun, IsRun, IsStart, CookieRuns, by_session}
 use Rattle.qs_cookies.proofs.Runs.{Sets}
 
 -- The cookie c of the session n isn't in a run of old, and new has one run from first to last in its place.
-pub record Joins (old new : Runs) (n c first last : ℕ) : Type 0 where
+pub record Joins (old new : CookieRuns) (n c first last : ℕ) : Type 0 where
   pub good : AreApart old
   pub free : IsInRun old n c → ⊥
   pub first_is : (first ≡ c) ⊎ ((end : ℕ) × (IsRun old n first end × (end + 1 ≡ c)))
@@ -21,7 +21,7 @@ one_end : (x y : ℕ) → Some x ≡ Some y → x ≡ y
 one_end x y is = ap (λ (o : Option ℕ). unwrap_or o x) is
 
 -- a cookie behind the last run that begins before it is in none
-pub free_of : (runs : Runs) (n c first last : ℕ) → AreApart runs → IsBefore runs n c first last → last < c → IsInRun runs n c → ⊥
+pub free_of : (runs : CookieRuns) (n c first last : ℕ) → AreApart runs → IsBefore runs n c first last → last < c → IsInRun runs n c → ⊥
 free_of runs n c first last good before short (a, e, (run, low, high)) = elim (cases_eq a first) [
   | inl same ↦ let end = one_end e last (sym run ∙ subst (λ (k : ℕ). IsRun runs n k last) (sym same) before.is) in omega (arith, end, short, high)
   | inr other ↦
@@ -41,7 +41,7 @@ pub no_key : (m a n b : ℕ) → ((m ≡ n) × (a ≡ b) → ⊥) → ◌≡◌ 
 no_key m a n b other same = other (ap (λ (k : ℕ × ℕ). k.0) same, ap (λ (k : ℕ × ℕ). k.1) same)
 
 -- a run of what was set is an old one, or the one that was set
-only_set : (old new : Runs) (key : ℕ × ℕ) (last : ℕ) → Sets old new key (Some last) → (m a e : ℕ) → IsRun new m a e →
+only_set : (old new : CookieRuns) (key : ℕ × ℕ) (last : ℕ) → Sets old new key (Some last) → (m a e : ℕ) → IsRun new m a e →
     IsRun old m a e ⊎ ((m ≡ key.0) × (a ≡ key.1) × (e ≡ last))
 only_set old new key last sets m a e now = elim (one_key m a key.0 key.1) [
   | inl same ↦ inr (
@@ -53,7 +53,7 @@ only_set old new key last sets m a e now = elim (one_key m a key.0 key.1) [
 ]
 
 -- one run was set
-pub joins_alone : (old new : Runs) (n c first last : ℕ) → AreApart old → IsStart old n c first → last ≡ c → Sets old new (n, first) (Some last) → Joins old new n c first last
+pub joins_alone : (old new : CookieRuns) (n c first last : ℕ) → AreApart old → IsStart old n c first → last ≡ c → Sets old new (n, first) (Some last) → Joins old new n c first last
 joins_alone old new n c first last good start alone sets = record {
   good = good;
   free = start.free;
@@ -66,7 +66,7 @@ joins_alone old new n c first last good start alone sets = record {
 }
 
 -- one run was set, and the one behind it taken out
-pub joins_both : (old mid new : Runs) (n c first last : ℕ) → AreApart old → IsStart old n c first → IsRun old n (c + 1) last → c < last →
+pub joins_both : (old mid new : CookieRuns) (n c first last : ℕ) → AreApart old → IsStart old n c first → IsRun old n (c + 1) last → c < last →
     Sets old mid (n, first) (Some last) → Sets mid new (n, c + 1) None → Joins old new n c first last
 joins_both old mid new n c first last good start after longer sets takes = record {
   good = good;
@@ -89,7 +89,7 @@ joins_both old mid new n c first last good start after longer sets takes = recor
       | inr before ↦ let low = good.forward n first before.0 before.1.0 in let next = before.1.1 in omega (arith, low, next, same)
     ]
 
-module _ {old new : Runs} {n c first last : ℕ} (j : Joins old new n c first last) where
+module _ {old new : CookieRuns} {n c first last : ℕ} (j : Joins old new n c first last) where
   -- the run begins at the cookie or before it, and ends at it or behind it
   starts : first ≤ c
   starts = elim j.first_is [ inl is ↦ omega (arith, is) | inr before ↦ let low = j.good.forward n first before.0 before.1.0 in omega (arith, low, before.1.1) ]

@@ -7,7 +7,7 @@ use Rattle.std.specs.Cmp.{Equal-is, IsTotalOrder, nat_cmp_total, on_total, ranks
 use Rattle.std.specs.BTreeMap.{Updates, get}
 use Rattle.std.proofs.lemmas.Map.Keys.{ge_from_not_lt, le_from_not_gt}
 use Rattle.std.proofs.lemmas.Map.Lookups.{CmpEqualImpliesEq, exact_pairs, exact_unsigned}
-use Rattle.qs_cookies.specs.Used.{Runs, by_session}
+use Rattle.qs_cookies.specs.Used.{CookieRuns, by_session}
 
 pub total : IsTotalOrder by_session
 total = then_total (on_total (λ (x : ℕ × ℕ). x.0) nat_cmp_total) (on_total (λ (x : ℕ × ℕ). x.1) nat_cmp_total)
@@ -51,7 +51,7 @@ one_session m n a b c low high =
     omega arith
 
 -- new has this at a key, and at every other what old has
-pub record Sets (old new : Runs) (key : ℕ × ℕ) (value : Option ℕ) : Type 0 where
+pub record Sets (old new : CookieRuns) (key : ℕ × ℕ) (value : Option ℕ) : Type 0 where
   pub here : get by_session new key ≡ value
   pub there : (other : ℕ × ℕ) → (other ≡ key → ⊥) → get by_session new other ≡ get by_session old other
 
@@ -59,7 +59,7 @@ apart_keys : (k q : ℕ × ℕ) → (b : Bool) → is_eq (by_session k q) ≡ b 
 apart_keys k q true is other = absurd (other (sym (exact k q ((Equal-is (by_session k q)).0 is))))
 apart_keys k q false is other = refl
 
-pub sets_of : (old new : Runs) (key : ℕ × ℕ) (value : Option ℕ) → Updates by_session old new key value → Sets old new key value
+pub sets_of : (old new : CookieRuns) (key : ℕ × ℕ) (value : Option ℕ) → Updates by_session old new key value → Sets old new key value
 sets_of old new key value updates = record {
   here = updates.0 key ∙ ap (λ (b : Bool). cond b value (get by_session old key)) (ap is_eq (tied_itself total key));
   there = λ other apart. updates.0 other ∙ ap (λ (b : Bool). cond b value (get by_session old other)) (apart_keys key other _ refl apart);

@@ -9,7 +9,7 @@ use Rattle.std.proofs.lemmas.Bool.{cases_eq}
 use Rattle.std.proofs.lemmas.List.Folds.{list_any-append}
 use Rattle.std.proofs.lemmas.Option.{none-some}
 use Rattle.std.proofs.lemmas.Map.Entries.{btree_map_get_place, place_from_lookup}
-use Rattle.qs_cookies.specs.Used.{IsInRun, IsRun, IsStart, Runs, by_session, cookies_from, cookies_of}
+use Rattle.qs_cookies.specs.Used.{IsInRun, IsRun, IsStart, CookieRuns, by_session, cookies_from, cookies_of}
 use Rattle.qs_cookies.proofs.Joined.{Joins, is_in, stays_in, was_in}
 use Rattle.qs_cookies.proofs.Runs.{exact, total}
 
@@ -80,7 +80,7 @@ shown (r ∷ runs) q is = elim (or_true (has (cookies_from r.0.0 r.0.1 (suc r.1 
   | inr later ↦ let more = shown runs q later in (suc more.0, more.1, more.2)
 ]
 
-pub contains_in : (m : Runs) (n x : ℕ) → IsOrdered by_session m → contains (from_list {R = by_session} (cookies_of m.entries)) (n, x) ≡ true → IsInRun m n x
+pub contains_in : (m : CookieRuns) (n x : ℕ) → IsOrdered by_session m → contains (from_list {R = by_session} (cookies_of m.entries)) (n, x) ≡ true → IsInRun m n x
 contains_in m n x ordered is =
     let found = shown m.entries (n, x) (sym (contains-from_list total (cookies_of m.entries) (n, x)) ∙ is) in
     let run = found.1 in
@@ -88,7 +88,7 @@ contains_in m n x ordered is =
     let of = found.2.1 in
     (run.0.1, run.1, (subst (λ (k : ℕ). IsRun m k run.0.1 run.1) (sym of.0) there, of.1, of.2))
 
-pub in_contains : (m : Runs) (n x : ℕ) → IsInRun m n x → contains (from_list {R = by_session} (cookies_of m.entries)) (n, x) ≡ true
+pub in_contains : (m : CookieRuns) (n x : ℕ) → IsInRun m n x → contains (from_list {R = by_session} (cookies_of m.entries)) (n, x) ≡ true
 in_contains m n x (first, last, (run, low, high)) =
     let found = place_from_lookup (is_at (by_session (n, first))) m.entries last run in
     let key = same_key (n, first) found.1 found.3 in
@@ -116,13 +116,13 @@ pub insert_keeps : (s : FinSet by_session) (k q : ℕ × ℕ) → contains s q �
 insert_keeps s k q is = contains-insert total s k q ∙ or_right _ _ is
 
 -- a cookie is contained where no run begins for it
-pub contained : (m : Runs) (n x : ℕ) (start : Option ℕ) → IsOrdered by_session m → MatchOption start (IsInRun m n x) (λ first. IsStart m n x first) →
+pub contained : (m : CookieRuns) (n x : ℕ) (start : Option ℕ) → IsOrdered by_session m → MatchOption start (IsInRun m n x) (λ first. IsStart m n x first) →
     is_none start ≡ contains (from_list {R = by_session} (cookies_of m.entries)) (n, x)
 contained m n x None ordered run = sym (in_contains m n x run)
 contained m n x (Some first) ordered start = both_ways _ _ (λ no. absurd (true≢false (sym no))) (λ is. absurd (start.free (contains_in m n x ordered is)))
 
 -- a cookie in a run is in the set already
-pub kept_set : (m : Runs) (n c : ℕ) → IsInRun m n c →
+pub kept_set : (m : CookieRuns) (n c : ℕ) → IsInRun m n c →
     from_list {R = by_session} (cookies_of m.entries) ≡ insert (from_list (cookies_of m.entries)) (n, c)
 kept_set m n c run = one_set _ _ (λ k x. (
   insert_keeps _ (n, c) (k, x),
@@ -133,7 +133,7 @@ kept_set m n c run = one_set _ _ (λ k x. (
 ))
 
 -- the set of the runs that a cookie joined
-pub joined_set : (old new : Runs) (n c first last : ℕ) → IsOrdered by_session old → IsOrdered by_session new → Joins old new n c first last →
+pub joined_set : (old new : CookieRuns) (n c first last : ℕ) → IsOrdered by_session old → IsOrdered by_session new → Joins old new n c first last →
     from_list {R = by_session} (cookies_of new.entries) ≡ insert (from_list (cookies_of old.entries)) (n, c)
 joined_set old new n c first last one two j = one_set _ _ (λ m x. (λ is. into m x (was_in j m x (contains_in new m x two is)), λ is. out m x (inserted _ n c m x is)))
   where

@@ -23,7 +23,7 @@ use Rattle.qs_model.specs.Worlds.{Hold, Image, Session, Away, Live, Leaving, Wor
 use Rattle.qs_model.specs.Acts.{Act, Answers, Waits, Enters, Routes, Shuts, Lists, Starts, Loads, LoadFails, Holds, HoldFails, Stores, StoreFails, Frees, Ends, Element, Attached, NoExport, Crowded, Left, Detached, NotAttached, Asked, Did, Exported, Planned, Crashed}
 use Rattle.qs_model.specs.Guards.{MayDo, May, CanAsk}
 use Rattle.qs_model.specs.Steps.{moved, tracked, imaged, leaves, happens, crashed, after, Runs}
-use Rattle.qs_model.specs.Laws.{Follows, Begins}
+use Rattle.qs_model.specs.Laws.{ComesBehind, Begins}
 use Rattle.qs_model.proofs.Basics.{choose, put_here, put_other, put_tells, put_cases, same_or}
 use Rattle.qs_model.proofs.Facts.{Shaped, Seated, Seats, Held, Keeps, Well, IsHolder, Owner, Manned, IsAt, IsClient, Among, Ok}
 use Rattle.qs_model.proofs.Machine.{ForMoved, own_shaped}
@@ -518,7 +518,7 @@ after_append A w [] ys = refl
 after_append A w (e ∷ xs) ys = after_append A (happens A w e) xs ys
 
 -- the steps before one of a run, and that it may happen there
-pub split_run : (A : ℕ) (w : World) (es before : List Element) (e : Element) → Runs A w es → Follows before e es →
+pub split_run : (A : ℕ) (w : World) (es before : List Element) (e : Element) → Runs A w es → ComesBehind before e es →
     Runs A w before × May A (after A w before) e
 split_run A w es before e run at =
     let whole : Runs A w (before ++ e ∷ at.0) = subst (λ (l : List Element). Runs A w l) at.1 run in

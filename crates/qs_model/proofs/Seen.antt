@@ -5,13 +5,13 @@ use Rattle.qs_cells.specs.declared.cell.CellEntry.TheVariants.{Read, Write, Mayb
 use Rattle.qs_model.specs.Requests.{Client, Stage}
 use Rattle.qs_model.specs.Acts.{Act, Answers, Waits, Enters, Routes, Shuts, Lists, Starts, Loads, LoadFails, Holds, HoldFails, Stores, StoreFails, Frees, Ends, Element, Attached, NoExport, Crowded, Left, Detached, NotAttached, Asked, Did, Exported, Planned, Crashed}
 use Rattle.qs_model.specs.Histories.{Acts, cell_at, cell_of, reads_in, writes_in}
-use Rattle.qs_model.specs.Laws.{Between, Follows, HasSeen, IsNoneOlder, IsRead, NoneOlder, WasAsked}
+use Rattle.qs_model.specs.Laws.{Between, ComesBehind, HasSeen, IsNoneOlder, IsRead, NoneOlder, WasAsked}
 
 -- the step that made a request
 pub record WasMade (r : ℕ) (steps : List Element) : Type 0 where
   pub made : List Element
   pub client : Client
-  pub asked : Follows made (Asked r client) steps
+  pub asked : ComesBehind made (Asked r client) steps
 
 pub was_made : (r : ℕ) (steps : List Element) → WasAsked r steps → WasMade r steps
 was_made r [] h = absurd h
@@ -31,7 +31,7 @@ was_made r (x ∷ es) (inr h) =
     record { made = x ∷ m.made; client = m.client; asked = (m.asked.0, ap (λ (xs : List Element). x ∷ xs) m.asked.1) }
 
 -- what stands in a front of a list stands in the list
-pub follows_on : (front : List Element) (e : Element) (made : List Element) (d : Element) (steps : List Element) → Follows front e made → Follows made d steps → Follows front e steps
+pub follows_on : (front : List Element) (e : Element) (made : List Element) (d : Element) (steps : List Element) → ComesBehind front e made → ComesBehind made d steps → ComesBehind front e steps
 follows_on front e made d steps inner outer =
     (inner.0 ++ d ∷ outer.0, outer.1 ∙ ap (λ (xs : List Element). xs ++ d ∷ outer.0) inner.1 ∙ append_assoc front (e ∷ inner.0) (d ∷ outer.0))
 

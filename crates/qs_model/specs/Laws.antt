@@ -27,8 +27,8 @@ abbrev pub opening : Opening → World
 opening o = new_world 0 o
 
 -- in the list es, e is the step behind `before`
-abbrev pub Follows : List Element → Element → List Element → Type 0
-Follows before e es = (behind : List Element) × (es ≡ before ++ e ∷ behind)
+abbrev pub ComesBehind : List Element → Element → List Element → Type 0
+ComesBehind before e es = (behind : List Element) × (es ≡ before ++ e ∷ behind)
 
 -- the list es begins with `before`
 abbrev pub Begins : List Element → List Element → Type 0
@@ -44,7 +44,7 @@ Alters A x _ = ⊥
 pub record Covered (A : ℕ) (w : World) (es : List Element) : Type 0 where
   pub now : (x : ℕ) (before : List Element) → Begins before es →
       byte_at A (after A w before).image x ≡ value_after (byte_at A w.image x) (cell A x before)
-  pub still : (x : ℕ) (before : List Element) (e : Element) → Follows before e es → (Alters A x e → ⊥) →
+  pub still : (x : ℕ) (before : List Element) (e : Element) → ComesBehind before e es → (Alters A x e → ⊥) →
       byte_at A (after A w (before ++ e ∷ [])).image x ≡ byte_at A (after A w before).image x
 
 -- each byte's reads and writes are one legal history of a single cell
@@ -63,8 +63,8 @@ Unanswered r (e ∷ es) = (IsAnswer r e → ⊥) × Unanswered r es
 
 -- A request is asked once. Whatever it does stands between its Ask and its answer, its entries too.
 pub record Between (es : List Element) : Type 0 where
-  pub once : (r : ℕ) (before : List Element) (e : Element) → Follows before e es → IsAsk r e → WasAsked r before → ⊥
-  pub within : (r : ℕ) (before : List Element) (e : Element) → Follows before e es → Acts r e →
+  pub once : (r : ℕ) (before : List Element) (e : Element) → ComesBehind before e es → IsAsk r e → WasAsked r before → ⊥
+  pub within : (r : ℕ) (before : List Element) (e : Element) → ComesBehind before e es → Acts r e →
       WasAsked r before × Unanswered r before
 
 -- the entries of a request of the byte at x
@@ -78,14 +78,14 @@ reply_at c bytes x = get_or bytes (x - (span_of c).lo) 0
 -- A READ that is Got has as many bytes as were asked for. It has read each byte that it covers
 -- exactly once, and its reply has that value.
 pub record ReadsOnce (A : ℕ) (es : List Element) : Type 0 where
-  pub whole : (r : ℕ) (c : Client) (bytes : List ℕ) (before : List Element) (e : Element) → Follows before e es →
+  pub whole : (r : ℕ) (c : Client) (bytes : List ℕ) (before : List Element) (e : Element) → ComesBehind before e es →
       Answered r c (Got bytes) e → length bytes ≡ c.ask.length
-  pub once : (r : ℕ) (c : Client) (bytes : List ℕ) (before : List Element) (e : Element) → Follows before e es →
+  pub once : (r : ℕ) (c : Client) (bytes : List ℕ) (before : List Element) (e : Element) → ComesBehind before e es →
       Answered r c (Got bytes) e → (x : ℕ) → covers c x ≡ true → entries A x r before ≡ Read r (reply_at c bytes x) ∷ []
 
 -- A write that is Fine has written each byte that it covers exactly once, and no disk refused it.
 abbrev pub WritesOnce : ℕ → List Element → Type 0
-WritesOnce A es = (r : ℕ) (c : Client) (before : List Element) (e : Element) → Follows before e es →
+WritesOnce A es = (r : ℕ) (c : Client) (before : List Element) (e : Element) → ComesBehind before e es →
     Answered r c Fine e → (x : ℕ) → covers c x ≡ true → entries A x r before ≡ Write r (body_at c x) ∷ []
 
 -- Between two block entries of a serialising request no block entry of another stands on a block of
@@ -100,7 +100,7 @@ Undivided A es =
 -- A Hold or Store is never answered HeldBy or Taken, a request's List, Start, End and Free never
 -- Strange or NotHeld, a session's Detach never NotAttached.
 abbrev pub NeverOdd : List Element → Type 0
-NeverOdd es = (before : List Element) (e : Element) → Follows before e es → IsOddStep e → ⊥
+NeverOdd es = (before : List Element) (e : Element) → ComesBehind before e es → IsOddStep e → ⊥
 
 -- some step gave the request this way
 abbrev pub WasRouted : ℕ → Route → List Element → Type 0
@@ -109,7 +109,7 @@ WasRouted r route (e ∷ es) = IsRouted r route e ⊎ WasRouted r route es
 
 -- A store belongs to a request whose way is writable, and the graph gave it that way.
 abbrev pub Writable : List Element → Type 0
-Writable es = (r : ℕ) (c : Client) (before : List Element) (e : Element) → Follows before e es → IsStore r c e →
+Writable es = (r : ℕ) (c : Client) (before : List Element) (e : Element) → ComesBehind before e es → IsStore r c e →
     (c.route.writable ≡ true) × WasRouted r c.route before
 
 -- Of the spans that go no two conflict, and of all listed spans the one of lowest number can start.
@@ -153,7 +153,7 @@ IsOutside _ = ⊥
 
 -- Every other step is an event's, and has one outcome.
 abbrev pub Evented : ℕ → List Element → Type 0
-Evented A es = (before : List Element) (e : Element) → Follows before e es →
+Evented A es = (before : List Element) (e : Element) → ComesBehind before e es →
     IsOutside e ⊎ ((event : Event) × (outcome : Outcome) × (IsEvent event e × (outcome_of A e ≡ Some outcome)))
 
 -- a step is a READ's entry of the byte at x
@@ -174,12 +174,12 @@ WasAnswered r (e ∷ es) = IsAnswer r e ⊎ WasAnswered r es
 -- Behind these steps a session has seen the entry e of the byte at x, which stands behind `front`: it is an entry of one of its
 -- requests, and that request was answered.
 pub record HasSeen (A x session : ℕ) (steps front : List Element) (e : Element) : Type 0 where
-  pub stands : Follows front e steps
+  pub stands : ComesBehind front e steps
   pub number : ℕ
   pub entry : IsEntryOf A x number e
   pub made : List Element
   pub client : Client
-  pub asked : Follows made (Asked number client) steps
+  pub asked : ComesBehind made (Asked number client) steps
   pub own : client.session ≡ session
   pub answered : WasAnswered number steps
 
@@ -187,11 +187,11 @@ pub record HasSeen (A x session : ℕ) (steps front : List Element) (e : Element
 pub record IsNoneOlder (A x r : ℕ) (before : List Element) : Type 0 where
   pub made : List Element
   pub client : Client
-  pub asked : Follows made (Asked r client) before
-  pub seen : (front : List Element) (e : Element) → HasSeen A x client.session made front e → Follows front e before
+  pub asked : ComesBehind made (Asked r client) before
+  pub seen : (front : List Element) (e : Element) → HasSeen A x client.session made front e → ComesBehind front e before
 
 abbrev pub NoneOlder : ℕ → List Element → Type 0
-NoneOlder A es = (x r : ℕ) (before : List Element) (e : Element) → Follows before e es → IsRead A x r e → IsNoneOlder A x r before
+NoneOlder A es = (x r : ℕ) (before : List Element) (e : Element) → ComesBehind before e es → IsRead A x r e → IsNoneOlder A x r before
 
 -- The headline, clause by clause: each byte's reads and writes form one legal history of a single cell, none older than its session
 -- had seen; only a write covering a byte changes it; a padded write is undivided. Where the disks tell no content, nothing is

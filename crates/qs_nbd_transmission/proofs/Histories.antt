@@ -16,7 +16,7 @@ use Rattle.qs_nbd_transmission.specs.declared.event.WireEvent.TheVariants as eve
 use Rattle.qs_nbd_transmission.specs.Heads.{IsHeadFront, head_bytes, head_of, ask_of, is_write_head, has_body}
 use Rattle.qs_nbd_transmission.specs.Phases.{Phase, InHead, Wants, Fills, Skips, Over, Stuck, phase_with_room, HeadTells, KeptTell, PassedTell, StaysStuck, IsServed, IsLeaving}
 use Rattle.qs_nbd_transmission.specs.Messages.{spelling}
-use Rattle.qs_nbd_transmission.specs.Sessions.{Call, Took, Gave, Makes, Runs, taken_by, told_by, Heard, IsHeard, events_of, IsAwaiting, Leaves, Tells, ReadsSessions}
+use Rattle.qs_nbd_transmission.specs.Sessions.{ReaderCall, Took, Gave, CallLeads, CallsLead, taken_by, told_by, Heard, IsHeard, events_of, IsAwaiting, Leaves, Tells, ReadsSessions}
 use Rattle.qs_nbd_transmission.proofs.Reading.{behind_wants, behind_none, kept_whole, passed_whole}
 use Rattle.qs_nbd_transmission.proofs.ReplyLaws.{second_of}
 
@@ -176,7 +176,7 @@ refuses_again s bad bytes more events told new p r =
       (n + 1, ap (λ (xs : List WireEvent). xs ++ told ∷ []) l.1.1 ∙ ap (λ (k : WireEvent). replicate (n + 1) (event.Bad bad) ++ k ∷ []) e ∙ replicate_more (n + 1) (event.Bad bad)),
     ))
 
-step : (s : Bool) (old new : Phase) (bytes : List ℕ) (events : List WireEvent) (call : Call) → Tells s old bytes events → Makes s old call new → Tells s new (bytes ++ taken_by call) (events ++ told_by call)
+step : (s : Bool) (old new : Phase) (bytes : List ℕ) (events : List WireEvent) (call : ReaderCall) → Tells s old bytes events → CallLeads s old call new → Tells s new (bytes ++ taken_by call) (events ++ told_by call)
 step s (InHead held) new bytes events (Took more None) p r = more_head s held bytes more events new p r
 step s (InHead held) new bytes events (Took more (Some told)) p r = ends_head s held bytes more events told new p r
 step s (Wants h) new bytes events (Took more told) p r = absurd r
@@ -190,7 +190,7 @@ step s (Stuck bad) new bytes events (Took more None) p r = let e = r.1 in absurd
 step s (Stuck bad) new bytes events (Took more (Some told)) p r = refuses_again s bad bytes more events told new p r
 step s old new bytes events (Gave room) p r = absurd r.0
 
-run : (s : Bool) (old new : Phase) (bytes : List ℕ) (events : List WireEvent) (calls : List Call) → Tells s old bytes events → Runs s old calls new → Tells s new (bytes ++ flat_map taken_by calls) (events ++ flat_map told_by calls)
+run : (s : Bool) (old new : Phase) (bytes : List ℕ) (events : List WireEvent) (calls : List ReaderCall) → Tells s old bytes events → CallsLead s old calls new → Tells s new (bytes ++ flat_map taken_by calls) (events ++ flat_map told_by calls)
 run s old new bytes events [] p r =
     rw (append-nil bytes, append-nil events) (subst (λ (q : Phase). Tells s q bytes events) (sym r) p)
 run s old new bytes events (call ∷ calls) p r =

@@ -11,27 +11,27 @@ use Rattle.qs_nbd_transmission.specs.Phases.{Phase, InHead, Wants, Fills, Skips,
 use Rattle.qs_nbd_transmission.specs.Messages.{Message, IsMessage, spelling}
 
 -- Took: a feed took these bytes, with what it told at their end. Gave: room was given.
-pub data Call : Type 0 where
-  Took : (bytes : List ℕ) (told : Option WireEvent) → Call
-  Gave : (room : Room) → Call
+pub data ReaderCall : Type 0 where
+  Took : (bytes : List ℕ) (told : Option WireEvent) → ReaderCall
+  Gave : (room : Room) → ReaderCall
 
 -- a call leads from one phase to another
-abbrev pub Makes : Bool → Phase → Call → Phase → Type 0
-Makes structured old (Took bytes told) new = Reaches structured old bytes told new
-Makes structured old (Gave room) new = CanGive old room × (new ≡ phase_with_room old room)
+abbrev pub CallLeads : Bool → Phase → ReaderCall → Phase → Type 0
+CallLeads structured old (Took bytes told) new = Reaches structured old bytes told new
+CallLeads structured old (Gave room) new = CanGive old room × (new ≡ phase_with_room old room)
 
 -- the calls lead, one after the other, from one phase to another
-abbrev pub Runs : Bool → Phase → List Call → Phase → Type 0
-Runs structured old [] new = new ≡ old
-Runs structured old (call ∷ calls) new = (middle : Phase) × (Makes structured old call middle × Runs structured middle calls new)
+abbrev pub CallsLead : Bool → Phase → List ReaderCall → Phase → Type 0
+CallsLead structured old [] new = new ≡ old
+CallsLead structured old (call ∷ calls) new = (middle : Phase) × (CallLeads structured old call middle × CallsLead structured middle calls new)
 
 -- the bytes that a call took
-abbrev pub taken_by : Call → List ℕ
+abbrev pub taken_by : ReaderCall → List ℕ
 taken_by (Took bytes told) = bytes
 taken_by (Gave room) = []
 
 -- what a call told
-abbrev pub told_by : Call → List WireEvent
+abbrev pub told_by : ReaderCall → List WireEvent
 told_by (Took bytes None) = []
 told_by (Took bytes (Some event)) = event ∷ []
 told_by (Gave room) = []
@@ -95,5 +95,5 @@ pub record Tells (structured : Bool) (phase : Phase) (bytes : List ℕ) (events 
 -- however a stream is cut, its messages are told, and nothing else
 abbrev pub ReadsSessions : Type 0
 ReadsSessions =
-    (structured : Bool) → (calls : List Call) → (new : Phase) → Runs structured (InHead []) calls new →
+    (structured : Bool) → (calls : List ReaderCall) → (new : Phase) → CallsLead structured (InHead []) calls new →
     Tells structured new (flat_map taken_by calls) (flat_map told_by calls)

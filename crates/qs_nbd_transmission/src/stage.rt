@@ -6,7 +6,7 @@ ghost use Rattle.qs_nbd_transmission.specs.Stages.{IsSound, phase_of};
 
 use crate::event::{Room, WireEvent};
 use crate::head::{DISC, HEAD_BYTES, REQUEST_MAGIC, ask, head_at, is_over_long, wants_body};
-use qs_bytes::{Bytes, u32_at, write_over, write_into};
+use qs_bytes::{Bytes, u32_at, write_into, write_over};
 use qs_status::SessionEnd;
 
 /// What is held of the next request, beside the bytes of its head.

@@ -4,7 +4,7 @@ use Rattle.std.specs.BTreeMap.{get as entry_at}
 use Rattle.std.specs.Coded.{Coded, code_by, coded_list, coded_ℕ, coded×}
 use Rattle.std.specs.FinMap as map
 use Rattle.std.specs.FinSet as set
-use Rattle.qs_cookies.specs.Used.{Runs, by_session}
+use Rattle.qs_cookies.specs.Used.{CookieRuns, by_session}
 use Rattle.qs_part.specs.declared.event.Outcome.{Outcome}
 use Rattle.qs_part.specs.declared.event.Outcome.TheVariants.{Answered}
 
@@ -21,7 +21,7 @@ coded_names = code_by (List (List ℕ) × (set.FinSet by_session × map.FinMap b
     (λ n. (n.sessions, (n.used, n.live))) (λ t. record { sessions = t.0; used = t.1.0; live = t.1.1 }) (λ _. refl)
 
 -- a request that isn't answered has used its cookie
-abbrev pub AreUsed : set.FinSet by_session → Runs → Type 0
+abbrev pub AreUsed : set.FinSet by_session → CookieRuns → Type 0
 AreUsed used live = (key : ℕ × ℕ) (number : ℕ) → entry_at by_session live key ≡ Some number → set.contains used key ≡ true
 
 -- the name came first at this place

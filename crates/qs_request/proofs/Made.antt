@@ -14,7 +14,7 @@ use Rattle.qs_request.specs.declared.stage.Stage.TheVariants.{Ready as ReadyAt, 
 use Rattle.qs_request.specs.declared.machine.Machine.{Machine}
 use Rattle.qs_request.specs.Shapes.{IsShape}
 use Rattle.qs_request.specs.Value.{bytes_of, given_bytes, has_buffers, client_for}
-use Rattle.qs_request.specs.Inside.{IsFree, Stands, client_of, first_stage, request_of, stage_of}
+use Rattle.qs_request.specs.Inside.{IsFree, IsAtStage, client_of, first_stage, request_of, stage_of}
 
 pub first_is : (m : Machine) (a : Ask) (buffered : Bool) →
     stage_of m (first_stage a buffered) ≡ cond (form_error a) (Ready (Refused Inval)) (cond buffered Entering (Ready (Refused NoMem)))
@@ -34,10 +34,10 @@ known Trim x y z is = absurd (true≢false is)
 known Flush x y z is = absurd (true≢false is)
 known (Unknown n) x y z is = absurd (true≢false is)
 
-pub first_stands : (m : Machine) → Stands m (first_stage m.ask m.buffered)
+pub first_stands : (m : Machine) → IsAtStage m (first_stage m.ask m.buffered)
 first_stands m = go (form_error m.ask) m.buffered refl refl
   where
-    go : (f d : Bool) → form_error m.ask ≡ f → m.buffered ≡ d → Stands m (cond f (ReadyAt (Failed Inval)) (cond d EnteringAt (ReadyAt (Failed NoMem))))
+    go : (f d : Bool) → form_error m.ask ≡ f → m.buffered ≡ d → IsAtStage m (cond f (ReadyAt (Failed Inval)) (cond d EnteringAt (ReadyAt (Failed NoMem))))
     go true d e g = tt
     go false true e g = record { kind = known m.ask.kind _ _ _ e; buffered = g }
     go false false e g = tt
@@ -92,7 +92,7 @@ made_free m shape waits answered stage body pads work = record {
   sound = record {
     shape = shape;
     buffers = record { body = body; pads = pads; work = λ buffered some _. work buffered some };
-    stands = subst (λ (s : At). Stands m s) (sym stage) (first_stands m);
+    stands = subst (λ (s : At). IsAtStage m s) (sym stage) (first_stands m);
   };
   waits = waits;
   answered = answered;

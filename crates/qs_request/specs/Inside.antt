@@ -141,10 +141,10 @@ Goes m (StoreNext b) = IsStoring m b
 Goes m (FreeNext side) = IsGoing m
 Goes m (EndNext e) = Unit {0}
 
-abbrev pub Stands : Machine → At → Type 0
-Stands m (ReadyAt e) = Unit {0}
-Stands m EnteringAt = IsAsked m
-Stands m (InAt k step) = Goes m step
+abbrev pub IsAtStage : Machine → At → Type 0
+IsAtStage m (ReadyAt e) = Unit {0}
+IsAtStage m EnteringAt = IsAsked m
+IsAtStage m (InAt k step) = Goes m step
 
 -- an operation that is lent the block to work in
 abbrev pub lends : Next → Bool
@@ -168,7 +168,7 @@ pub record HasBuffers (m : Machine) (lent : Bool) : Type 0 where
 pub record IsSound (m : Machine) : Type 0 where
   pub shape : IsShape m.shape
   pub buffers : HasBuffers m (lends_at m.stage && m.waits)
-  pub stands : Stands m m.stage
+  pub stands : IsAtStage m m.stage
 
 -- it may be asked for its next operation
 pub record IsFree (m : Machine) : Type 0 where
@@ -184,7 +184,7 @@ pub record AwaitsReply (m : Machine) (reply : PartReply) : Type 0 where
   pub may : MayAnswer m.shape (stage_of m m.stage) reply
 
 -- the reply was taken
-pub record Follows (old : Machine) (reply : PartReply) (new : Machine) : Type 0 where
+pub record TakesReply (old : Machine) (reply : PartReply) (new : Machine) : Type 0 where
   pub request : request_of new ≡ followed old.shape.align (request_of old) reply
   pub shape : new.shape ≡ old.shape
   pub free : IsFree new

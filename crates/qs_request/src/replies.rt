@@ -3,7 +3,7 @@ ghost use Rattle.qs_bytes.specs.Pieces.{overlay};
 ghost use Rattle.qs_part.specs.declared.stripe.StripeReply.{StripeReply as Reply};
 ghost use Rattle.qs_model.specs.Requests.{held, keep, loaded, piece, In as InFlight};
 ghost use Rattle.qs_request.specs.Table.{MayTrack, after_tracker};
-ghost use Rattle.qs_request.specs.Inside.{AwaitsReply, Follows, Goes, HasBuffers, IsHolding, IsLoading, IsSound, Stands, before, client_of, stage_of, step_of};
+ghost use Rattle.qs_request.specs.Inside.{AwaitsReply, TakesReply, Goes, HasBuffers, IsHolding, IsLoading, IsSound, IsAtStage, before, client_of, stage_of, step_of};
 ghost use Rattle.qs_request.specs.Shapes.{IsShape};
 
 use crate::machine::Machine;
@@ -50,10 +50,10 @@ impl Machine {
     /// The stage after an answer of the tracker.
     fn tracked(&self, reply: TrackerReply) -> Stage
         requires shape { IsShape self.now.shape }
-        requires stands { Stands self.now self.now.stage }
+        requires stands { IsAtStage self.now self.now.stage }
         requires may { MayTrack reply (stage_of self.now self.now.stage) }
         ensures stage { stage_of self.now result ≡ after_tracker self.now.shape.align (client_of self.now) self.now.dropped reply (stage_of self.now self.now.stage) }
-        ensures stands { Stands self.now result }
+        ensures stands { IsAtStage self.now result }
     {
         match (self.stage, reply) {
             (Stage::Entering, TrackerReply::Entered(k)) => Stage::In(k, Step::Route),
@@ -72,7 +72,7 @@ impl Machine {
 
     fn after_tracker(&mut self, reply: TrackerReply)
         requires { AwaitsReply self.old (PartReply.Tracker reply) }
-        ensures { Follows self.old (PartReply.Tracker reply) self.new }
+        ensures { TakesReply self.old (PartReply.Tracker reply) self.new }
     {
         self.stage = self.tracked(reply);
         self.waits = false;
@@ -80,7 +80,7 @@ impl Machine {
 
     fn after_graph(&mut self, reply: GraphReply)
         requires { AwaitsReply self.old (PartReply.Graph reply) }
-        ensures { Follows self.old (PartReply.Graph reply) self.new }
+        ensures { TakesReply self.old (PartReply.Graph reply) self.new }
     {
         self.waits = false;
         match (self.stage, reply) {
@@ -118,7 +118,7 @@ impl Machine {
         requires loading { IsLoading self.old b }
         requires buffers { HasBuffers self.old false }
         ensures step { stage_of self.new self.new.stage ≡ InFlight k (loaded self.old.shape.align (client_of self.old) b (take (before self.old b) self.old.body) self.old.work) }
-        ensures stands { Stands self.new self.new.stage }
+        ensures stands { IsAtStage self.new self.new.stage }
         ensures buffers { HasBuffers self.new false }
         ensures same { self.new ≡ record self.old { body = self.new.body; stage = self.new.stage } }
     {
@@ -132,7 +132,7 @@ impl Machine {
         requires holding { IsHolding self.old side }
         requires buffers { HasBuffers self.old false }
         ensures step { stage_of self.new self.new.stage ≡ InFlight k (held self.old.shape.align (client_of self.old) side) }
-        ensures stands { Stands self.new self.new.stage }
+        ensures stands { IsAtStage self.new self.new.stage }
         ensures buffers { HasBuffers self.new false }
         ensures same { self.new ≡ record self.old {
           pads = record self.old.pads { pads = keep self.old.pads.pads side self.old.work };
@@ -147,7 +147,7 @@ impl Machine {
     /// A Load or a Hold gave the block.
     fn filled(&mut self, buf: Bytes)
         requires { AwaitsReply self.old (PartReply.Stripe (Reply.Filled buf)) }
-        ensures { Follows self.old (PartReply.Stripe (Reply.Filled buf)) self.new }
+        ensures { TakesReply self.old (PartReply.Stripe (Reply.Filled buf)) self.new }
     {
         self.work = buf;
         self.waits = false;
@@ -161,7 +161,7 @@ impl Machine {
     /// A Store is done.
     fn done(&mut self, buf: Bytes)
         requires { AwaitsReply self.old (PartReply.Stripe (Reply.Done buf)) }
-        ensures { Follows self.old (PartReply.Stripe (Reply.Done buf)) self.new }
+        ensures { TakesReply self.old (PartReply.Stripe (Reply.Done buf)) self.new }
     {
         self.work = buf;
         self.waits = false;
@@ -173,7 +173,7 @@ impl Machine {
     /// The disk refused.
     fn failed(&mut self, buf: Bytes)
         requires { AwaitsReply self.old (PartReply.Stripe (Reply.Fault (Some buf))) }
-        ensures { Follows self.old (PartReply.Stripe (Reply.Fault (Some buf))) self.new }
+        ensures { TakesReply self.old (PartReply.Stripe (Reply.Fault (Some buf))) self.new }
     {
         self.work = buf;
         self.waits = false;
@@ -188,7 +188,7 @@ impl Machine {
     /// A hold was given up.
     fn freed(&mut self)
         requires { AwaitsReply self.old (PartReply.Stripe Reply.Freed) }
-        ensures { Follows self.old (PartReply.Stripe Reply.Freed) self.new }
+        ensures { TakesReply self.old (PartReply.Stripe Reply.Freed) self.new }
     {
         self.waits = false;
         if let Stage::In(k, Step::Free(_)) = self.stage {
@@ -198,7 +198,7 @@ impl Machine {
 
     fn held_by(&mut self, j: u8, buf: Bytes)
         requires { AwaitsReply self.old (PartReply.Stripe (Reply.HeldBy j buf)) }
-        ensures { Follows self.old (PartReply.Stripe (Reply.HeldBy j buf)) self.new }
+        ensures { TakesReply self.old (PartReply.Stripe (Reply.HeldBy j buf)) self.new }
     {
         self.work = buf;
         self.waits = false;
@@ -206,7 +206,7 @@ impl Machine {
 
     fn taken(&mut self, b: u64, buf: Bytes)
         requires { AwaitsReply self.old (PartReply.Stripe (Reply.Taken b buf)) }
-        ensures { Follows self.old (PartReply.Stripe (Reply.Taken b buf)) self.new }
+        ensures { TakesReply self.old (PartReply.Stripe (Reply.Taken b buf)) self.new }
     {
         self.work = buf;
         self.waits = false;
@@ -214,7 +214,7 @@ impl Machine {
 
     fn after_stripe(&mut self, reply: StripeReply)
         requires { AwaitsReply self.old (PartReply.Stripe reply) }
-        ensures { Follows self.old (PartReply.Stripe reply) self.new }
+        ensures { TakesReply self.old (PartReply.Stripe reply) self.new }
     {
         match reply {
             StripeReply::Filled(buf) => self.filled(buf),
@@ -231,7 +231,7 @@ impl Machine {
     /// Takes the reply to the operation that was given last.
     pub fn after(&mut self, reply: PartReply)
         requires { AwaitsReply self.old reply }
-        ensures { Follows self.old reply self.new }
+        ensures { TakesReply self.old reply self.new }
     {
         match reply {
             PartReply::Tracker(reply) => self.after_tracker(reply),

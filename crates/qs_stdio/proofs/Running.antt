@@ -14,7 +14,7 @@ use Rattle.qs_stdio.specs.Scenes.{Scene}
 use Rattle.qs_stdio.specs.Runs.{Serves, Sitting, Ran, side_of}
 use Rattle.qs_stream.specs.declared.state.State.TheVariants as state
 use Rattle.qs_stream.specs.declared.state.State.{State}
-use Rattle.qs_stream.specs.Flows.{Rises, Runs}
+use Rattle.qs_stream.specs.Flows.{Rises, Proceeds}
 use Rattle.qs_stream.proofs.Moves.{moved_none, rises_from}
 
 -- memory was refused before the first request
@@ -59,7 +59,7 @@ rises_of words before after (status.OpenBad bad) going ran =
     subst (λ (s : Scene). Rises state.Open before.flow.input.faults s.flow.input.faults before.flow.output.faults s.flow.output.faults) (sym ran.1.1) (omega arith, omega arith)
 rises_of words before after other going ran =
     rises_from before.flow.stream.state (side_of other) before.flow after.flow going
-    (subst (λ (s : State). Runs before.flow.stream.state s before.flow after.flow) ran.1.1.failed ran.1.1.moved.runs)
+    (subst (λ (s : State). Proceeds before.flow.stream.state s before.flow after.flow) ran.1.1.failed ran.1.1.moved.runs)
 
 -- which side failed
 pub read_rose : (result : Status) (r r' w w' : ℕ) → Rises (side_of result) r r' w w' → result ≡ status.ReadFault → Rose r r'

@@ -21,9 +21,9 @@ use Rattle.qs_stdio.specs.Calls.{Called, CalledAll}
 use Rattle.qs_stdio.specs.Events.{IsUsedUp}
 use Rattle.qs_stdio.specs.Scenes.{Scene, IsFront, Ending, Exchanges, Stops}
 use Rattle.qs_stdio.specs.Runs.{Ends, Sitting, side_of, fault_at, status_by}
-use Rattle.qs_stdio.specs.Turns.{TakesTurn, between}
-use Rattle.qs_stdio.specs.declared.serve.Turn.{Turn}
-use Rattle.qs_stdio.specs.declared.serve.Turn.TheVariants as turn
+use Rattle.qs_stdio.specs.Turns.{ServesMessage, between}
+use Rattle.qs_stdio.specs.declared.serve.Progress.{Progress}
+use Rattle.qs_stdio.specs.declared.serve.Progress.TheVariants as progress
 use Rattle.qs_nbd_transmission.specs.Phases.{Reader}
 use Rattle.qs_stdio.proofs.Sought.{nothing_front}
 
@@ -211,14 +211,14 @@ module _ (align size budget : ℕ) (before mid : Scene) (count : ℕ) (served : 
       (λ failed. fault_ends t.state budget served.exchanges (record { input = mid.flow.input; output = p; stream = t }) [] failed (inl nothing_front))
 
 -- a turn that goes on
-pub turned : (E : Type 0) (align size : ℕ) (before after : Scene) (reader : Reader) (t : Turn) → t ≡ turn.Goes →
-    TakesTurn {E = E} align size before (Ok t) reader after → (x : Exchange) × (Exchanges align size before x after × (reader ≡ between))
-turned E align size before after reader t is turns = subst (λ (t : Turn). TakesTurn {E = E} align size before (Ok t) reader after) is turns
+pub turned : (E : Type 0) (align size : ℕ) (before after : Scene) (reader : Reader) (t : Progress) → t ≡ progress.Goes →
+    ServesMessage {E = E} align size before (Ok t) reader after → (x : Exchange) × (Exchanges align size before x after × (reader ≡ between))
+turned E align size before after reader t is turns = subst (λ (t : Progress). ServesMessage {E = E} align size before (Ok t) reader after) is turns
 
 -- and one that ends the session
-pub turned_end : (E : Type 0) (align size : ℕ) (before after : Scene) (reader : Reader) (t : Turn) (s : Status) → t ≡ turn.Ends s →
-    TakesTurn {E = E} align size before (Ok t) reader after → (after.flow.stream.state ≡ state.Open) × Stops before after (Ending s after.flow)
-turned_end E align size before after reader t s is turns = subst (λ (t : Turn). TakesTurn {E = E} align size before (Ok t) reader after) is turns
+pub turned_end : (E : Type 0) (align size : ℕ) (before after : Scene) (reader : Reader) (t : Progress) (s : Status) → t ≡ progress.Ends s →
+    ServesMessage {E = E} align size before (Ok t) reader after → (after.flow.stream.state ≡ state.Open) × Stops before after (Ending s after.flow)
+turned_end E align size before after reader t s is turns = subst (λ (t : Progress). ServesMessage {E = E} align size before (Ok t) reader after) is turns
 
 -- a stream that failed gives the run's status
 pub fault_told : {F : Type 0} (align size budget : ℕ) (before after : Scene) (result : Result Status F) (P : F → Type 0) → IsErrAnd result P →

@@ -18,12 +18,12 @@ use Rattle.qs_stream.specs.Flows.{Side, Flow, Moved}
 use Rattle.qs_stream.proofs.Moves.{moved_on}
 use Rattle.qs_stdio.specs.declared.session.Came.{Came}
 use Rattle.qs_stdio.specs.declared.session.Came.TheVariants as came
-use Rattle.qs_stdio.specs.declared.serve.Turn.{Turn}
-use Rattle.qs_stdio.specs.declared.serve.Turn.TheVariants as turn
+use Rattle.qs_stdio.specs.declared.serve.Progress.{Progress}
+use Rattle.qs_stdio.specs.declared.serve.Progress.TheVariants as progress
 use Rattle.qs_stdio.specs.Service.{Exchange}
 use Rattle.qs_stdio.specs.Calls.{Answers}
 use Rattle.qs_stdio.specs.Scenes.{Scene, IsCutWrite, Ending, Exchanges, Stops}
-use Rattle.qs_stdio.specs.Turns.{Answered, AwaitsRoom, Brings, Comes, Finishes, HasRoom, IsData, TakesTurn, awaited, between}
+use Rattle.qs_stdio.specs.Turns.{Answered, AwaitsRoom, Brings, Comes, Finishes, HasRoom, IsData, ServesMessage, awaited, between}
 
 -- how many bytes are awaited where room was given
 by_room : (h : Head) (room : Room) → awaited (phase_with_room (Wants h) room) ≡ h.size
@@ -124,12 +124,12 @@ stopped before mid after taken moved stops ends = record {
 module _ {E : Type 0} (align size : ℕ) (before : Scene) (mid : Flow) (after : Scene) (taken : List ℕ) (a : Ask) (phase : Phase) (new : Reader)
     (is : IsServed false taken a phase) (has : has_data a ≡ true) (moved : Moved taken [] before.flow mid) where
   -- a request with data came, and what became of it
-  pub finished : (result : Result Turn E) → Finishes align size a (record { flow = mid; disks = before.disks }) result new after → TakesTurn align size before result new after
-  finished (Ok turn.Goes) finishes =
+  pub finished : (result : Result Progress E) → Finishes align size a (record { flow = mid; disks = before.disks }) result new after → ServesMessage align size before result new after
+  finished (Ok progress.Goes) finishes =
       let one : (x : Exchange) × Exchanges align size before x after =
       exchanged align size before mid after taken finishes.0 a phase true is has finishes.1.0 moved finishes.1.1 in
       (one.0, (one.1, finishes.1.2))
-  finished (Ok (turn.Ends told)) finishes =
+  finished (Ok (progress.Ends told)) finishes =
       let cut : Ending (status.Ended end.Truncated) after.flow (taken ++ finishes.3.rest) =
       (inr (cut_write taken finishes.3.rest a phase is has finishes.3.ends), finishes.1) in
       (finishes.2, stopped before mid after taken moved finishes.3 (subst (λ (s : Status). Ending s after.flow (taken ++ finishes.3.rest)) (sym finishes.0) cut))

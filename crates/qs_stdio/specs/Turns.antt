@@ -15,8 +15,8 @@ use Rattle.qs_stream.specs.declared.state.State.TheVariants.{Open}
 use Rattle.qs_stream.specs.Flows.{Flow, Moved, Tells}
 use Rattle.qs_stdio.specs.declared.session.Came.{Came}
 use Rattle.qs_stdio.specs.declared.session.Came.TheVariants as came
-use Rattle.qs_stdio.specs.declared.serve.Turn.{Turn}
-use Rattle.qs_stdio.specs.declared.serve.Turn.TheVariants as turn
+use Rattle.qs_stdio.specs.declared.serve.Progress.{Progress}
+use Rattle.qs_stdio.specs.declared.serve.Progress.TheVariants as progress
 use Rattle.qs_stdio.specs.Service.{Exchange, MayGet}
 use Rattle.qs_stdio.specs.Calls.{Called}
 use Rattle.qs_stdio.specs.Events.{IsUsedUp}
@@ -91,15 +91,15 @@ pub record Answered (align size : ℕ) (a : Ask) (body : List ℕ) (before after
   pub moved : Moved body (reply_of false a verdict) before.flow after.flow
 
 -- the data of a WRITE came and it was answered, or the session ended within them
-abbrev pub Finishes : {E : Type 0} → ℕ → ℕ → Ask → Scene → Result Turn E → Reader → Scene → Type 0
-Finishes align size a before (Ok turn.Goes) new after =
+abbrev pub Finishes : {E : Type 0} → ℕ → ℕ → Ask → Scene → Result Progress E → Reader → Scene → Type 0
+Finishes align size a before (Ok progress.Goes) new after =
     (body : List ℕ) × ((length body ≡ a.length) × Answered align size a body before after × (new ≡ between))
-Finishes align size a before (Ok (turn.Ends status)) new after =
+Finishes align size a before (Ok (progress.Ends status)) new after =
     (status ≡ Ended end.Truncated) × IsUsedUp after.flow × (after.flow.stream.state ≡ Open) × Stops before after (λ taken. length taken < a.length)
 Finishes align size a before (Err e) new after = (after.flow.stream.state ≢ Open) × Stops before after (λ taken. length taken < a.length)
 
 -- A request came and was answered, or the session ended before, or the stream failed within it.
-abbrev pub TakesTurn : {E : Type 0} → ℕ → ℕ → Scene → Result Turn E → Reader → Scene → Type 0
-TakesTurn align size before (Ok turn.Goes) new after = (x : Exchange) × (Exchanges align size before x after × (new ≡ between))
-TakesTurn align size before (Ok (turn.Ends status)) new after = (after.flow.stream.state ≡ Open) × Stops before after (Ending status after.flow)
-TakesTurn align size before (Err e) new after = (after.flow.stream.state ≢ Open) × Stops before after IsFront
+abbrev pub ServesMessage : {E : Type 0} → ℕ → ℕ → Scene → Result Progress E → Reader → Scene → Type 0
+ServesMessage align size before (Ok progress.Goes) new after = (x : Exchange) × (Exchanges align size before x after × (new ≡ between))
+ServesMessage align size before (Ok (progress.Ends status)) new after = (after.flow.stream.state ≡ Open) × Stops before after (Ending status after.flow)
+ServesMessage align size before (Err e) new after = (after.flow.stream.state ≢ Open) × Stops before after IsFront

@@ -5,7 +5,9 @@ ghost use Rattle.qs_nbd_transmission.specs.Heads.{is_write};
 ghost use Rattle.qs_stdio.specs.Service.{Leads, MayGet, is_valid};
 
 use crate::answer::asks_bytes;
-use qs_bytes::{Ask, Bytes, Errno, Kind, MAX_PAYLOAD, Memory, Verdict, put16, put32, put64, write_into};
+use qs_bytes::{
+    Ask, Bytes, Errno, Kind, MAX_PAYLOAD, Memory, Verdict, put16, put32, put64, write_into,
+};
 use std::alloc::Global;
 
 /// A request as a client sends it, and the byte that a WRITE's data repeat.

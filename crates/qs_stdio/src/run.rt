@@ -11,12 +11,12 @@ ghost use Rattle.qs_stdio.specs.Turns.{between};
 ghost use Rattle.qs_stdio.specs.Words.{IsCommand};
 
 use crate::answer::Shape;
-use crate::serve::Turn;
+use crate::serve::Progress;
 use crate::session::Session;
 use crate::words::stdio_words;
-use qs_status::Status;
 use qs_image::open_fault;
 use qs_outside::{Clock, Disk, Failed, Sink, Source};
+use qs_status::Status;
 use qs_stream::{State, Stream};
 use std::alloc::Global;
 
@@ -62,8 +62,8 @@ impl Session {
     {
         for _ in 0..budget {
             match self.serve_one(alloc, input, output, disks, shape)? {
-                Turn::Goes => {}
-                Turn::Ends(status) => return finish(&mut self.stream, output, status),
+                Progress::Goes => {}
+                Progress::Ends(status) => return finish(&mut self.stream, output, status),
             }
         }
         finish(&mut self.stream, output, Status::Spent)

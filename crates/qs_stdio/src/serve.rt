@@ -7,20 +7,20 @@ ghost use Rattle.qs_stream.specs.Flows.{side};
 ghost use Rattle.qs_stdio.specs.Calls.{Answers};
 ghost use Rattle.qs_stdio.specs.Scenes.{scene};
 ghost use Rattle.qs_stdio.specs.Service.{IsShape, is_valid};
-ghost use Rattle.qs_stdio.specs.Turns.{AwaitsRoom, Finishes, HasRoom, IsData, TakesTurn, between};
+ghost use Rattle.qs_stdio.specs.Turns.{AwaitsRoom, Finishes, HasRoom, IsData, ServesMessage, between};
 
 use crate::answer::{Shape, answer_read, answer_write, asks_bytes, data_follow, is_served, refuse};
 use crate::session::{Came, Session, room_for};
 use qs_bytes::{Ask, Errno};
-use qs_status::{SessionEnd, Status};
 use qs_nbd_transmission::Room;
 use qs_outside::{Disk, Failed, Sink, Source};
+use qs_status::{SessionEnd, Status};
 use qs_stream::Stream;
 use std::alloc::Global;
 
 /// Whether a session goes on after a request.
 #[derive(Debug, Drop)]
-pub enum Turn {
+pub enum Progress {
     Goes,
     Ends(Status),
 }
@@ -113,7 +113,7 @@ impl Session {
         shape: Shape,
         ask: &Ask,
         valid: bool,
-    ) -> Result<Turn, Failed>
+    ) -> Result<Progress, Failed>
         requires image { IsImage (map D.seen disks.old) }
         requires shape { IsShape shape (map D.seen disks.old) }
         requires data { has_data ask.now ≡ true }
@@ -130,11 +130,11 @@ impl Session {
         self.reader.give(room);
         let room = match self.next_data(input, output)? {
             Some(room) => room,
-            None => return Ok(Turn::Ends(Status::Ended(SessionEnd::Truncated))),
+            None => return Ok(Progress::Ends(Status::Ended(SessionEnd::Truncated))),
         };
         answer_data(&mut self.stream, output, disks, shape, ask, valid, &room);
         keep(&mut self.spare, room);
-        Ok(Turn::Goes)
+        Ok(Progress::Goes)
     }
 
     /// Reads the next request and answers it. Where its reply can't be written, the next turn fails.
@@ -145,18 +145,18 @@ impl Session {
         output: &mut O,
         disks: &mut [D],
         shape: Shape,
-    ) -> Result<Turn, Failed>
+    ) -> Result<Progress, Failed>
         requires image { IsImage (map D.seen disks.old) }
         requires shape { IsShape shape (map D.seen disks.old) }
         requires between { self.old.reader ≡ between }
-        ensures { TakesTurn shape.align shape.size
+        ensures { ServesMessage shape.align shape.size
             (scene I.left I.read_faults O.sent O.write_faults D.seen input.old output.old self.old.stream disks.old)
             result self.new.reader
             (scene I.left I.read_faults O.sent O.write_faults D.seen input.new output.new self.new.stream disks.new) }
     {
         let ask = match self.next_ask(input, output)? {
             Came::Asked(ask) => ask,
-            Came::Ends(status) => return Ok(Turn::Ends(status)),
+            Came::Ends(status) => return Ok(Progress::Ends(status)),
         };
         let valid = is_served(shape, &ask);
         if data_follow(&ask) {
@@ -171,6 +171,6 @@ impl Session {
             valid,
             &mut self.read,
         );
-        Ok(Turn::Goes)
+        Ok(Progress::Goes)
     }
 }

@@ -7,9 +7,9 @@ ghost use Rattle.qs_stdio.specs.Turns.{Asking, Bringing, HasRoom, IsFilling, bet
 
 use crate::event::next_event;
 use qs_bytes::{Ask, Bytes, Memory, Mode};
-use qs_status::{SessionEnd, Status};
 use qs_nbd_transmission::{Room, Transmission, WireEvent};
 use qs_outside::{Failed, Sink, Source};
+use qs_status::{SessionEnd, Status};
 use qs_stream::Stream;
 use std::alloc::Global;
 use std::mem;

@@ -1,8 +1,8 @@
 use crate::plain::{Request, plain_service};
 use crate::run_stdio;
 use qs_bytes::{Bytes, Memory};
-use qs_status::{OpenBad, SessionEnd, Status};
 use qs_outside::{MemClock, MemSink, MemSource, QuietDisk};
+use qs_status::{OpenBad, SessionEnd, Status};
 use std::alloc::Global;
 use std::test::Fail;
 

@@ -7,7 +7,7 @@ use Rattle.qs_stream.specs.declared.state.State.TheVariants.{Open, ReadFault, Wr
 use Rattle.qs_stream.specs.Buffers.{Buffers}
 use Rattle.qs_stream.specs.Bytes.{Sends}
 use Rattle.qs_stream.specs.Faults.{Stays, Counts}
-use Rattle.qs_stream.specs.Flows.{Side, Flow, Rises, Runs, Moved, Puts}
+use Rattle.qs_stream.specs.Flows.{Side, Flow, Rises, Proceeds, Moved, Puts}
 use Rattle.qs_stream.proofs.Bytes.{takes_split, takes_read, gives_none}
 use Rattle.qs_stream.proofs.Moves.{runs_from, moved_lost, moved_on}
 
@@ -82,7 +82,7 @@ pub write_failed : (o p : Side) (a b : Buffers) (given : List ℕ) → Puts give
 write_failed o p a b given puts is failed = by_state a.state b.state is failed (puts.moved (record { bytes = o.bytes; faults = 0 })).runs
   where
     by_state : (s t : State) → s ≡ Open → t ≢ Open →
-        Runs s t (record { input = record { bytes = o.bytes; faults = 0 }; output = o; stream = a }) (record { input = record { bytes = o.bytes; faults = 0 }; output = p; stream = b }) →
+        Proceeds s t (record { input = record { bytes = o.bytes; faults = 0 }; output = o; stream = a }) (record { input = record { bytes = o.bytes; faults = 0 }; output = p; stream = b }) →
         t ≡ WriteFault
     by_state Open Open is failed runs = absurd (failed refl)
     by_state Open ReadFault is failed runs = absurd (omega (arith, runs.0))

@@ -5,7 +5,7 @@ use Rattle.qs_stream.specs.declared.state.State.{State}
 use Rattle.qs_stream.specs.declared.state.State.TheVariants.{Open, ReadFault, WriteFault}
 use Rattle.qs_stream.specs.Buffers.{Buffers}
 use Rattle.qs_stream.specs.Bytes.{Takes, Gives}
-use Rattle.qs_stream.specs.Flows.{Side, Flow, Rises, Runs, Moved}
+use Rattle.qs_stream.specs.Flows.{Side, Flow, Rises, Proceeds, Moved}
 use Rattle.qs_stream.proofs.Bytes.{takes_on, takes_none, takes_split, gives_on, gives_none, gives_behind, gives_lost}
 
 pub open_or : (s : State) → (s ≡ Open) ⊎ (s ≢ Open)
@@ -14,7 +14,7 @@ open_or ReadFault = inr (λ e. absurd (cc))
 open_or WriteFault = inr (λ e. absurd (cc))
 
 -- nothing is done to a stream that failed
-pub stuck : (s t : State) (old new : Flow) → s ≢ Open → Runs s t old new → new ≡ old
+pub stuck : (s t : State) (old new : Flow) → s ≢ Open → Proceeds s t old new → new ≡ old
 stuck Open t old new failed runs = absurd (failed refl)
 stuck ReadFault Open old new failed runs = absurd runs
 stuck ReadFault ReadFault old new failed runs = runs
@@ -23,19 +23,19 @@ stuck WriteFault Open old new failed runs = absurd runs
 stuck WriteFault ReadFault old new failed runs = absurd runs
 stuck WriteFault WriteFault old new failed runs = runs
 
-pub runs_same : (s : State) (f : Flow) → Runs s s f f
+pub runs_same : (s : State) (f : Flow) → Proceeds s s f f
 runs_same Open f = (omega arith, omega arith)
 runs_same ReadFault f = refl
 runs_same WriteFault f = refl
 
 -- a run that began with an open stream
 pub runs_from : (s t : State) (old new : Flow) → s ≡ Open →
-    Rises t old.input.faults new.input.faults old.output.faults new.output.faults → Runs s t old new
+    Rises t old.input.faults new.input.faults old.output.faults new.output.faults → Proceeds s t old new
 runs_from Open t old new is rises = rises
 runs_from ReadFault t old new is rises = absurd (cc)
 runs_from WriteFault t old new is rises = absurd (cc)
 
-pub rises_from : (s t : State) (old new : Flow) → s ≡ Open → Runs s t old new →
+pub rises_from : (s t : State) (old new : Flow) → s ≡ Open → Proceeds s t old new →
     Rises t old.input.faults new.input.faults old.output.faults new.output.faults
 rises_from Open t old new is runs = runs
 rises_from ReadFault t old new is runs = absurd (cc)
@@ -47,8 +47,8 @@ rises_after ReadFault a b c x y z p q = (omega (arith, p.0, q.0), omega (arith, 
 rises_after WriteFault a b c x y z p q = (omega (arith, p.0, q.0), omega (arith, p.1, q.1))
 
 -- a run that went on at an open stream
-runs_after : (s m t : State) (a b c : Flow) → m ≡ Open → Runs s m a b →
-    Rises t b.input.faults c.input.faults b.output.faults c.output.faults → Runs s t a c
+runs_after : (s m t : State) (a b c : Flow) → m ≡ Open → Proceeds s m a b →
+    Rises t b.input.faults c.input.faults b.output.faults c.output.faults → Proceeds s t a c
 runs_after s ReadFault t a b c is first second = absurd (cc)
 runs_after s WriteFault t a b c is first second = absurd (cc)
 runs_after Open Open t a b c is first second = rises_after t _ _ _ _ _ _ first second

@@ -37,11 +37,11 @@ Rises ReadFault read read' write write' = Rose read read' × Stays write write'
 Rises WriteFault read read' write write' = Stays read read' × Rose write write'
 
 -- From one state to the other: a stream that failed stays so, and nothing more is done.
-abbrev pub Runs : State → State → Flow → Flow → Type 0
-Runs Open to old new = Rises to old.input.faults new.input.faults old.output.faults new.output.faults
-Runs ReadFault ReadFault old new = new ≡ old
-Runs WriteFault WriteFault old new = new ≡ old
-Runs from to old new = ⊥
+abbrev pub Proceeds : State → State → Flow → Flow → Type 0
+Proceeds Open to old new = Rises to old.input.faults new.input.faults old.output.faults new.output.faults
+Proceeds ReadFault ReadFault old new = new ≡ old
+Proceeds WriteFault WriteFault old new = new ≡ old
+Proceeds from to old new = ⊥
 
 -- A run of calls: these bytes were taken off the input, and those given to the output. What of them wasn't sent waits,
 -- unless the stream failed.
@@ -50,7 +50,7 @@ pub record Moved (taken given : List ℕ) (old new : Flow) : Type 0 where
   pub rest : List ℕ
   pub gives : Gives old.output.bytes old.stream.held given new.output.bytes rest
   pub waits : new.stream.state ≡ Open → rest ≡ new.stream.held
-  pub runs : Runs old.stream.state new.stream.state old new
+  pub runs : Proceeds old.stream.state new.stream.state old new
 
 -- a call failed exactly where the stream failed, in that call or before
 abbrev pub Tells : {T E : Type 0} → Result T E → State → Type 0

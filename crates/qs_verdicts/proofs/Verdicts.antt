@@ -8,7 +8,7 @@ use Rattle.qs_model.specs.Requests.{Client, Req, Stage, covers, body_at, writes,
 use Rattle.qs_model.specs.Worlds.{World}
 use Rattle.qs_model.specs.Acts.{Act, Answers, Waits, Enters, Routes, Shuts, Lists, Starts, Loads, LoadFails, Holds, HoldFails, Stores, StoreFails, Frees, Ends, Element, Attached, NoExport, Crowded, Left, Detached, NotAttached, Asked, Did, Exported, Planned, Crashed}
 use Rattle.qs_model.specs.Histories.{answer_of, cell_at, cell_of, reads_in, writes_in}
-use Rattle.qs_model.specs.Laws.{Begins, Follows}
+use Rattle.qs_model.specs.Laws.{Begins, ComesBehind}
 use Rattle.qs_model.specs.Steps.{Runs}
 use Rattle.qs_model.proofs.Facts.{Ok}
 use Rattle.qs_model.proofs.Holders.{some_none}
@@ -19,7 +19,7 @@ use Rattle.qs_verdicts.proofs.Lines.{Passed, io_fault, never_dropped, work_end}
 use Rattle.qs_verdicts.proofs.Stories.{Told, all_told}
 use Rattle.qs_verdicts.proofs.Telling.{IsSteady, Stands}
 
-begins_of : (before : List Element) (e : Element) (es : List Element) → Follows before e es → Begins before es
+begins_of : (before : List Element) (e : Element) (es : List Element) → ComesBehind before e es → Begins before es
 begins_of before e es at = (e ∷ at.0, at.1)
 
 some_one : (u v : Verdict) → Some u ≡ Some v → u ≡ v
@@ -210,11 +210,11 @@ own_byte A s q before x r v t h =
 pub own_bytes : (A : ℕ) (w : World) (es : List Element) → 0 < A → Ok A w → ((r : ℕ) → w.req r ≡ None) → Runs A w es → OwnBytes A es
 own_bytes A w es pos ok none run = record { write = write; maybe = maybe }
   where
-    told_at : (s : ℕ) (q : Req) (act : Act q.stage) (before : List Element) → Follows before (Did s q act) es → Told A s before q
+    told_at : (s : ℕ) (q : Req) (act : Act q.stage) (before : List Element) → ComesBehind before (Did s q act) es → Told A s before q
     told_at s q act before at =
         all_told A w es before pos ok none run (begins_of before (Did s q act) es at) s q (split_run A w es before (Did s q act) run at).1.0
 
-    write : (x r v : ℕ) (before : List Element) (e : Element) → Follows before e es → cell_at A x e ≡ Write r v ∷ [] → Tells A r before (λ n. OwnByte n x v)
+    write : (x r v : ℕ) (before : List Element) (e : Element) → ComesBehind before e es → cell_at A x e ≡ Write r v ∷ [] → Tells A r before (λ n. OwnByte n x v)
     write x r v before (Did s q act) at is = own_byte A s q before x r v (told_at s q act before at) (row_write A x s r v q.client act is)
     write x r v before (Crashed left) at is = absurd (cc)
     write x r v before (Attached s name info) at is = absurd (nothing_one _ is)
@@ -227,7 +227,7 @@ own_bytes A w es pos ok none run = record { write = write; maybe = maybe }
     write x r v before (Exported op e) at is = absurd (nothing_one _ is)
     write x r v before (Planned j fail) at is = absurd (nothing_one _ is)
 
-    maybe : (x r v : ℕ) (took : Bool) (before : List Element) (e : Element) → Follows before e es → cell_at A x e ≡ Maybe r v took ∷ [] → Tells A r before (λ n. OwnByte n x v)
+    maybe : (x r v : ℕ) (took : Bool) (before : List Element) (e : Element) → ComesBehind before e es → cell_at A x e ≡ Maybe r v took ∷ [] → Tells A r before (λ n. OwnByte n x v)
     maybe x r v took before (Did s q act) at is = own_byte A s q before x r v (told_at s q act before at) (row_maybe A x s r v took q.client act is)
     maybe x r v took before (Crashed left) at is = absurd (cc)
     maybe x r v took before (Attached s name info) at is = absurd (nothing_one _ is)

@@ -11,7 +11,7 @@ use Rattle.qs_cells.specs.declared.cell.CellEntry.TheVariants.{Write, Maybe}
 use Rattle.qs_model.specs.Requests.{Client, Stage, is_read, is_write, covers, body_at}
 use Rattle.qs_model.specs.Acts.{Act, Enters, Routes, Shuts, Lists, Element, Asked, Did}
 use Rattle.qs_model.specs.Histories.{answer_of, cell_at}
-use Rattle.qs_model.specs.Laws.{Follows}
+use Rattle.qs_model.specs.Laws.{ComesBehind}
 use Rattle.qs_verdicts.specs.Stories.{Story, Tells, Way, Unknown, Shut, Given, sent}
 
 -- the kinds of request that are served
@@ -82,7 +82,7 @@ pub record IsByTable (n : Story) (v : Verdict) : Type 0 where
 
 -- every answer
 abbrev pub Verdicts : ℕ → List Element → Type 0
-Verdicts A es = (r : ℕ) (v : Verdict) (before : List Element) (e : Element) → Follows before e es → IsAnswered r v e →
+Verdicts A es = (r : ℕ) (v : Verdict) (before : List Element) (e : Element) → ComesBehind before e es → IsAnswered r v e →
     Tells A r before (λ n. IsByTable n v)
 
 -- a row of Enter, Route or List
@@ -112,11 +112,11 @@ IsOwnStep A (Did r q act) before = Tells A r before (IsOwn A r q.client q.droppe
 IsOwnStep A _ before = Unit {0}
 
 abbrev pub Own : ℕ → List Element → Type 0
-Own A es = (before : List Element) (e : Element) → Follows before e es → IsOwnStep A e before
+Own A es = (before : List Element) (e : Element) → ComesBehind before e es → IsOwnStep A e before
 
 -- What a request writes at x is its client's own byte for x, and only where it covers x; a store that a disk refused, too.
 pub record OwnBytes (A : ℕ) (es : List Element) : Type 0 where
-  pub write : (x r v : ℕ) (before : List Element) (e : Element) → Follows before e es → cell_at A x e ≡ Write r v ∷ [] →
+  pub write : (x r v : ℕ) (before : List Element) (e : Element) → ComesBehind before e es → cell_at A x e ≡ Write r v ∷ [] →
       Tells A r before (λ n. (covers (sent n) x ≡ true) × (v ≡ body_at (sent n) x))
-  pub maybe : (x r v : ℕ) (took : Bool) (before : List Element) (e : Element) → Follows before e es → cell_at A x e ≡ Maybe r v took ∷ [] →
+  pub maybe : (x r v : ℕ) (took : Bool) (before : List Element) (e : Element) → ComesBehind before e es → cell_at A x e ≡ Maybe r v took ∷ [] →
       Tells A r before (λ n. (covers (sent n) x ≡ true) × (v ≡ body_at (sent n) x))

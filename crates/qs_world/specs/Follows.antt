@@ -42,9 +42,9 @@ abbrev pub waiting : Live → Live
 waiting l = record l { request = record l.request { value = record l.request.value { waits = true } } }
 
 -- it has given its next operation, and waits for the reply, or it has given its answer
-abbrev pub Gives : Live → Todo → Live → Type 0
-Gives old (Answer v) new = Unit {0}
-Gives old _ new = new ≡ waiting old
+abbrev pub Offers : Live → Todo → Live → Type 0
+Offers old (Answer v) new = Unit {0}
+Offers old _ new = new ≡ waiting old
 
 -- the request after a reply
 abbrev pub next_of : Live → PartReply → Req

@@ -4,7 +4,7 @@ ghost use Rattle.qs_world.specs.declared.live.Live.{Live as ALive};
 ghost use Rattle.qs_model.specs.Requests.{Ready};
 ghost use Rattle.qs_request.specs.Value.{IsReady};
 ghost use Rattle.qs_request.specs.Table.{FitsPart, Wants};
-ghost use Rattle.qs_world.specs.Follows.{Awaits, Follows, Gives, IsElement, IsFree, abandoned_of, is_of, moved_to, next_of};
+ghost use Rattle.qs_world.specs.Follows.{Awaits, Follows, Offers, IsElement, IsFree, abandoned_of, is_of, moved_to, next_of};
 
 use qs_bytes::Verdict;
 use qs_part::event::{Note, Outcome};
@@ -23,7 +23,7 @@ impl Live {
         requires { IsFree self.old }
         ensures wants { Wants self.old.request.value.shape.align self.old.request.value.request result }
         ensures fits { FitsPart self.old.request.value.shape result }
-        ensures gives { Gives self.old result self.new }
+        ensures gives { Offers self.old result self.new }
     {
         self.request.next(now)
     }

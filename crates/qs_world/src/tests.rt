@@ -1,9 +1,9 @@
 use crate::world::World;
 use qs_bytes::{Ask, Bytes, Errno, Kind, Name, Verdict};
-use qs_status::OpenBad;
 use qs_outside::{Fail, MemDisk};
 use qs_part::event::{Actor, Event, GraphNote, Note, NoteReply, Outcome, StripeNote};
 use qs_part::tracker::TrackerReply;
+use qs_status::OpenBad;
 use std::alloc::{AllocError, Global};
 use std::process::Abort;
 use std::test::Fail as Failure;

@@ -1,16 +1,16 @@
 use Rattle.std.proofs.Common.{◌≡◌, ℕ, ◌<◌, ◌≤◌, ◌+◌, Some, None, inl, inr, ap, sym, ◌∙◌, arith}
 use Rattle.std.specs.FinSet.{insert}
-use Rattle.qs_cookies.specs.Used.{AreApart, IsEndBehind, IsRun, Runs}
+use Rattle.qs_cookies.specs.Used.{AreApart, IsEndBehind, IsRun, CookieRuns}
 use Rattle.qs_cookies.proofs.Joined.{Joins, joins_alone, joins_both, still_apart}
 use Rattle.qs_cookies.proofs.Runs.{sets_of}
 use Rattle.qs_cookies.proofs.Shown.{joined_set, kept_set}
 use Rattle.qs_cookies.proofs.used.UsedCookies.insert.Goals as goal
 
-alone_of : (m : Runs) (n c last : ℕ) → AreApart m → IsEndBehind m n c last → last ≤ c → last ≡ c
+alone_of : (m : CookieRuns) (n c last : ℕ) → AreApart m → IsEndBehind m n c last → last ≤ c → last ≡ c
 alone_of m n c last good (inl run) low = let fits = good.forward n (c + 1) last run in absurd (omega (arith, fits, low))
 alone_of m n c last good (inr is) low = is
 
-behind_of : (m : Runs) (n c last : ℕ) → IsEndBehind m n c last → c < last → IsRun m n (c + 1) last
+behind_of : (m : CookieRuns) (n c last : ℕ) → IsEndBehind m n c last → c < last → IsRun m n (c + 1) last
 behind_of m n c last (inl run) more = run
 behind_of m n c last (inr is) more = absurd (omega (arith, is, more))
 
