@@ -62,9 +62,23 @@ def peak_of(command, source):
     return most / 1024
 
 
+def side_by_side(program, before, source, rounds):
+    """The median seconds of two programs that take turns, and of the ratios within each round."""
+    pairs = []
+    for _ in range(rounds):
+        first, status = measured([program], source)
+        second, other = measured([before], source)
+        if status or other:
+            sys.exit(f"side by side: exit status {status or other}")
+        pairs.append((first, second, first / second))
+    middle = rounds // 2
+    return [sorted(pair[k] for pair in pairs)[middle] for k in range(3)]
+
+
 def main():
     parser = argparse.ArgumentParser(description=__doc__)
     parser.add_argument("program", nargs="?", default="crates/qsd_replay/out/qsd_replay")
+    parser.add_argument("--before", help="an earlier build, which takes turns with the program on the first script")
     parser.add_argument("--requests", type=int, default=142_000)
     parser.add_argument("--rounds", type=int, default=3)
     options = parser.parse_args()
@@ -91,6 +105,12 @@ def main():
         seconds = sorted(s for s, _ in found)[len(found) // 2]
         memory = peak_of(command, source)
         print(f"| {name} | {steps:,} | {seconds:.2f} | {steps / seconds:,.0f} | {memory:.1f} |")
+    if options.before:
+        steps = script(source, count, True, False)
+        now, then, ratio = side_by_side(options.program, options.before, source, options.rounds)
+        print(f"| replayed, in turns | {steps:,} | {now:.2f} | {steps / now:,.0f} | |")
+        print(f"| the program before | {steps:,} | {then:.2f} | {steps / then:,.0f} | |")
+        print(f"\nThe program takes {ratio:.2f} of the time of the one before.")
     os.remove(os.path.join(out, "replay.txt"))
 
 
