@@ -16,12 +16,12 @@ use Rattle.qs_nbd_transmission.specs.declared.event.WireEvent.TheVariants as eve
 use Rattle.qs_nbd_transmission.specs.Heads.{IsHeadFront, head_bytes, head_of, ask_of, is_write_head, has_body}
 use Rattle.qs_nbd_transmission.specs.Phases.{Phase, InHead, Wants, Fills, Skips, Over, Stuck, phase_with_room, HeadTells, KeptTell, PassedTell, StaysStuck, IsServed, IsLeaving}
 use Rattle.qs_nbd_transmission.specs.Messages.{spelling}
-use Rattle.qs_nbd_transmission.specs.Sessions.{ReaderCall, Took, Gave, CallLeads, CallsLead, taken_by, told_by, Heard, IsHeard, events_of, IsAwaiting, Leaves, Tells, ReadsSessions}
+use Rattle.qs_nbd_transmission.specs.Sessions.{ReaderCall, Took, Gave, CallLeads, CallsLead, taken_by, told_by, Heard, IsHeard, events_of, IsAwaiting, EndsWith, TellsEvents, ReadsSessions}
 use Rattle.qs_nbd_transmission.proofs.Reading.{behind_wants, behind_none, kept_whole, passed_whole}
 use Rattle.qs_nbd_transmission.proofs.ReplyLaws.{second_of}
 
 -- the same messages, and more behind them
-longer : (s : Bool) (old new : Phase) (bytes more : List ℕ) (events further : List WireEvent) → (p : Tells s old bytes events) → Leaves s new (p.rest ++ more) (p.last ++ further) → Tells s new (bytes ++ more) (events ++ further)
+longer : (s : Bool) (old new : Phase) (bytes more : List ℕ) (events further : List WireEvent) → (p : TellsEvents s old bytes events) → EndsWith s new (p.rest ++ more) (p.last ++ further) → TellsEvents s new (bytes ++ more) (events ++ further)
 longer s old new bytes more events further p leaves = record {
   heard = p.heard;
   rest = p.rest ++ more;
@@ -36,7 +36,7 @@ no_front : IsHeadFront []
 no_front = record { short = omega arith; magic = λ four. absurd (omega arith) }
 
 -- one message more, and nothing behind it
-whole : (s : Bool) (old : Phase) (bytes more : List ℕ) (events further : List WireEvent) → (p : Tells s old bytes events) → (x : Heard) → IsHeard x → p.rest ++ more ≡ spelling x.message → p.last ++ further ≡ events_of s x → Tells s (InHead []) (bytes ++ more) (events ++ further)
+whole : (s : Bool) (old : Phase) (bytes more : List ℕ) (events further : List WireEvent) → (p : TellsEvents s old bytes events) → (x : Heard) → IsHeard x → p.rest ++ more ≡ spelling x.message → p.last ++ further ≡ events_of s x → TellsEvents s (InHead []) (bytes ++ more) (events ++ further)
 whole s old bytes more events further p x is spelled tells =
     let f : Heard → List ℕ = λ (y : Heard). spelling y.message in
     record {
@@ -52,7 +52,7 @@ whole s old bytes more events further p x is spelled tells =
     }
 
 -- bytes of a head that bring no event
-more_head : (s : Bool) (held bytes more : List ℕ) (events : List WireEvent) (new : Phase) → Tells s (InHead held) bytes events → HeadTells s (held ++ more) None new → Tells s new (bytes ++ more) (events ++ [])
+more_head : (s : Bool) (held bytes more : List ℕ) (events : List WireEvent) (new : Phase) → TellsEvents s (InHead held) bytes events → HeadTells s (held ++ more) None new → TellsEvents s new (bytes ++ more) (events ++ [])
 more_head s held bytes more events (InHead now) p r =
     longer s (InHead held) (InHead now) bytes more events [] p
     (ap (λ xs. xs ++ more) p.leaves.0 ∙ sym r.0, r.1, append-nil p.last ∙ p.leaves.2)
@@ -62,10 +62,10 @@ awaits : (s : Bool) (bytes : List ℕ) (ask : Ask) (new : Phase) → IsServed s 
 awaits s bytes ask new r body = record { fits = r.head.fits; not_disc = r.not_disc; not_long = r.not_long; body = body }
 
 -- a head that is served
-served : (s : Bool) (held bytes more : List ℕ) (events : List WireEvent) (ask : Ask) (new : Phase) (d : Bool) → has_body (head_of (held ++ more)) ≡ d → Tells s (InHead held) bytes events → IsServed s (held ++ more) ask new → Tells s new (bytes ++ more) (events ++ event.Head ask ∷ [])
+served : (s : Bool) (held bytes more : List ℕ) (events : List WireEvent) (ask : Ask) (new : Phase) (d : Bool) → has_body (head_of (held ++ more)) ≡ d → TellsEvents s (InHead held) bytes events → IsServed s (held ++ more) ask new → TellsEvents s new (bytes ++ more) (events ++ event.Head ask ∷ [])
 served s held bytes more events ask new true body p r =
     let h = head_of (held ++ more) in
-    subst (λ (q : Phase). Tells s q (bytes ++ more) (events ++ event.Head ask ∷ [])) (behind_wants h body ∙ sym r.behind)
+    subst (λ (q : Phase). TellsEvents s q (bytes ++ more) (events ++ event.Head ask ∷ [])) (behind_wants h body ∙ sym r.behind)
     (longer s (InHead held) (Wants h) bytes more events (event.Head ask ∷ []) p (
       awaits s (held ++ more) ask new r body,
       ap (λ xs. xs ++ more) p.leaves.0 ∙ r.head.spelled,
@@ -74,31 +74,31 @@ served s held bytes more events ask new true body p r =
 served s held bytes more events ask new false body p r =
     let h = head_of (held ++ more) in
     let x : Heard = record { message = record { head = h; body = [] }; room = None } in
-    subst (λ (q : Phase). Tells s q (bytes ++ more) (events ++ event.Head ask ∷ [])) (behind_none h body ∙ sym r.behind)
+    subst (λ (q : Phase). TellsEvents s q (bytes ++ more) (events ++ event.Head ask ∷ [])) (behind_none h body ∙ sym r.behind)
     (whole s (InHead held) bytes more events (event.Head ask ∷ []) p x
     (record { message = record { fits = r.head.fits; not_disc = r.not_disc; not_long = r.not_long; body = rw body refl }; room = body })
     (ap (λ xs. xs ++ more) p.leaves.0 ∙ r.head.spelled ∙ sym (append-nil (head_bytes h)))
     (ap (λ (xs : List WireEvent). xs ++ event.Head ask ∷ []) p.leaves.2 ∙ ap (λ (a : Ask). event.Head a ∷ []) r.asks))
 
 -- a refusal of a head
-refuses : (s : Bool) (held bytes more : List ℕ) (events : List WireEvent) (bad : SessionEnd) (new : Phase) → new ≡ Stuck bad → HeadTells s (held ++ more) (Some (event.Bad bad)) (Stuck bad) → Tells s (InHead held) bytes events → Tells s new (bytes ++ more) (events ++ event.Bad bad ∷ [])
+refuses : (s : Bool) (held bytes more : List ℕ) (events : List WireEvent) (bad : SessionEnd) (new : Phase) → new ≡ Stuck bad → HeadTells s (held ++ more) (Some (event.Bad bad)) (Stuck bad) → TellsEvents s (InHead held) bytes events → TellsEvents s new (bytes ++ more) (events ++ event.Bad bad ∷ [])
 refuses s held bytes more events bad new e r p =
-    subst (λ (q : Phase). Tells s q (bytes ++ more) (events ++ event.Bad bad ∷ [])) (sym e)
+    subst (λ (q : Phase). TellsEvents s q (bytes ++ more) (events ++ event.Bad bad ∷ [])) (sym e)
     (longer s (InHead held) (Stuck bad) bytes more events (event.Bad bad ∷ []) p (
       subst (λ (xs : List ℕ). HeadTells s (xs ++ more) (Some (event.Bad bad)) (Stuck bad)) (sym p.leaves.0) r,
       (0, ap (λ (xs : List WireEvent). xs ++ event.Bad bad ∷ []) p.leaves.2),
     ))
 
-leaves_off : (s : Bool) (held bytes more : List ℕ) (events : List WireEvent) (new : Phase) → Tells s (InHead held) bytes events → IsLeaving (held ++ more) new → Tells s new (bytes ++ more) (events ++ event.Disc ∷ [])
+leaves_off : (s : Bool) (held bytes more : List ℕ) (events : List WireEvent) (new : Phase) → TellsEvents s (InHead held) bytes events → IsLeaving (held ++ more) new → TellsEvents s new (bytes ++ more) (events ++ event.Disc ∷ [])
 leaves_off s held bytes more events new p r =
-    subst (λ (q : Phase). Tells s q (bytes ++ more) (events ++ event.Disc ∷ [])) (sym r.over)
+    subst (λ (q : Phase). TellsEvents s q (bytes ++ more) (events ++ event.Disc ∷ [])) (sym r.over)
     (longer s (InHead held) Over bytes more events (event.Disc ∷ []) p (
       subst (λ (xs : List ℕ). HeadTells s (xs ++ more) (Some event.Disc) Over) (sym p.leaves.0) (record { head = r.head; disc = r.disc; over = refl }),
       ap (λ (xs : List WireEvent). xs ++ event.Disc ∷ []) p.leaves.2,
     ))
 
 -- what ends a head
-ends_head : (s : Bool) (held bytes more : List ℕ) (events : List WireEvent) (told : WireEvent) (new : Phase) → Tells s (InHead held) bytes events → HeadTells s (held ++ more) (Some told) new → Tells s new (bytes ++ more) (events ++ told ∷ [])
+ends_head : (s : Bool) (held bytes more : List ℕ) (events : List WireEvent) (told : WireEvent) (new : Phase) → TellsEvents s (InHead held) bytes events → HeadTells s (held ++ more) (Some told) new → TellsEvents s new (bytes ++ more) (events ++ told ∷ [])
 ends_head s held bytes more events (event.Head ask) new p r = served s held bytes more events ask new (has_body (head_of (held ++ more))) refl p r
 ends_head s held bytes more events event.Disc new p r = leaves_off s held bytes more events new p r
 ends_head s held bytes more events (event.Bad (TooLong size)) new p r =
@@ -110,73 +110,73 @@ ends_head s held bytes more events told new p r = absurd r
 some_size : (h : Head) → has_body h ≡ true → 0 < h.size
 some_size h e = ltb-true 0 h.size (second_of (is_write_head h) (nat_lt 0 h.size) e)
 
-room_given : (s : Bool) (h : Head) (bytes : List ℕ) (events : List WireEvent) (room : Room) (new : Phase) → Tells s (Wants h) bytes events → new ≡ phase_with_room (Wants h) room → Tells s new (bytes ++ []) (events ++ [])
+room_given : (s : Bool) (h : Head) (bytes : List ℕ) (events : List WireEvent) (room : Room) (new : Phase) → TellsEvents s (Wants h) bytes events → new ≡ phase_with_room (Wants h) room → TellsEvents s new (bytes ++ []) (events ++ [])
 room_given s h bytes events (Keep buffer) new p r =
     let l = p.leaves in
-    subst (λ (q : Phase). Tells s q (bytes ++ []) (events ++ [])) (sym r)
+    subst (λ (q : Phase). TellsEvents s q (bytes ++ []) (events ++ [])) (sym r)
     (longer s (Wants h) (Fills h []) bytes [] events [] p
     (l.0, append-nil p.rest ∙ l.1 ∙ sym (append-nil (head_bytes h)), some_size h l.0.body, append-nil p.last ∙ l.2))
 room_given s h bytes events (Drop count) new p r =
     let l = p.leaves in
-    subst (λ (q : Phase). Tells s q (bytes ++ []) (events ++ [])) (sym r)
+    subst (λ (q : Phase). TellsEvents s q (bytes ++ []) (events ++ [])) (sym r)
     (longer s (Wants h) (Skips h h.size) bytes [] events [] p
     (l.0, ([], (append-nil p.rest ∙ l.1 ∙ sym (append-nil (head_bytes h)), omega arith)), some_size h l.0.body, append-nil p.last ∙ l.2))
 
-more_kept : (s : Bool) (h : Head) (got bytes more : List ℕ) (events : List WireEvent) (new : Phase) → Tells s (Fills h got) bytes events → KeptTell h (got ++ more) None new → Tells s new (bytes ++ more) (events ++ [])
+more_kept : (s : Bool) (h : Head) (got bytes more : List ℕ) (events : List WireEvent) (new : Phase) → TellsEvents s (Fills h got) bytes events → KeptTell h (got ++ more) None new → TellsEvents s new (bytes ++ more) (events ++ [])
 more_kept s h got bytes more events (Fills g now) p r =
     let l = p.leaves in
-    subst (λ (q : Phase). Tells s q (bytes ++ more) (events ++ []))
+    subst (λ (q : Phase). TellsEvents s q (bytes ++ more) (events ++ []))
     (ap (λ (k : Head). Fills k (got ++ more)) (sym r.0) ∙ ap (λ (xs : List ℕ). Fills g xs) (sym r.1))
     (longer s (Fills h got) (Fills h (got ++ more)) bytes more events [] p
     (l.0, ap (λ xs. xs ++ more) l.1 ∙ append_assoc (head_bytes h) got more, subst (λ (xs : List ℕ). length xs < h.size) r.1 r.2, append-nil p.last ∙ l.3))
 more_kept s h got bytes more events new p r = absurd r
 
-all_kept : (s : Bool) (h : Head) (got bytes more : List ℕ) (events : List WireEvent) (told : WireEvent) (new : Phase) → Tells s (Fills h got) bytes events → KeptTell h (got ++ more) (Some told) new → Tells s new (bytes ++ more) (events ++ told ∷ [])
+all_kept : (s : Bool) (h : Head) (got bytes more : List ℕ) (events : List WireEvent) (told : WireEvent) (new : Phase) → TellsEvents s (Fills h got) bytes events → KeptTell h (got ++ more) (Some told) new → TellsEvents s new (bytes ++ more) (events ++ told ∷ [])
 all_kept s h got bytes more events told new p r =
     let l = p.leaves in
     let k = kept_whole h (got ++ more) told new r in
     let x : Heard = record { message = record { head = h; body = got ++ more }; room = Some (Keep (got ++ more)) } in
-    subst (λ (q : Phase). Tells s q (bytes ++ more) (events ++ told ∷ [])) (sym k.2)
+    subst (λ (q : Phase). TellsEvents s q (bytes ++ more) (events ++ told ∷ [])) (sym k.2)
     (whole s (Fills h got) bytes more events (told ∷ []) p x
     (record { message = record { fits = l.0.fits; not_disc = l.0.not_disc; not_long = l.0.not_long; body = rw l.0.body k.0 }; room = (l.0.body, refl) })
     (ap (λ xs. xs ++ more) l.1 ∙ append_assoc (head_bytes h) got more)
     (ap (λ (xs : List WireEvent). xs ++ told ∷ []) l.3 ∙ ap (λ (e : WireEvent). event.Head (ask_of s h) ∷ (e ∷ [])) k.1))
 
-more_passed : (s : Bool) (h : Head) (left : ℕ) (bytes more : List ℕ) (events : List WireEvent) (new : Phase) → Tells s (Skips h left) bytes events → PassedTell h left (length more) None new → Tells s new (bytes ++ more) (events ++ [])
+more_passed : (s : Bool) (h : Head) (left : ℕ) (bytes more : List ℕ) (events : List WireEvent) (new : Phase) → TellsEvents s (Skips h left) bytes events → PassedTell h left (length more) None new → TellsEvents s new (bytes ++ more) (events ++ [])
 more_passed s h left bytes more events (Skips g fewer) p r =
     let l = p.leaves in
     let got = l.1.0 in
-    subst (λ (q : Phase). Tells s q (bytes ++ more) (events ++ [])) (ap (λ (k : Head). Skips k fewer) (sym r.0))
+    subst (λ (q : Phase). TellsEvents s q (bytes ++ more) (events ++ [])) (ap (λ (k : Head). Skips k fewer) (sym r.0))
     (longer s (Skips h left) (Skips h fewer) bytes more events [] p
     (l.0, (got ++ more, (ap (λ xs. xs ++ more) l.1.1.0 ∙ append_assoc (head_bytes h) got more, omega (arith, length-append got more, l.1.1.1, r.1))), r.2, append-nil p.last ∙ l.3))
 more_passed s h left bytes more events new p r = absurd r
 
-all_passed : (s : Bool) (h : Head) (left : ℕ) (bytes more : List ℕ) (events : List WireEvent) (told : WireEvent) (new : Phase) → Tells s (Skips h left) bytes events → PassedTell h left (length more) (Some told) new → Tells s new (bytes ++ more) (events ++ told ∷ [])
+all_passed : (s : Bool) (h : Head) (left : ℕ) (bytes more : List ℕ) (events : List WireEvent) (told : WireEvent) (new : Phase) → TellsEvents s (Skips h left) bytes events → PassedTell h left (length more) (Some told) new → TellsEvents s new (bytes ++ more) (events ++ told ∷ [])
 all_passed s h left bytes more events told new p r =
     let l = p.leaves in
     let got = l.1.0 in
     let k = passed_whole h left (length more) told new r in
     let size : length (got ++ more) ≡ h.size = omega (arith, length-append got more, l.1.1.1, k.0) in
     let x : Heard = record { message = record { head = h; body = got ++ more }; room = Some (Drop h.size) } in
-    subst (λ (q : Phase). Tells s q (bytes ++ more) (events ++ told ∷ [])) (sym k.2)
+    subst (λ (q : Phase). TellsEvents s q (bytes ++ more) (events ++ told ∷ [])) (sym k.2)
     (whole s (Skips h left) bytes more events (told ∷ []) p x
     (record { message = record { fits = l.0.fits; not_disc = l.0.not_disc; not_long = l.0.not_long; body = rw l.0.body size }; room = (l.0.body, refl) })
     (ap (λ xs. xs ++ more) l.1.1.0 ∙ append_assoc (head_bytes h) got more)
     (ap (λ (xs : List WireEvent). xs ++ told ∷ []) l.3 ∙ ap (λ (e : WireEvent). event.Head (ask_of s h) ∷ (e ∷ [])) k.1))
 
-refuses_again : (s : Bool) (bad : SessionEnd) (bytes more : List ℕ) (events : List WireEvent) (told : WireEvent) (new : Phase) → Tells s (Stuck bad) bytes events → StaysStuck bad more (Some told) new → Tells s new (bytes ++ more) (events ++ told ∷ [])
+refuses_again : (s : Bool) (bad : SessionEnd) (bytes more : List ℕ) (events : List WireEvent) (told : WireEvent) (new : Phase) → TellsEvents s (Stuck bad) bytes events → StaysStuck bad more (Some told) new → TellsEvents s new (bytes ++ more) (events ++ told ∷ [])
 refuses_again s bad bytes more events told new p r =
     let l = p.leaves in
     let f = r.1 in
     let e : told ≡ event.Bad bad = cc in
     let n = l.1.0 in
-    subst (λ (q : Phase). Tells s q (bytes ++ more) (events ++ told ∷ [])) (sym r.2)
+    subst (λ (q : Phase). TellsEvents s q (bytes ++ more) (events ++ told ∷ [])) (sym r.2)
     (longer s (Stuck bad) (Stuck bad) bytes more events (told ∷ []) p (
       subst (λ (xs : List ℕ). HeadTells s xs (Some (event.Bad bad)) (Stuck bad)) (sym (append-nil p.rest) ∙ ap (λ xs. p.rest ++ xs) (sym r.0)) l.0,
       (n + 1, ap (λ (xs : List WireEvent). xs ++ told ∷ []) l.1.1 ∙ ap (λ (k : WireEvent). replicate (n + 1) (event.Bad bad) ++ k ∷ []) e ∙ replicate_more (n + 1) (event.Bad bad)),
     ))
 
-step : (s : Bool) (old new : Phase) (bytes : List ℕ) (events : List WireEvent) (call : ReaderCall) → Tells s old bytes events → CallLeads s old call new → Tells s new (bytes ++ taken_by call) (events ++ told_by call)
+step : (s : Bool) (old new : Phase) (bytes : List ℕ) (events : List WireEvent) (call : ReaderCall) → TellsEvents s old bytes events → CallLeads s old call new → TellsEvents s new (bytes ++ taken_by call) (events ++ told_by call)
 step s (InHead held) new bytes events (Took more None) p r = more_head s held bytes more events new p r
 step s (InHead held) new bytes events (Took more (Some told)) p r = ends_head s held bytes more events told new p r
 step s (Wants h) new bytes events (Took more told) p r = absurd r
@@ -190,9 +190,9 @@ step s (Stuck bad) new bytes events (Took more None) p r = let e = r.1 in absurd
 step s (Stuck bad) new bytes events (Took more (Some told)) p r = refuses_again s bad bytes more events told new p r
 step s old new bytes events (Gave room) p r = absurd r.0
 
-run : (s : Bool) (old new : Phase) (bytes : List ℕ) (events : List WireEvent) (calls : List ReaderCall) → Tells s old bytes events → CallsLead s old calls new → Tells s new (bytes ++ flat_map taken_by calls) (events ++ flat_map told_by calls)
+run : (s : Bool) (old new : Phase) (bytes : List ℕ) (events : List WireEvent) (calls : List ReaderCall) → TellsEvents s old bytes events → CallsLead s old calls new → TellsEvents s new (bytes ++ flat_map taken_by calls) (events ++ flat_map told_by calls)
 run s old new bytes events [] p r =
-    rw (append-nil bytes, append-nil events) (subst (λ (q : Phase). Tells s q bytes events) (sym r) p)
+    rw (append-nil bytes, append-nil events) (subst (λ (q : Phase). TellsEvents s q bytes events) (sym r) p)
 run s old new bytes events (call ∷ calls) p r =
     rw (← append_assoc bytes (taken_by call) (flat_map taken_by calls), ← append_assoc events (told_by call) (flat_map told_by calls))
     (run s r.0 new (bytes ++ taken_by call) (events ++ told_by call) calls (step s old r.0 bytes events call p r.1.0) r.1.1)

@@ -70,30 +70,30 @@ pub record IsAwaiting (h : Head) : Type 0 where
 
 -- What was taken behind the last whole message, and what was told of it: less than a head; a WRITE's
 -- head and less than its data; a DISC; or what is refused, which is told once or more often.
-abbrev pub Leaves : Bool → Phase → List ℕ → List WireEvent → Type 0
-Leaves structured (InHead held) rest last = (rest ≡ held) × IsHeadFront held × (last ≡ [])
-Leaves structured (Wants h) rest last = IsAwaiting h × (rest ≡ head_bytes h) × (last ≡ event.Head (ask_of structured h) ∷ [])
-Leaves structured (Fills h got) rest last =
+abbrev pub EndsWith : Bool → Phase → List ℕ → List WireEvent → Type 0
+EndsWith structured (InHead held) rest last = (rest ≡ held) × IsHeadFront held × (last ≡ [])
+EndsWith structured (Wants h) rest last = IsAwaiting h × (rest ≡ head_bytes h) × (last ≡ event.Head (ask_of structured h) ∷ [])
+EndsWith structured (Fills h got) rest last =
     IsAwaiting h × (rest ≡ head_bytes h ++ got) × (length got < h.size) × (last ≡ event.Head (ask_of structured h) ∷ [])
-Leaves structured (Skips h left) rest last =
+EndsWith structured (Skips h left) rest last =
     IsAwaiting h × ((got : List ℕ) × ((rest ≡ head_bytes h ++ got) × (length got + left ≡ h.size))) × (0 < left) × (last ≡ event.Head (ask_of structured h) ∷ [])
-Leaves structured Over rest last = HeadTells structured rest (Some event.Disc) Over × (last ≡ event.Disc ∷ [])
-Leaves structured (Stuck bad) rest last =
+EndsWith structured Over rest last = HeadTells structured rest (Some event.Disc) Over × (last ≡ event.Disc ∷ [])
+EndsWith structured (Stuck bad) rest last =
     HeadTells structured rest (Some (event.Bad bad)) (Stuck bad) × ((again : ℕ) × (last ≡ replicate (again + 1) (event.Bad bad)))
 
 -- The bytes that were taken are the spellings of whole messages and a rest; what was told is told of
 -- these messages, each once and in order, and of the rest.
-pub record Tells (structured : Bool) (phase : Phase) (bytes : List ℕ) (events : List WireEvent) : Type 0 where
+pub record TellsEvents (structured : Bool) (phase : Phase) (bytes : List ℕ) (events : List WireEvent) : Type 0 where
   pub heard : List Heard
   pub rest : List ℕ
   pub last : List WireEvent
   pub each : All IsHeard heard
   pub taken : bytes ≡ flat_map (λ x. spelling x.message) heard ++ rest
   pub told : events ≡ flat_map (events_of structured) heard ++ last
-  pub leaves : Leaves structured phase rest last
+  pub leaves : EndsWith structured phase rest last
 
 -- however a stream is cut, its messages are told, and nothing else
 abbrev pub ReadsSessions : Type 0
 ReadsSessions =
     (structured : Bool) → (calls : List ReaderCall) → (new : Phase) → CallsLead structured (InHead []) calls new →
-    Tells structured new (flat_map taken_by calls) (flat_map told_by calls)
+    TellsEvents structured new (flat_map taken_by calls) (flat_map told_by calls)

@@ -9,7 +9,7 @@ use Rattle.qs_outside.specs.Blocks.{MayLeave}
 use Rattle.std.proofs.lemmas.Bool.Decides.{nat_tests}
 use Rattle.std.specs.Prelude.{nat_le}
 use Rattle.qs_outside.specs.Held.{Held, block_of}
-use Rattle.qs_outside.specs.Journal.{Journal, Kept, contents_of, journal_seen, kept_of, past_of}
+use Rattle.qs_outside.specs.Journal.{Journal, KeptStore, contents_of, journal_seen, kept_of, past_of}
 use Rattle.qs_outside.specs.Rigged.{AsPlanned, LeftAsPlanned}
 
 pub length-kept : (align : ℕ) (blocks bytes : List ℕ) → length (kept_of align blocks bytes) ≡ length blocks
@@ -24,14 +24,14 @@ kept-push align [] (x ∷ bytes) b piece whole same = absurd (omega arith)
 kept-push align (c ∷ blocks) bytes b piece whole same =
     let enough : align ≤ length bytes = omega arith in
     let rest : length (drop align bytes) ≡ length blocks * align = omega (arith, length-drop align bytes) in
-    let first : List ℕ → List Kept → List Kept = λ xs ys. (record { block = c; bytes = xs }) ∷ ys in
+    let first : List ℕ → List KeptStore → List KeptStore = λ xs ys. (record { block = c; bytes = xs }) ∷ ys in
     rw (take-append-le, drop-append-le align bytes piece enough) (ap (first (take align bytes)) (kept-push align blocks (drop align bytes) b piece rest same))
 
-contents-push : (c b : ℕ) (stores : List Kept) (piece : List ℕ) → contents_of c (stores ++ (record { block = b; bytes = piece }) ∷ [])
+contents-push : (c b : ℕ) (stores : List KeptStore) (piece : List ℕ) → contents_of c (stores ++ (record { block = b; bytes = piece }) ∷ [])
     ≡ contents_of c stores ++ contents_of c ((record { block = b; bytes = piece }) ∷ [])
 contents-push c b stores piece =
-    let more : List Kept = (record { block = b; bytes = piece }) ∷ [] in
-    ap (map (λ (s : Kept). s.bytes)) (filter-append (λ (s : Kept). s.block == c) stores more) ∙ map-append (λ (s : Kept). s.bytes) _ _
+    let more : List KeptStore = (record { block = b; bytes = piece }) ∷ [] in
+    ap (map (λ (s : KeptStore). s.bytes)) (filter-append (λ (s : KeptStore). s.block == c) stores more) ∙ map-append (λ (s : KeptStore). s.bytes) _ _
 
 -- what a crash may leave of the block that was stored
 pub past-stored : (old new : Journal) (b : ℕ) (piece : List ℕ) → new.synced ≡ old.synced → new.stores ≡ old.stores ++ (record { block = b; bytes = piece }) ∷ []

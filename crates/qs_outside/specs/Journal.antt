@@ -5,7 +5,7 @@ use Rattle.qs_outside.specs.Blocks.{Fixed, Seen}
 use Rattle.qs_outside.specs.Held.{Held, block_of, quiet_seen}
 
 -- a store that is kept
-pub record Kept : Type 0 where
+pub record KeptStore : Type 0 where
   pub block : ℕ
   pub bytes : List ℕ
 
@@ -14,13 +14,13 @@ pub record Kept : Type 0 where
 pub record Journal : Type 0 where
   pub now : Held
   pub synced : Held
-  pub stores : List Kept
+  pub stores : List KeptStore
   pub room : ℕ
   pub faults : ℕ
   pub planned : Plans
 
 -- the contents that were stored in a block, in their order
-abbrev pub contents_of : ℕ → List Kept → List (List ℕ)
+abbrev pub contents_of : ℕ → List KeptStore → List (List ℕ)
 contents_of b stores = map (λ s. s.bytes) (filter (λ s. s.block == b) stores)
 
 -- what a crash may leave of a block: its content at the last sync, or one that was stored since
@@ -42,7 +42,7 @@ journal_seen disk = record {
 }
 
 -- the stores that a disk keeps as the numbers of their blocks and, one after another, the blocks' bytes
-abbrev pub kept_of : ℕ → List ℕ → List ℕ → List Kept
+abbrev pub kept_of : ℕ → List ℕ → List ℕ → List KeptStore
 kept_of align [] bytes = []
 kept_of align (b ∷ blocks) bytes = record { block = b; bytes = take align bytes } ∷ kept_of align blocks (drop align bytes)
 
@@ -50,7 +50,7 @@ kept_of align (b ∷ blocks) bytes = record { block = b; bytes = take align byte
 pub record KeptStores : Type 0 where
   pub align : ℕ
   pub room : ℕ
-  pub stores : List Kept
+  pub stores : List KeptStore
 
 -- two sets of blocks are of one disk, and its stores are of whole blocks
 pub record IsOneDisk (now synced : Held) (align : ℕ) : Type 0 where

@@ -53,6 +53,6 @@ pub record IsOver (old new : RequestValue) : Type 0 where
   pub shape : new.shape ≡ old.shape
   pub session : new.request.client.session ≡ old.request.client.session
 
-abbrev pub Leaves : RequestValue → Todo → RequestValue → Type 0
-Leaves old (Answer v) new = IsOver old new
-Leaves old _ new = new ≡ record old { waits = true }
+abbrev pub Gave : RequestValue → Todo → RequestValue → Type 0
+Gave old (Answer v) new = IsOver old new
+Gave old _ new = new ≡ record old { waits = true }

@@ -4,7 +4,7 @@ ghost use Rattle.qs_padding.specs.Padding.{merged_at};
 ghost use Rattle.qs_model.specs.Requests.{abandon};
 ghost use Rattle.qs_request.specs.Shapes.{IsShape};
 ghost use Rattle.qs_request.specs.Table.{FitsPart, IsMerged, WantsAt};
-ghost use Rattle.qs_request.specs.Value.{Leaves};
+ghost use Rattle.qs_request.specs.Value.{Gave};
 ghost use Rattle.qs_request.specs.Inside.{Goes, HasBuffers, IsFree, IsGoing, IsLoading, IsSound, IsStoring, client_of, lends, request_of, stage_of, value_of, verdict_of};
 
 use crate::moves::is_read;
@@ -216,7 +216,7 @@ impl Machine {
         requires { IsFree self.old }
         ensures wants { WantsAt self.old.shape.align (client_of self.old) self.old.pads.pads (stage_of self.old self.old.stage) result }
         ensures fits { FitsPart self.old.shape result }
-        ensures leaves { Leaves (value_of self.old) result (value_of self.new) }
+        ensures leaves { Gave (value_of self.old) result (value_of self.new) }
         ensures sound { self.new.answered ≡ false → IsSound self.new }
     {
         match self.stage {

@@ -19,9 +19,9 @@ pub struct PadBuffer {
 
 impl Model for PadBuffer {
     ghost use Rattle.std.specs.Prelude.{◌≡◌, [], length, if◌then◌else◌};
-    ghost use Rattle.qs_request.specs.Kept.{Kept};
+    ghost use Rattle.qs_request.specs.Kept.{KeptPads};
 
-    ghost Value = { Kept };
+    ghost Value = { KeptPads };
 
     ghost view = { λ p. record {
       align = p.align;

@@ -3,7 +3,7 @@ ghost use Rattle.std.specs.Option.{ForSome};
 ghost use Rattle.qs_model.specs.Requests.{abandon, asked};
 ghost use Rattle.qs_request.specs.Shapes.{IsShape, IsRoom};
 ghost use Rattle.qs_request.specs.Table.{FitsPart, MayReply, Wants, followed};
-ghost use Rattle.qs_request.specs.Value.{IsReady, Leaves, client_for};
+ghost use Rattle.qs_request.specs.Value.{IsReady, Gave, client_for};
 
 use crate::machine::Machine;
 use crate::shape::{Blocks, Shape};
@@ -120,7 +120,7 @@ impl Req {
         requires unanswered { self.old.answered ≡ false }
         ensures wants { Wants self.old.shape.align self.old.request result }
         ensures fits { FitsPart self.old.shape result }
-        ensures leaves { Leaves self.old result self.new }
+        ensures leaves { Gave self.old result self.new }
     {
         let _ = now;
         self.machine.next()

@@ -13,7 +13,7 @@ use Rattle.qs_model.specs.Steps.{Runs}
 use Rattle.qs_model.proofs.Facts.{Ok}
 use Rattle.qs_model.proofs.Holders.{some_none}
 use Rattle.qs_model.proofs.Kept.{split_run}
-use Rattle.qs_verdicts.specs.Stories.{Story, Tells, sent}
+use Rattle.qs_verdicts.specs.Stories.{Story, HasStory, sent}
 use Rattle.qs_verdicts.specs.Verdicts.{IsByTable, IsEarly, MayWork, Own, OwnBytes, Verdicts, done, reply_of, verdict_of}
 use Rattle.qs_verdicts.proofs.Lines.{Passed, io_fault, never_dropped, work_end}
 use Rattle.qs_verdicts.proofs.Stories.{Told, all_told}
@@ -102,7 +102,7 @@ pub verdicts : (A : ℕ) (w : World) (es : List Element) → 0 < A → Ok A w �
 verdicts A w es pos ok none run r v before (Did s q act) at is =
     let may = (split_run A w es before (Did s q act) run at).1 in
     let t : Told A s before q = all_told A w es before pos ok none run (begins_of before (Did s q act) es at) s q may.0 in
-    subst (λ (k : ℕ). Tells A k before (λ n. IsByTable n v)) is.0
+    subst (λ (k : ℕ). HasStory A k before (λ n. IsByTable n v)) is.0
     (t.story, (t.is, answer_table A s t.story q.dropped act v is.1 t.dropped t.stands t.steady))
 verdicts A w es pos ok none run r v before _ at is = absurd is
 
@@ -202,9 +202,9 @@ row_maybe A x s r v taken c Ends is = absurd (nothing_one _ is)
 abbrev OwnByte : Story → ℕ → ℕ → Type 0
 OwnByte n x v = (covers (sent n) x ≡ true) × (v ≡ body_at (sent n) x)
 
-own_byte : (A s : ℕ) (q : Req) (before : List Element) (x r v : ℕ) → Told A s before q → WritesOwn s q.client x r v → Tells A r before (λ n. OwnByte n x v)
+own_byte : (A s : ℕ) (q : Req) (before : List Element) (x r v : ℕ) → Told A s before q → WritesOwn s q.client x r v → HasStory A r before (λ n. OwnByte n x v)
 own_byte A s q before x r v t h =
-    subst (λ (k : ℕ). Tells A k before (λ n. OwnByte n x v)) h.number
+    subst (λ (k : ℕ). HasStory A k before (λ n. OwnByte n x v)) h.number
     (t.story, (t.is, subst (λ (c : Client). (covers c x ≡ true) × (v ≡ body_at c x)) t.client (h.covered, h.byte)))
 
 pub own_bytes : (A : ℕ) (w : World) (es : List Element) → 0 < A → Ok A w → ((r : ℕ) → w.req r ≡ None) → Runs A w es → OwnBytes A es
@@ -214,7 +214,7 @@ own_bytes A w es pos ok none run = record { write = write; maybe = maybe }
     told_at s q act before at =
         all_told A w es before pos ok none run (begins_of before (Did s q act) es at) s q (split_run A w es before (Did s q act) run at).1.0
 
-    write : (x r v : ℕ) (before : List Element) (e : Element) → ComesBehind before e es → cell_at A x e ≡ Write r v ∷ [] → Tells A r before (λ n. OwnByte n x v)
+    write : (x r v : ℕ) (before : List Element) (e : Element) → ComesBehind before e es → cell_at A x e ≡ Write r v ∷ [] → HasStory A r before (λ n. OwnByte n x v)
     write x r v before (Did s q act) at is = own_byte A s q before x r v (told_at s q act before at) (row_write A x s r v q.client act is)
     write x r v before (Crashed left) at is = absurd (cc)
     write x r v before (Attached s name info) at is = absurd (nothing_one _ is)
@@ -227,7 +227,7 @@ own_bytes A w es pos ok none run = record { write = write; maybe = maybe }
     write x r v before (Exported op e) at is = absurd (nothing_one _ is)
     write x r v before (Planned j fail) at is = absurd (nothing_one _ is)
 
-    maybe : (x r v : ℕ) (took : Bool) (before : List Element) (e : Element) → ComesBehind before e es → cell_at A x e ≡ Maybe r v took ∷ [] → Tells A r before (λ n. OwnByte n x v)
+    maybe : (x r v : ℕ) (took : Bool) (before : List Element) (e : Element) → ComesBehind before e es → cell_at A x e ≡ Maybe r v took ∷ [] → HasStory A r before (λ n. OwnByte n x v)
     maybe x r v took before (Did s q act) at is = own_byte A s q before x r v (told_at s q act before at) (row_maybe A x s r v took q.client act is)
     maybe x r v took before (Crashed left) at is = absurd (cc)
     maybe x r v took before (Attached s name info) at is = absurd (nothing_one _ is)

@@ -70,5 +70,5 @@ abbrev pub told : ℕ → ℕ → List Element → Option Story
 told A r es = told_from A r None es
 
 -- the request has a story up to here, and it is so
-abbrev pub Tells : ℕ → ℕ → List Element → (Story → Type 0) → Type 0
-Tells A r es P = (n : Story) × ((told A r es ≡ Some n) × P n)
+abbrev pub HasStory : ℕ → ℕ → List Element → (Story → Type 0) → Type 0
+HasStory A r es P = (n : Story) × ((told A r es ≡ Some n) × P n)

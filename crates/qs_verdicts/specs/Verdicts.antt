@@ -12,7 +12,7 @@ use Rattle.qs_model.specs.Requests.{Client, Stage, is_read, is_write, covers, bo
 use Rattle.qs_model.specs.Acts.{Act, Enters, Routes, Shuts, Lists, Element, Asked, Did}
 use Rattle.qs_model.specs.Histories.{answer_of, cell_at}
 use Rattle.qs_model.specs.Laws.{ComesBehind}
-use Rattle.qs_verdicts.specs.Stories.{Story, Tells, Way, Unknown, Shut, Given, sent}
+use Rattle.qs_verdicts.specs.Stories.{Story, HasStory, Way, Unknown, Shut, Given, sent}
 
 -- the kinds of request that are served
 abbrev pub is_served : Kind → Bool
@@ -83,7 +83,7 @@ pub record IsByTable (n : Story) (v : Verdict) : Type 0 where
 -- every answer
 abbrev pub Verdicts : ℕ → List Element → Type 0
 Verdicts A es = (r : ℕ) (v : Verdict) (before : List Element) (e : Element) → ComesBehind before e es → IsAnswered r v e →
-    Tells A r before (λ n. IsByTable n v)
+    HasStory A r before (λ n. IsByTable n v)
 
 -- a row of Enter, Route or List
 abbrev pub IsEarly : {stage : Stage} → Act stage → Type 0
@@ -108,7 +108,7 @@ pub record IsOwn (A r : ℕ) (c : Client) (d : Bool) {stage : Stage} (act : Act 
   pub early : IsEarly act → n.left ≡ false
 
 abbrev pub IsOwnStep : ℕ → Element → List Element → Type 0
-IsOwnStep A (Did r q act) before = Tells A r before (IsOwn A r q.client q.dropped act before)
+IsOwnStep A (Did r q act) before = HasStory A r before (IsOwn A r q.client q.dropped act before)
 IsOwnStep A _ before = Unit {0}
 
 abbrev pub Own : ℕ → List Element → Type 0
@@ -117,6 +117,6 @@ Own A es = (before : List Element) (e : Element) → ComesBehind before e es →
 -- What a request writes at x is its client's own byte for x, and only where it covers x; a store that a disk refused, too.
 pub record OwnBytes (A : ℕ) (es : List Element) : Type 0 where
   pub write : (x r v : ℕ) (before : List Element) (e : Element) → ComesBehind before e es → cell_at A x e ≡ Write r v ∷ [] →
-      Tells A r before (λ n. (covers (sent n) x ≡ true) × (v ≡ body_at (sent n) x))
+      HasStory A r before (λ n. (covers (sent n) x ≡ true) × (v ≡ body_at (sent n) x))
   pub maybe : (x r v : ℕ) (took : Bool) (before : List Element) (e : Element) → ComesBehind before e es → cell_at A x e ≡ Maybe r v took ∷ [] →
-      Tells A r before (λ n. (covers (sent n) x ≡ true) × (v ≡ body_at (sent n) x))
+      HasStory A r before (λ n. (covers (sent n) x ≡ true) × (v ≡ body_at (sent n) x))

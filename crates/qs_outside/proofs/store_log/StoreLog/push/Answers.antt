@@ -1,6 +1,6 @@
 use Rattle.std.proofs.Common.{◌≡◌, ◌+◌, ◌*◌, ◌≤◌, List, ◌++◌, [], ◌∷◌, length, ap, ◌∙◌, arith}
 use Rattle.std.proofs.Math.Nat.{mul-le-mul_right}
-use Rattle.qs_outside.specs.Journal.{Kept, KeptStores}
+use Rattle.qs_outside.specs.Journal.{KeptStore, KeptStores}
 use Rattle.qs_outside.proofs.Journals.{length-kept, kept-push}
 use Rattle.qs_outside.proofs.store_log.StoreLog.push.Goals as goal
 use Rattle.qs_outside.proofs.store_log.StoreLog.push.Goals.{In-Err, In-Err-extend_from_slice}
@@ -43,7 +43,7 @@ returns c =
     let blocks : c.self.inside.blocks.len ≡ length c.self.inside.blocks.items = c.self.inside.blocks.ok.0 in
     let bytes : c.self.inside.bytes.len ≡ length c.self.inside.bytes.items = c.self.inside.bytes.ok.0 in
     let whole : length c.self.inside.bytes.items ≡ length c.self.inside.blocks.items * c.self.inside.align = rw (← blocks, ← bytes) c.self.invariant.whole in
-    let log : List Kept → KeptStores = λ xs. record { align = c.self.inside.align; room = c.self.inside.room; stores = xs } in
+    let log : List KeptStore → KeptStores = λ xs. record { align = c.self.inside.align; room = c.self.inside.room; stores = xs } in
     let more : KeptStores → KeptStores = λ s. record s { stores = s.stores ++ (record { block = c.args.b; bytes = c.args.bytes.now }) ∷ [] } in
     rw (c.in-Ok.ensures.items, c.in-Ok-extend_from_slice.ensures.items)
     (ap log (kept-push c.self.inside.align c.self.inside.blocks.items c.self.inside.bytes.items c.args.b c.args.bytes.now whole (omega (arith, align))) ∙ ap more c.self.view_is)

@@ -1,5 +1,5 @@
 use Rattle.std.proofs.Common.{None, false, refl, ap, ◌∙◌, sym, List, ℕ, length}
-use Rattle.qs_request.specs.Kept.{Kept}
+use Rattle.qs_request.specs.Kept.{KeptPads}
 use Rattle.qs_request.proofs.Made.{made_request, made_client, made_free, given_length, some_blocks}
 use Rattle.qs_request.proofs.machine.Machine.new.Goals as goal
 
@@ -22,7 +22,7 @@ returns-clause-request c =
       alloc = c.args.alloc;
     }) _
     (made_client c.args.session c.args.ask c.args.export c.args.body c.args.blocks c.given.result c.is_buffered-buffered.result c.given.ensures c.is_buffered-buffered.ensures)
-    refl (ap (λ (k : Kept). k.pads) c.parted-work.ensures.pads) c.first_stage.ensures
+    refl (ap (λ (k : KeptPads). k.pads) c.parted-work.ensures.pads) c.first_stage.ensures
 
 pub returns-clause-free : goal.returns-clause-free
 returns-clause-free c =
