@@ -3,9 +3,9 @@ use Rattle.std.proofs.Common.{◌≡◌, ◌≢◌, ℕ, ◌+◌, List, [], ◌�
 use Rattle.std.proofs.lemmas.Bool.Decides.{nat_tests}
 use Rattle.std.specs.Prelude.{◌==◌}
 use Rattle.qs_bucket.specs.Admissions.{Admission}
-use Rattle.qs_bucket.specs.Level.{LevelValue, effective, level_at, added, StandsFor}
+use Rattle.qs_bucket.specs.Level.{LevelValue, effective, level_at, added, IsOwedBy}
 use Rattle.qs_bucket.specs.Bucket.{BucketValue, first_wait, filled, Holds}
-use Rattle.qs_bucket.proofs.Owed.{stands_added}
+use Rattle.qs_bucket.proofs.Owed.{owed_added}
 
 -- an admission changes neither rate nor bucket
 pub added_rate : (b : LevelValue) (now units : ℕ) →
@@ -52,11 +52,11 @@ pub holds_filled : (b : BucketValue) (xs : List Admission) (now units : ℕ) →
     Holds (filled b now units) (xs ++ record { reading = effective b.first now; units = units } ∷ [])
 holds_filled b xs now units holds = record {
   first = λ h. let some : b.first.rate ≢ 0 = rw (added_rate b.first now units).0 at h in
-      stands_added b.first xs now units some (holds.first some);
+      owed_added b.first xs now units some (holds.first some);
   second = λ h. let some : b.second.rate ≢ 0 = rw (added_rate b.second now units).0 at h in
-      subst (λ (t : ℕ). StandsFor (added b.second now units) (xs ++ record { reading = t; units = units } ∷ []))
+      subst (λ (t : ℕ). IsOwedBy (added b.second now units) (xs ++ record { reading = t; units = units } ∷ []))
       (same some)
-      (stands_added b.second xs now units some (holds.second some));
+      (owed_added b.second xs now units some (holds.second some));
   together = λ h. let some : b.second.rate ≢ 0 = rw (added_rate b.second now units).0 at h in (
     rw (added_rate b.first now units).0 (holds.together some).0,
     added_last b.second now units some ∙ (same some ∙ sym (added_last b.first now units (holds.together some).0)),

@@ -3,7 +3,7 @@ use Rattle.std.proofs.Common.{◌≡◌, ◌≢◌, ℕ, ◌+◌, ◌-◌, ◌*�
 use Rattle.std.proofs.lemmas.Bool.Decides.{nat_tests}
 use Rattle.std.specs.Prelude.{max, ◌==◌}
 use Rattle.qs_bucket.specs.Admissions.{Admission, units_of, owed, UpTo}
-use Rattle.qs_bucket.specs.Level.{LevelValue, effective, level_at, added, StandsFor}
+use Rattle.qs_bucket.specs.Level.{LevelValue, effective, level_at, added, IsOwedBy}
 
 -- what leaks while d passes leaks in its two parts
 pub spread : (rate d e f : ℕ) → d ≡ e + f → rate * d ≡ rate * e + rate * f
@@ -37,15 +37,15 @@ owed_more rate (a ∷ xs) b t upto h =
     rw (sum, rest) (two_leaks a.units (units_of xs) (owed rate xs b.reading) b.units _ _ _ both)
 
 -- a level that is what its admissions owe stays so as one more is counted
-pub stands_added : (b : LevelValue) (xs : List Admission) (now units : ℕ) → b.rate ≢ 0 → StandsFor b xs →
-    StandsFor (added b now units) (xs ++ record { reading = effective b now; units = units } ∷ [])
-stands_added b xs now units some stands = go (b.rate == 0) refl
+pub owed_added : (b : LevelValue) (xs : List Admission) (now units : ℕ) → b.rate ≢ 0 → IsOwedBy b xs →
+    IsOwedBy (added b now units) (xs ++ record { reading = effective b now; units = units } ∷ [])
+owed_added b xs now units some stands = go (b.rate == 0) refl
   where
     more : List Admission
     more = xs ++ record { reading = effective b now; units = units } ∷ []
 
     go : (z : Bool) → (b.rate == 0) ≡ z →
-        StandsFor (cond z b (record { rate = b.rate; bucket = b.bucket; level = level_at b (effective b now) + units; last = effective b now })) more
+        IsOwedBy (cond z b (record { rate = b.rate; bucket = b.bucket; level = level_at b (effective b now) + units; last = effective b now })) more
     go true e = absurd (some (grind (arith, nat_tests)))
     go false e = record {
       upto = UpTo-append xs _ (effective b now) later (omega arith);

@@ -3,7 +3,7 @@ use Rattle.std.proofs.Common.{◌≡◌, ◌≢◌, ℕ, ◌+◌, ◌-◌, ◌*�
 use Rattle.std.proofs.lemmas.Bool.Decides.{nat_tests}
 use Rattle.qs_bucket.proofs.Ceil.{none_of_ceil}
 use Rattle.qs_bucket.proofs.Owed.{spread, units_of-append, UpTo-later}
-use Rattle.qs_bucket.specs.Level.{LevelValue, effective, level_at, wait_at, StandsFor}
+use Rattle.qs_bucket.specs.Level.{LevelValue, effective, level_at, wait_at, IsOwedBy}
 use Rattle.std.specs.Prelude.{max, ◌&&◌, ◌==◌}
 use Rattle.std.specs.Int.{div_ceil}
 use Rattle.qs_bucket.specs.Admissions.{Admission, units_of, owed, UpTo, window, last_units, AdmittedByRule}
@@ -138,7 +138,7 @@ below_bucket b now some = go (b.rate == 0) refl
     go false e none = none_of_ceil (level_at b (effective b now)) b.bucket b.rate none (omega arith)
 
 -- a level that counts what it let go admits by the rule
-pub rule_added : (b : LevelValue) (xs : List Admission) (now units : ℕ) → b.rate ≢ 0 → StandsFor b xs → wait_at b now ≡ 0 →
+pub rule_added : (b : LevelValue) (xs : List Admission) (now units : ℕ) → b.rate ≢ 0 → IsOwedBy b xs → wait_at b now ≡ 0 →
     AdmittedByRule b.rate b.bucket xs → AdmittedByRule b.rate b.bucket (xs ++ record { reading = effective b now; units = units } ∷ [])
 rule_added b xs now units some stands none rule =
     rule_more b.rate b.bucket xs _ rule (UpTo-later xs b.last (effective b now) (omega arith) stands.upto)

@@ -4,7 +4,7 @@ use Rattle.qs_bucket.specs.declared.bucket.Ask.{Ask}
 use Rattle.qs_bucket.specs.declared.bucket.Ask.TheVariants.{Go, Wait}
 use Rattle.qs_bucket.specs.declared.bucket.Burst.{Burst}
 use Rattle.qs_bucket.specs.Admissions.{Admission}
-use Rattle.qs_bucket.specs.Level.{LevelValue, empty, effective, level_at, wait_at, added, Asked, StandsFor}
+use Rattle.qs_bucket.specs.Level.{LevelValue, empty, effective, level_at, wait_at, added, Asked, IsOwedBy}
 
 -- the level of the long run and that of a burst; where there is no burst the second has rate 0, which is no limit
 pub record BucketValue : Type 0 where
@@ -52,6 +52,6 @@ filled b now units = record { first = added b.first now units; second = added b.
 
 -- each level that is a limit is what these admissions owe at its rate, and both count from the same reading
 pub record Holds (b : BucketValue) (xs : List Admission) : Type 0 where
-  pub first : b.first.rate ≢ 0 → StandsFor b.first xs
-  pub second : b.second.rate ≢ 0 → StandsFor b.second xs
+  pub first : b.first.rate ≢ 0 → IsOwedBy b.first xs
+  pub second : b.second.rate ≢ 0 → IsOwedBy b.second xs
   pub together : b.second.rate ≢ 0 → (b.first.rate ≢ 0) × (b.second.last ≡ b.first.last)

@@ -39,6 +39,6 @@ added b now units =
     if b.rate == 0 then b else record { rate = b.rate; bucket = b.bucket; level = level_at b (effective b now) + units; last = effective b now }
 
 -- the level is what these admissions owe
-pub record StandsFor (b : LevelValue) (xs : List Admission) : Type 0 where
+pub record IsOwedBy (b : LevelValue) (xs : List Admission) : Type 0 where
   pub upto : UpTo b.last xs
   pub owes : (t : ℕ) → b.last ≤ t → level_at b t ≡ owed b.rate xs t

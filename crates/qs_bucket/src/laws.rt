@@ -2,7 +2,7 @@ ghost use Rattle.std.specs.Prelude.{◌≡◌, ◌≢◌, ℕ, ◌+◌, ◌-◌,
 ghost use Rattle.qs_bucket.specs.declared.bucket.Ask.{Ask};
 ghost use Rattle.qs_bucket.specs.declared.bucket.Burst.{Burst};
 ghost use Rattle.qs_bucket.specs.Admissions.{Admission, owed, window, units_of, last_units, AdmittedByRule};
-ghost use Rattle.qs_bucket.specs.Level.{LevelValue, empty, effective, level_at, wait_at, added, Asked, StandsFor};
+ghost use Rattle.qs_bucket.specs.Level.{LevelValue, empty, effective, level_at, wait_at, added, Asked, IsOwedBy};
 ghost use Rattle.qs_bucket.specs.Bucket.{BucketValue, BurstFits, opened, AskedOf, Asks, wait_of, filled, Holds};
 
 /// What a level holds is what its admissions owe, and by that alone a request goes or waits.
@@ -10,13 +10,13 @@ ghost use Rattle.qs_bucket.specs.Bucket.{BucketValue, BurstFits, opened, AskedOf
 /// It is so of a new level, which has admitted nothing, and of a level that has counted one
 /// admission more. A level that counts only what it let go admits by the rule of [`window_law`].
 pub fn level_is_owed()
-    ensures opening { (rate bucket : ℕ) → StandsFor (empty rate bucket) [] }
-    ensures kept { (b : LevelValue) (xs : List Admission) (now units : ℕ) → b.rate ≢ 0 → StandsFor b xs →
-        StandsFor (added b now units) (xs ++ record { reading = effective b now; units = units } ∷ []) }
-    ensures asked { (b : LevelValue) (xs : List Admission) (now : ℕ) (answer : Ask) → StandsFor b xs →
+    ensures opening { (rate bucket : ℕ) → IsOwedBy (empty rate bucket) [] }
+    ensures kept { (b : LevelValue) (xs : List Admission) (now units : ℕ) → b.rate ≢ 0 → IsOwedBy b xs →
+        IsOwedBy (added b now units) (xs ++ record { reading = effective b now; units = units } ∷ []) }
+    ensures asked { (b : LevelValue) (xs : List Admission) (now : ℕ) (answer : Ask) → IsOwedBy b xs →
         Asked b.rate b.bucket (level_at b (effective b now)) answer →
         Asked b.rate b.bucket (owed b.rate xs (effective b now)) answer }
-    ensures ruled { (b : LevelValue) (xs : List Admission) (now units : ℕ) → b.rate ≢ 0 → StandsFor b xs → wait_at b now ≡ 0 →
+    ensures ruled { (b : LevelValue) (xs : List Admission) (now units : ℕ) → b.rate ≢ 0 → IsOwedBy b xs → wait_at b now ≡ 0 →
         AdmittedByRule b.rate b.bucket xs →
         AdmittedByRule b.rate b.bucket (xs ++ record { reading = effective b now; units = units } ∷ []) }
 {}

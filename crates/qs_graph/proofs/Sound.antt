@@ -1,5 +1,5 @@
 -- What each answer keeps of a graph.
-use Rattle.std.proofs.Common.{◌≡◌, ◌≢◌, ℕ, ◌+◌, ◌-◌, List, [], ◌∷◌, Bool, true, false, refl, sym, ◌∙◌, ap, subst, inl, inr, ◌⊎◌}
+use Rattle.std.proofs.Common.{◌≡◌, ◌≢◌, ℕ, ◌+◌, ◌-◌, List, Bool, true, false, refl, sym, ◌∙◌, ap, subst, inl, inr, ◌⊎◌}
 use Rattle.std.specs.Prelude.{Option, Some, None, IsTrue, position, ◌&&◌}
 use Rattle.std.proofs.lemmas.List.Quantifiers.{position-Some}
 use Rattle.qs_part.specs.declared.graph.Route.{Route as Way}
@@ -7,11 +7,13 @@ use Rattle.qs_part.specs.declared.graph.GraphOp.{GraphOp}
 use Rattle.qs_part.specs.declared.graph.GraphOp.TheVariants.{ExportAdd, Attach, Detach, Route}
 use Rattle.qs_part.specs.declared.graph.GraphReply.{GraphReply}
 use Rattle.qs_part.specs.declared.graph.GraphReply.TheVariants.{Added, Attached, Detached, Shutting, Routed}
+use Rattle.qs_part.specs.Histories.{Call, StandsFor}
+use Rattle.qs_part.proofs.Histories.{stands_fixed, stands_keeps}
 use Rattle.qs_graph.specs.declared.export.Export.{Export}
 use Rattle.qs_graph.specs.declared.export.Right.{Right}
 use Rattle.qs_graph.specs.Exports.{clients_of, counted, export_at, is_vacant, made, shares, takes}
-use Rattle.qs_graph.specs.Table.{GraphValue, IsShared, May, after, fresh, placed, route_of}
-use Rattle.qs_graph.specs.History.{Entry, IsAllowed, Runs, SameExport, Stands, left_by}
+use Rattle.qs_graph.specs.Table.{GraphValue, Fits, IsShared, May, after, answers, fresh, placed, route_of}
+use Rattle.qs_graph.specs.History.{lawful_call, StandsForFresh, IsAllowed, SameExport, Stands}
 use Rattle.qs_graph.proofs.Standing.{at_set, nobody, none_against, none_not, same_export}
 use Rattle.qs_graph.proofs.Rights.{same-shares, same-takes, same-writable, together}
 
@@ -115,20 +117,17 @@ fresh_allowed size file read_only = record {
   writable = λ e x at h. absurd (none_not x (sym (nobody 64 e) ∙ at));
 }
 
-pub run_allowed : (v : GraphValue) (es : List Entry) → Runs v es → IsAllowed v → IsAllowed (left_by v es)
-run_allowed v [] runs ok = ok
-run_allowed v (e ∷ es) runs ok = run_allowed (after v e.op e.reply) es runs.1 (after_allowed v e.op e.reply runs.0 ok)
+pub stands_allowed : (size : ℕ) (file : List ℕ) (read_only : Bool) (cs : List (Call GraphOp GraphReply)) (v : GraphValue)
+    → StandsForFresh size file read_only cs v → IsAllowed v
+stands_allowed size file read_only cs v stands =
+    stands_keeps lawful_call IsAllowed
+    (λ old op reply new call ok. subst IsAllowed (sym call.1.1) (after_allowed old op reply call.1.0 ok))
+    (fresh size file read_only) cs v stands (fresh_allowed size file read_only)
 
 -- the image keeps its size
-pub after_size : (v : GraphValue) (op : GraphOp) (reply : GraphReply) → (after v op reply).size ≡ v.size
-after_size v (ExportAdd id name node writable share) (Added e) = refl
-after_size v (Attach name) (Attached info) = refl
-after_size v (Detach e) Detached = refl
-after_size v _ _ = refl
-
-pub left_size : (v : GraphValue) (es : List Entry) → (left_by v es).size ≡ v.size
-left_size v [] = refl
-left_size v (e ∷ es) = left_size (after v e.op e.reply) es ∙ after_size v e.op e.reply
+pub stands_size : (opening : GraphValue) (cs : List (Call GraphOp GraphReply)) (v : GraphValue) → StandsFor lawful_call opening cs v
+    → v.size ≡ opening.size
+stands_size opening cs v stands = stands_fixed (λ (g : GraphValue). g.size) Fits answers opening cs v stands
 
 -- each answer leaves an export where it stands
 pub placed_still : (v : GraphValue) (k : ℕ) (p : Option Export) (e : ℕ) (x : Export) → position is_vacant v.places ≡ Some k → Stands v e x →
@@ -153,11 +152,16 @@ after_still v _ _ e x may at = (x, (at, refl))
 pub still_more : (v w : GraphValue) (e : ℕ) (x : Export) → ((y : Export) → Stands v e y → Still w e y) → Still v e x → Still w e x
 still_more v w e x later s = let t : Still w e s.0 = later s.0 s.1.0 in (t.0, (t.1.0, same_more x s.0 t.0 s.1.1 t.1.1))
 
-pub run_still : (v : GraphValue) (es : List Entry) (e : ℕ) (x : Export) → Runs v es → Stands v e x → Still (left_by v es) e x
-run_still v [] e x runs at = (x, (at, refl))
-run_still v (i ∷ is) e x runs at =
-    still_more (after v i.op i.reply) (left_by (after v i.op i.reply) is) e x
-    (λ y h. run_still (after v i.op i.reply) is e y runs.1 h) (after_still v i.op i.reply e x runs.0 at)
+pub call_still : (e : ℕ) (x : Export) (old : GraphValue) (op : GraphOp) (reply : GraphReply) (new : GraphValue) → lawful_call old op reply new
+    → Still old e x → Still new e x
+call_still e x old op reply new call still =
+    still_more old new e x
+    (λ y at. subst (λ (v : GraphValue). Still v e y) (sym call.1.1) (after_still old op reply e y call.1.0 at)) still
+
+pub stands_still : (opening : GraphValue) (cs : List (Call GraphOp GraphReply)) (v : GraphValue) (e : ℕ) (x : Export)
+    → StandsFor lawful_call opening cs v → Stands opening e x → Still v e x
+stands_still opening cs v e x stands at =
+    stands_keeps lawful_call (λ (w : GraphValue). Still w e x) (call_still e x) opening cs v stands (x, (at, refl))
 
 -- a Route answers for the export that stands there
 pub route_for : (v : GraphValue) (e : ℕ) (x : Export) (reply : GraphReply) → Stands v e x → May v (Route e) reply →
@@ -167,9 +171,9 @@ route_for v e x (Routed way) at may =
     ap (λ (w : Way). Routed w) (may.1.1 ∙ ap (λ (y : Export). route_of v.size y) (same_export may.0 x (sym may.1.0 ∙ at)))
 route_for v e x _ at may = absurd may
 
-pub still_way : (v : GraphValue) (es : List Entry) (e : ℕ) (x : Export) (reply : GraphReply) → Still (left_by v es) e x →
-    May (left_by v es) (Route e) reply → reply ≡ Routed (route_of v.size x)
-still_way v es e x reply still may =
-    route_for (left_by v es) e still.0 reply still.1.0 may
-    ∙ ap (λ (size : ℕ). Routed (route_of size still.0)) (left_size v es)
-    ∙ ap (λ (writable : Bool). Routed (record (route_of v.size x) { writable = writable })) (same-writable x still.0 still.1.1)
+pub still_way : (opening v : GraphValue) (e : ℕ) (x : Export) (reply : GraphReply) → v.size ≡ opening.size → Still v e x →
+    May v (Route e) reply → reply ≡ Routed (route_of opening.size x)
+still_way opening v e x reply same still may =
+    route_for v e still.0 reply still.1.0 may
+    ∙ ap (λ (size : ℕ). Routed (route_of size still.0)) same
+    ∙ ap (λ (writable : Bool). Routed (record (route_of opening.size x) { writable = writable })) (same-writable x still.0 still.1.1)

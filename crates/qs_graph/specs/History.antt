@@ -1,26 +1,20 @@
 -- Histories of a graph.
-use Rattle.std.specs.Prelude.{◌≡◌, ◌≢◌, ℕ, true, false, List, [], ◌∷◌, Some, IsTrue}
+use Rattle.std.specs.Prelude.{◌≡◌, ◌≢◌, ℕ, Bool, true, false, List, Some, IsTrue}
 use Rattle.qs_part.specs.declared.graph.GraphOp.{GraphOp}
 use Rattle.qs_part.specs.declared.graph.GraphReply.{GraphReply}
+use Rattle.qs_part.specs.Histories.{Call, lawful, StandsFor}
 use Rattle.qs_graph.specs.declared.export.Export.{Export}
 use Rattle.qs_graph.specs.declared.export.Right.{Right}
 use Rattle.qs_graph.specs.Exports.{export_at, shares, takes}
-use Rattle.qs_graph.specs.Table.{GraphValue, May, after}
+use Rattle.qs_graph.specs.Table.{GraphValue, fresh, Fits, answers}
 
--- an operation and its answer
-pub record Entry : Type 0 where
-  pub op : GraphOp
-  pub reply : GraphReply
+-- a call that may be: the operation fits, the answer may come, and the size of the image stays
+abbrev pub lawful_call : GraphValue → GraphOp → GraphReply → GraphValue → Type 0
+lawful_call = lawful (λ (v : GraphValue). v.size) Fits answers
 
--- each answer may come where the ones before it left the graph
-abbrev pub Runs : GraphValue → List Entry → Type 0
-Runs v [] = Unit {0}
-Runs v (e ∷ es) = May v e.op e.reply × Runs (after v e.op e.reply) es
-
--- the graph after a history
-abbrev pub left_by : GraphValue → List Entry → GraphValue
-left_by v [] = v
-left_by v (e ∷ es) = left_by (after v e.op e.reply) es
+-- a graph stands for a history of a new one, over an image of this size and a file node of this name
+abbrev pub StandsForFresh : ℕ → List ℕ → Bool → List (Call GraphOp GraphReply) → GraphValue → Type 0
+StandsForFresh size file read_only cs v = StandsFor lawful_call (fresh size file read_only) cs v
 
 -- this export stands at place e
 abbrev pub Stands : GraphValue → ℕ → Export → Type 0

@@ -14,12 +14,13 @@ use Rattle.qs_part.specs.declared.limits.Dim.TheVariants.{BpsTotal, BpsRead, Bps
 use Rattle.qs_part.specs.declared.limits.Limits.{Limits}
 use Rattle.qs_part.specs.declared.limits.Limit.{Limit}
 use Rattle.qs_part.specs.Limits.{limit_of, first_broken}
+use Rattle.qs_part.specs.Histories.{Call, StandsFor}
 use Rattle.qs_bucket.specs.declared.bucket.Burst.{Burst}
 use Rattle.qs_bucket.specs.Admissions.{Admission, owed, UpTo, AdmittedByRule}
-use Rattle.qs_bucket.specs.Level.{LevelValue, empty, effective, level_at, wait_at, added, StandsFor}
+use Rattle.qs_bucket.specs.Level.{LevelValue, empty, effective, level_at, wait_at, added, IsOwedBy}
 use Rattle.qs_bucket.specs.Bucket.{BucketValue, burst_level, wait_of, filled}
 use Rattle.qs_bucket.proofs.Both.{added_rate, no_waits}
-use Rattle.qs_bucket.proofs.Owed.{UpTo-later, UpTo-append, stands_added}
+use Rattle.qs_bucket.proofs.Owed.{UpTo-later, UpTo-append, owed_added}
 use Rattle.qs_bucket.proofs.Windows.{rule_none, rule_added, below_bucket}
 use Rattle.qs_group.specs.declared.queue.Queued.{Queued}
 use Rattle.qs_group.specs.declared.budget.Budget.{Budget}
@@ -27,14 +28,14 @@ use Rattle.qs_group.specs.Budget.{Which, First, Second, IsGood, has_pair, rate_o
 use Rattle.qs_group.specs.Queue.{ticket_at}
 use Rattle.qs_group.specs.Levels.{Key, bucket_in, level_in, level_of, applies, units_for}
 use Rattle.qs_group.specs.Table.{GroupValue, unlimited, fresh, passed, May, MayAdmit, after}
-use Rattle.qs_group.specs.History.{Entry, Runs, left_by, set_by, last_set, counted_go, counted, admissions, greatest_reading, pair_asks, limit_asks, ByAdmissions}
+use Rattle.qs_group.specs.History.{lawful_call, StandsForFresh, set_by, last_set, counted_go, counted, admissions, greatest_reading, pair_asks, limit_asks, ByAdmissions}
 use Rattle.qs_group.proofs.Checked.{good}
 
 -- a level holds what these admissions owe, and they were admitted by the rule
 pub record Keeps (b : LevelValue) (reading : ℕ) (xs : List Admission) : Type 0 where
   pub last : b.last ≤ reading
   pub upto : UpTo reading xs
-  pub stands : b.rate ≢ 0 → StandsFor b xs
+  pub is_owed : b.rate ≢ 0 → IsOwedBy b xs
   pub rule : b.rate ≢ 0 → AdmittedByRule b.rate b.bucket xs
 
 pub added_up_to : (b : LevelValue) (r units : ℕ) → b.last ≤ r → (added b r units).last ≤ r
@@ -50,11 +51,11 @@ pub keeps_more : (b : LevelValue) (reading : ℕ) (xs : List Admission) (r units
 keeps_more b reading xs r units later none keeps = record {
   last = added_up_to b r units (omega (arith, keeps.last));
   upto = UpTo-append xs _ r (UpTo-later xs reading r later keeps.upto) (omega arith);
-  stands = λ h. let some : b.rate ≢ 0 = rw same.0 at h in
-      subst (λ (e : ℕ). StandsFor (added b r units) (xs ++ record { reading = e; units = units } ∷ [])) now (stands_added b xs r units some (keeps.stands some));
+  is_owed = λ h. let some : b.rate ≢ 0 = rw same.0 at h in
+      subst (λ (e : ℕ). IsOwedBy (added b r units) (xs ++ record { reading = e; units = units } ∷ [])) now (owed_added b xs r units some (keeps.is_owed some));
   rule = λ h. let some : b.rate ≢ 0 = rw same.0 at h in
       rw (same.0, same.1) (subst (λ (e : ℕ). AdmittedByRule b.rate b.bucket (xs ++ record { reading = e; units = units } ∷ [])) now
-      (rule_added b xs r units some (keeps.stands some) none (keeps.rule some)));
+      (rule_added b xs r units some (keeps.is_owed some) none (keeps.rule some)));
 }
   where
     same : ((added b r units).rate ≡ b.rate) × ((added b r units).bucket ≡ b.bucket)
@@ -68,7 +69,7 @@ pub keeps_later : (b : LevelValue) (reading : ℕ) (xs : List Admission) (r : �
 keeps_later b reading xs r later keeps = record {
   last = omega (arith, keeps.last);
   upto = UpTo-later xs reading r later keeps.upto;
-  stands = keeps.stands;
+  is_owed = keeps.is_owed;
   rule = keeps.rule;
 }
 
@@ -77,7 +78,7 @@ pub keeps_empty : (rate bucket : ℕ) → Keeps (empty rate bucket) 0 []
 keeps_empty rate bucket = record {
   last = omega arith;
   upto = tt;
-  stands = λ _. record { upto = tt; owes = λ t h. omega arith };
+  is_owed = λ _. record { upto = tt; owes = λ t h. omega arith };
   rule = λ _. rule_none rate bucket;
 }
 
@@ -225,16 +226,24 @@ answer_keeps v (Queue m d n) (Ticket t) key xs may keeps = keeps
 answer_keeps v (Withdraw t) Withdrawn key xs may keeps = keeps
 answer_keeps v _ _ key xs may keeps = keeps
 
--- every history keeps what a level holds
-pub run_keeps : (v : GroupValue) (es : List Entry) (key : Key) (xs : List Admission) → Runs v es → Keeps (level_of v.budget key) v.budget.reading xs →
-    Keeps (level_of (left_by v es).budget key) (left_by v es).budget.reading (admissions key.dim v es xs)
-run_keeps v [] key xs runs keeps = keeps
-run_keeps v (e ∷ es) key xs runs keeps =
-    run_keeps (after v e.op e.reply) es key (counted key.dim v e.op e.reply xs) runs.2 (answer_keeps v e.op e.reply key xs runs.1 keeps)
+-- the rest of a history, from what the answer to its first operation leaves
+pub stands_rest : (v : GroupValue) (c : Call GroupOp GroupReply) (cs : List (Call GroupOp GroupReply)) (w : GroupValue)
+    → StandsFor lawful_call v (c ∷ cs) w → StandsFor lawful_call (after v c.op c.reply) cs w
+stands_rest v c cs w stands = subst (λ (x : GroupValue). StandsFor lawful_call x cs w) stands.1.1.1 stands.2
 
-pub fresh_keeps : (es : List Entry) (key : Key) → Runs fresh es →
-    Keeps (level_of (left_by fresh es).budget key) (left_by fresh es).budget.reading (admissions key.dim fresh es [])
-fresh_keeps es key runs = run_keeps fresh es key [] runs (keeps_opened unlimited key.dim key.which)
+-- every history keeps what a level holds
+pub run_keeps : (v : GroupValue) (cs : List (Call GroupOp GroupReply)) (w : GroupValue) (key : Key) (xs : List Admission)
+    → StandsFor lawful_call v cs w → Keeps (level_of v.budget key) v.budget.reading xs
+    → Keeps (level_of w.budget key) w.budget.reading (admissions key.dim v cs xs)
+run_keeps v [] w key xs stands keeps =
+    subst (λ (x : GroupValue). Keeps (level_of x.budget key) x.budget.reading xs) stands keeps
+run_keeps v (c ∷ cs) w key xs stands keeps =
+    run_keeps (after v c.op c.reply) cs w key (counted key.dim v c.op c.reply xs) (stands_rest v c cs w stands)
+    (answer_keeps v c.op c.reply key xs stands.1.1.0 keeps)
+
+pub fresh_keeps : (cs : List (Call GroupOp GroupReply)) (v : GroupValue) (key : Key) → StandsForFresh cs v
+    → Keeps (level_of v.budget key) v.budget.reading (admissions key.dim fresh cs [])
+fresh_keeps cs v key stands = run_keeps fresh cs v key [] stands (keeps_opened unlimited key.dim key.which)
 
 -- a level has the rate and the bucket of this pair, or is no limit where there is no pair
 pub record Counts (b : LevelValue) (x : Limit) (which : Which) : Type 0 where
@@ -327,17 +336,18 @@ answer_counts v (Queue m d n) (Ticket t) l key may counts = counts
 answer_counts v (Withdraw t) Withdrawn l key may counts = counts
 answer_counts v _ _ l key may counts = counts
 
-pub run_counts : (v : GroupValue) (es : List Entry) (l : Limits) (key : Key) → Runs v es →
-    Counts (level_of v.budget key) (limit_of l key.dim) key.which →
-    Counts (level_of (left_by v es).budget key) (limit_of (last_set l es) key.dim) key.which
-run_counts v [] l key runs counts = counts
-run_counts v (e ∷ es) l key runs counts =
-    run_counts (after v e.op e.reply) es (set_by l e.op e.reply) key runs.2
-    (answer_counts v e.op e.reply l key runs.1 counts)
+pub run_counts : (v : GroupValue) (cs : List (Call GroupOp GroupReply)) (w : GroupValue) (l : Limits) (key : Key)
+    → StandsFor lawful_call v cs w → Counts (level_of v.budget key) (limit_of l key.dim) key.which
+    → Counts (level_of w.budget key) (limit_of (last_set l cs) key.dim) key.which
+run_counts v [] w l key stands counts =
+    subst (λ (x : GroupValue). Counts (level_of x.budget key) (limit_of l key.dim) key.which) stands counts
+run_counts v (c ∷ cs) w l key stands counts =
+    run_counts (after v c.op c.reply) cs w (set_by l c.op c.reply) key (stands_rest v c cs w stands)
+    (answer_counts v c.op c.reply l key stands.1.1.0 counts)
 
-pub fresh_counts : (es : List Entry) (key : Key) → Runs fresh es →
-    Counts (level_of (left_by fresh es).budget key) (limit_of (last_set unlimited es) key.dim) key.which
-fresh_counts es key runs = run_counts fresh es unlimited key runs (opened_counts unlimited key.dim key.which refl)
+pub fresh_counts : (cs : List (Call GroupOp GroupReply)) (v : GroupValue) (key : Key) → StandsForFresh cs v
+    → Counts (level_of v.budget key) (limit_of (last_set unlimited cs) key.dim) key.which
+fresh_counts cs v key stands = run_counts fresh cs v unlimited key stands (opened_counts unlimited key.dim key.which refl)
 
 -- and so is the size of operations
 pub answer_size : (v : GroupValue) (op : GroupOp) (reply : GroupReply) (l : Limits) → v.budget.iops_size ≡ l.iops_size →
@@ -352,10 +362,11 @@ answer_size v (Queue m d n) (Ticket t) l e = e
 answer_size v (Withdraw t) Withdrawn l e = e
 answer_size v _ _ l e = e
 
-pub run_size : (v : GroupValue) (es : List Entry) (l : Limits) → v.budget.iops_size ≡ l.iops_size →
-    (left_by v es).budget.iops_size ≡ (last_set l es).iops_size
-run_size v [] l e = e
-run_size v (y ∷ es) l e = run_size (after v y.op y.reply) es (set_by l y.op y.reply) (answer_size v y.op y.reply l e)
+pub run_size : (v : GroupValue) (cs : List (Call GroupOp GroupReply)) (w : GroupValue) (l : Limits)
+    → StandsFor lawful_call v cs w → v.budget.iops_size ≡ l.iops_size → w.budget.iops_size ≡ (last_set l cs).iops_size
+run_size v [] w l stands e = ap (λ (x : GroupValue). x.budget.iops_size) (sym stands) ∙ e
+run_size v (c ∷ cs) w l stands e =
+    run_size (after v c.op c.reply) cs w (set_by l c.op c.reply) (stands_rest v c cs w stands) (answer_size v c.op c.reply l e)
 
 -- a level that is a limit asks for what its admissions ask for, and any other for nothing
 pub some_asks : (b : LevelValue) (reading : ℕ) (xs : List Admission) (r : ℕ) → reading ≤ r → Keeps b reading xs →
@@ -368,7 +379,7 @@ some_asks b reading xs r later keeps some = go (b.rate == 0) refl
     go : (z : Bool) → (b.rate == 0) ≡ z →
         cond z 0 (div_ceil (level_at b (max b.last r) - b.bucket) b.rate) ≡ div_ceil (owed b.rate xs r - b.bucket) b.rate
     go true e = absurd (some (grind (arith, nat_tests)))
-    go false e = rw (now, (keeps.stands some).owes r (omega (arith, keeps.last))) refl
+    go false e = rw (now, (keeps.is_owed some).owes r (omega (arith, keeps.last))) refl
 
 pub none_asks : (b : LevelValue) (r : ℕ) → b.rate ≡ 0 → wait_at b r ≡ 0
 none_asks b r none = go (b.rate == 0) refl
@@ -394,7 +405,7 @@ pub goes : (b : LevelValue) (reading : ℕ) (xs : List Admission) (r : ℕ) → 
 goes b reading xs r later keeps none some =
     let now : max b.last r ≡ r = omega (arith, keeps.last) in
     let within : level_at b (max b.last r) ≤ b.bucket = below_bucket b r some none in
-    rw (← (keeps.stands some).owes r (omega (arith, keeps.last))) (rw now at within)
+    rw (← (keeps.is_owed some).owes r (omega (arith, keeps.last))) (rw now at within)
 
 pub pair_goes : (b : LevelValue) (x : Limit) (which : Which) (reading : ℕ) (xs : List Admission) (r : ℕ) → reading ≤ r →
     Keeps b reading xs → Counts b x which → wait_at b r ≡ 0 → IsTrue (has_pair x which) → owed (rate_of x which) xs r ≤ capacity x which
@@ -457,7 +468,10 @@ answer_reading v (Queue m d n) (Ticket t) xs e = e
 answer_reading v (Withdraw t) Withdrawn xs e = e
 answer_reading v _ _ xs e = e
 
-pub run_reading : (v : GroupValue) (es : List Entry) (xs : List Admission) → v.budget.reading ≡ greatest_reading xs →
-    (left_by v es).budget.reading ≡ greatest_reading (admissions BpsTotal v es xs)
-run_reading v [] xs e = e
-run_reading v (y ∷ es) xs e = run_reading (after v y.op y.reply) es (counted BpsTotal v y.op y.reply xs) (answer_reading v y.op y.reply xs e)
+pub run_reading : (v : GroupValue) (cs : List (Call GroupOp GroupReply)) (w : GroupValue) (xs : List Admission)
+    → StandsFor lawful_call v cs w → v.budget.reading ≡ greatest_reading xs
+    → w.budget.reading ≡ greatest_reading (admissions BpsTotal v cs xs)
+run_reading v [] w xs stands e = ap (λ (x : GroupValue). x.budget.reading) (sym stands) ∙ e
+run_reading v (c ∷ cs) w xs stands e =
+    run_reading (after v c.op c.reply) cs w (counted BpsTotal v c.op c.reply xs) (stands_rest v c cs w stands)
+    (answer_reading v c.op c.reply xs e)

@@ -8,12 +8,14 @@ use Rattle.qs_part.specs.declared.group.GroupOp.{GroupOp}
 use Rattle.qs_part.specs.declared.group.GroupOp.TheVariants.{Queue, Admit, Withdraw, Set as SetTo}
 use Rattle.qs_part.specs.declared.group.GroupReply.{GroupReply}
 use Rattle.qs_part.specs.declared.group.GroupReply.TheVariants.{Ticket, Wait, Go, Withdrawn, Set as IsSet}
+use Rattle.qs_part.specs.Histories.{Call}
+use Rattle.qs_part.proofs.Histories.{stands_keeps}
 use Rattle.qs_group.specs.declared.queue.Queued.{Queued}
 use Rattle.qs_group.specs.Budget.{wait_for, reading_at}
 use Rattle.qs_group.specs.Queue.{has_ticket, ticket_at, without, same_dir, is_of, Queues, ticket_or, round, IsTurn}
 use Rattle.qs_group.specs.Turns.{turn_of, passed_on}
 use Rattle.qs_group.specs.Table.{GroupValue, fresh, Fits, passed, after, IsNext, MayAdmit, May}
-use Rattle.qs_group.specs.History.{Entry, Runs, left_by}
+use Rattle.qs_group.specs.History.{lawful_call, StandsForFresh}
 use Rattle.qs_group.specs.Served.{Serves, WaitsIn, OneServed}
 use Rattle.qs_group.proofs.Tickets.{length_without}
 use Rattle.qs_group.proofs.Lookups.{is_of_is, is_of_self, same_dir_is, same_dir_not, queues_front, found_queues}
@@ -113,12 +115,11 @@ answer_sound v (Withdraw t) Withdrawn fits may sound = record {
 answer_sound v (SetTo l) IsSet fits may sound = record { tickets = tt; room = omega arith; read_turn = lit< tt; write_turn = lit< tt }
 answer_sound v _ _ fits may sound = sound
 
-pub run_sound : (v : GroupValue) (es : List Entry) → Runs v es → IsSound v → IsSound (left_by v es)
-run_sound v [] runs sound = sound
-run_sound v (e ∷ es) runs sound = run_sound (after v e.op e.reply) es runs.2 (answer_sound v e.op e.reply runs.0 runs.1 sound)
-
-pub fresh_sound : (es : List Entry) → Runs fresh es → IsSound (left_by fresh es)
-fresh_sound es runs = run_sound fresh es runs (record { tickets = tt; room = omega arith; read_turn = lit< tt; write_turn = lit< tt })
+pub fresh_sound : (cs : List (Call GroupOp GroupReply)) (v : GroupValue) → StandsForFresh cs v → IsSound v
+fresh_sound cs v stands =
+    stands_keeps lawful_call IsSound
+    (λ old op reply new call sound. subst IsSound (sym call.1.1) (answer_sound old op reply call.0 call.1.0 sound))
+    fresh cs v stands (record { tickets = tt; room = omega arith; read_turn = lit< tt; write_turn = lit< tt })
 
 pub turn_below : (v : GroupValue) (d : Dir) → IsSound v → turn_of v.turns d < 64
 turn_below v Read sound = sound.read_turn

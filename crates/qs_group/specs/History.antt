@@ -10,37 +10,31 @@ use Rattle.qs_part.specs.declared.limits.Dim.{Dim}
 use Rattle.qs_part.specs.declared.limits.Limit.{Limit}
 use Rattle.qs_part.specs.declared.limits.Limits.{Limits}
 use Rattle.qs_part.specs.Limits.{limit_of}
+use Rattle.qs_part.specs.Histories.{Call, lawful, StandsFor}
 use Rattle.qs_bucket.specs.Admissions.{Admission, owed}
 use Rattle.qs_bucket.specs.Bucket.{first_wait}
 use Rattle.qs_group.specs.declared.queue.Queued.{Queued}
 use Rattle.qs_group.specs.Budget.{Which, First, Second, has_pair, rate_of, capacity, reading_at}
 use Rattle.qs_group.specs.Queue.{ticket_at}
 use Rattle.qs_group.specs.Levels.{Key, applies, units_for}
-use Rattle.qs_group.specs.Table.{GroupValue, Fits, May, after}
+use Rattle.qs_group.specs.Table.{GroupValue, fresh, Fits, after, answers}
 
--- an operation and its answer
-pub record Entry : Type 0 where
-  pub op : GroupOp
-  pub reply : GroupReply
+-- a call that may be: the operation fits and the answer may come; nothing is fixed about a group
+abbrev pub lawful_call : GroupValue → GroupOp → GroupReply → GroupValue → Type 0
+lawful_call = lawful (λ (v : GroupValue). tt) (λ (fixed : Unit {0}) op. Fits op) answers
 
--- each answer may come where the ones before it left the group
-abbrev pub Runs : GroupValue → List Entry → Type 0
-Runs v [] = Unit {0}
-Runs v (e ∷ es) = Fits e.op × May v e.op e.reply × Runs (after v e.op e.reply) es
-
--- the group after a history
-abbrev pub left_by : GroupValue → List Entry → GroupValue
-left_by v [] = v
-left_by v (e ∷ es) = left_by (after v e.op e.reply) es
+-- a group stands for a history of a new one
+abbrev pub StandsForFresh : List (Call GroupOp GroupReply) → GroupValue → Type 0
+StandsForFresh cs v = StandsFor lawful_call fresh cs v
 
 -- the limits of the last Set
 abbrev pub set_by : Limits → GroupOp → GroupReply → Limits
 set_by old (SetTo l) IsSet = l
 set_by old _ _ = old
 
-abbrev pub last_set : Limits → List Entry → Limits
+abbrev pub last_set : Limits → List (Call GroupOp GroupReply) → Limits
 last_set l [] = l
-last_set l (e ∷ es) = last_set (set_by l e.op e.reply) es
+last_set l (c ∷ cs) = last_set (set_by l c.op c.reply) cs
 
 -- a request that goes is one admission more of a limit that applies to it
 abbrev pub counted_go : Dim → GroupValue → Option Queued → ℕ → List Admission → List Admission
@@ -55,9 +49,9 @@ counted dim v (SetTo l) IsSet xs = []
 counted dim v _ _ xs = xs
 
 -- the admissions of a limit since the last Set
-abbrev pub admissions : Dim → GroupValue → List Entry → List Admission → List Admission
+abbrev pub admissions : Dim → GroupValue → List (Call GroupOp GroupReply) → List Admission → List Admission
 admissions dim v [] xs = xs
-admissions dim v (e ∷ es) xs = admissions dim (after v e.op e.reply) es (counted dim v e.op e.reply xs)
+admissions dim v (c ∷ cs) xs = admissions dim (after v c.op c.reply) cs (counted dim v c.op c.reply xs)
 
 -- the greatest reading of admissions, or 0
 abbrev pub greatest_reading : List Admission → ℕ

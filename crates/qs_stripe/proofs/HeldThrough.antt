@@ -9,9 +9,11 @@ use Rattle.qs_part.specs.declared.stripe.StripeOp.{StripeOp}
 use Rattle.qs_part.specs.declared.stripe.StripeOp.TheVariants.{Load, Hold, Store, Free}
 use Rattle.qs_part.specs.declared.stripe.StripeReply.{StripeReply}
 use Rattle.qs_part.specs.declared.stripe.StripeReply.TheVariants.{Filled, Fault, HeldBy, Taken, Done, Freed, NotHeld}
+use Rattle.qs_part.specs.Histories.{Call, lawful, StandsFor}
+use Rattle.qs_part.proofs.Histories.{stands_split}
 use Rattle.qs_stripe.specs.Holds.{IsHeld, Takes, LetsGo}
-use Rattle.qs_stripe.specs.Table.{StripeValue, answers}
-use Rattle.qs_stripe.specs.History.{Entry, Runs, BeginsHold, EndsHold, WritesBlock}
+use Rattle.qs_stripe.specs.Table.{StripeValue, Fits, answers, geometry}
+use Rattle.qs_stripe.specs.History.{BeginsHold, EndsHold, WritesBlock, HeldIn}
 
 abbrev IsHead : Side → Type 0
 IsHead Head = Unit {0}
@@ -105,22 +107,19 @@ only-holder k b j old (Store c i buf) (Fault (Some back)) new row held other is 
 only-holder k b j old (Store c i buf) (Fault None) new row held other is = row
 only-holder k b j old _ _ new row held other is = is
 
--- a later part of a history is one
-behind : (v : StripeValue) (before rest : List Entry) → Runs v (before ++ rest) → (w : StripeValue) × Runs w rest
-behind v [] rest runs = (v, runs)
-behind v (e ∷ es) rest runs = behind e.left es rest runs.2
+-- a hold stands behind calls that don't end it
+through : (k b : ℕ) (v : StripeValue) (between : List (Call StripeOp StripeReply)) (w : StripeValue)
+    → StandsFor (lawful geometry Fits answers) v between w → AllByRecursion (λ c. EndsHold k b c.op c.reply → ⊥) between
+    → IsHeld v.hold k b → IsHeld w.hold k b
+through k b v [] w stands all held = subst (λ (x : StripeValue). IsHeld x.hold k b) stands held
+through k b v (c ∷ cs) w stands all held =
+    through k b stands.0 cs w stands.2 all.1 (step-keeps k b v c.op c.reply stands.0 stands.1.1 all.0 held)
 
-through : (k b : ℕ) (v : StripeValue) (between rest : List Entry) → Runs v (between ++ rest) → AllByRecursion (λ e. EndsHold k b e.op e.reply → ⊥) between
-    → IsHeld v.hold k b → (w : StripeValue) × (Runs w rest × IsHeld w.hold k b)
-through k b v [] rest runs all held = (v, (runs, held))
-through k b v (e ∷ es) rest runs all held =
-    through k b e.left es rest runs.2 all.1 (step-keeps k b v e.op e.reply e.left runs.1 all.0 held)
-
-pub no_other_writes : (v : StripeValue) (before between after : List Entry) (first last : Entry) (b j k : ℕ)
-    → Runs v (before ++ (first ∷ (between ++ last ∷ after))) → BeginsHold k b first.op first.reply
-    → AllByRecursion (λ e. EndsHold k b e.op e.reply → ⊥) between → j ≢ k → WritesBlock j b last.op last.reply → ⊥
-no_other_writes v before between after first last b j k runs begun all other writes =
-    let from = behind v before (first ∷ (between ++ last ∷ after)) runs in
-    let held = begins k b from.0 first.op first.reply first.left from.1.1 begun in
-    let at = through k b first.left between (last ∷ after) from.1.2 all held in
-    only-holder k b j at.0 last.op last.reply last.left at.1.0.1 at.1.1 other writes
+pub held_in : (opening : StripeValue) (cs : List (Call StripeOp StripeReply)) (v : StripeValue)
+    → StandsFor (lawful geometry Fits answers) opening cs v → HeldIn cs
+held_in opening cs v stands before between after first last b j k is begun all other writes =
+    let whole = subst (λ (l : List (Call StripeOp StripeReply)). StandsFor (lawful geometry Fits answers) opening l v) is stands in
+    let front = stands_split (lawful geometry Fits answers) opening before (first ∷ (between ++ last ∷ after)) v whole in
+    let middle = stands_split (lawful geometry Fits answers) front.2.0 between (last ∷ after) v front.2.2 in
+    let held = begins k b front.0 first.op first.reply front.2.0 front.2.1.1 begun in
+    only-holder k b j middle.0 last.op last.reply middle.2.0 middle.2.1.1 (through k b front.2.0 between middle.0 middle.1 all held) other writes

@@ -1,21 +1,11 @@
 -- Histories of a stripe, and the holds in them.
-use Rattle.std.specs.Prelude.{◌≡◌, ℕ, List, [], ◌∷◌}
+use Rattle.std.specs.Prelude.{◌≡◌, ◌≢◌, ℕ, List, ◌∷◌, ◌++◌}
+use Rattle.std.specs.List.{AllByRecursion}
 use Rattle.qs_part.specs.declared.stripe.StripeOp.{StripeOp}
 use Rattle.qs_part.specs.declared.stripe.StripeOp.TheVariants.{Hold, Store, Free}
 use Rattle.qs_part.specs.declared.stripe.StripeReply.{StripeReply}
 use Rattle.qs_part.specs.declared.stripe.StripeReply.TheVariants.{Filled, Fault, Done, Freed}
-use Rattle.qs_stripe.specs.Table.{StripeValue, Fits, answers, geometry}
-
--- an operation, its answer, and the stripe behind it
-pub record Entry : Type 0 where
-  pub op : StripeOp
-  pub reply : StripeReply
-  pub left : StripeValue
-
--- each answer may come where the ones before it left the stripe
-abbrev pub Runs : StripeValue → List Entry → Type 0
-Runs v [] = Unit {0}
-Runs v (e ∷ es) = Fits (geometry v) e.op × answers v e.op e.reply e.left × Runs e.left es
+use Rattle.qs_part.specs.Histories.{Call}
 
 -- k gets a hold of b
 abbrev pub BeginsHold : ℕ → ℕ → StripeOp → StripeReply → Type 0
@@ -32,3 +22,12 @@ WritesBlock k b _ _ = ⊥
 abbrev pub EndsHold : ℕ → ℕ → StripeOp → StripeReply → Type 0
 EndsHold k b (Free c j) Freed = (c ≡ b) × (j ≡ k)
 EndsHold k b op reply = WritesBlock k b op reply
+
+-- in a history, between a hold of block b by place k and the store or free of k that ends it, no store of b by another
+-- place is done or reaches the disk
+abbrev pub HeldIn : List (Call StripeOp StripeReply) → Type 0
+HeldIn cs = (before between after : List (Call StripeOp StripeReply)) (first last : Call StripeOp StripeReply) (b j k : ℕ)
+    → cs ≡ before ++ (first ∷ (between ++ last ∷ after))
+    → BeginsHold k b first.op first.reply
+    → AllByRecursion (λ c. EndsHold k b c.op c.reply → ⊥) between
+    → j ≢ k → WritesBlock j b last.op last.reply → ⊥

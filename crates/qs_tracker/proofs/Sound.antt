@@ -1,5 +1,5 @@
 -- What holds of a tracker in every history.
-use Rattle.std.proofs.Common.{◌≡◌, ℕ, ◌+◌, ◌-◌, ◌^◌, ◌<◌, ◌≤◌, zero, suc, List, [], ◌∷◌, length, replicate, Bool, true, false, cond, refl, sym, ◌∙◌, ap, subst, inl, inr, ◌⊎◌, arith}
+use Rattle.std.proofs.Common.{◌≡◌, ℕ, ◌+◌, ◌-◌, ◌^◌, ◌<◌, ◌≤◌, zero, suc, List, length, replicate, Bool, true, false, cond, refl, sym, ◌∙◌, ap, subst, inl, inr, ◌⊎◌, arith}
 use Rattle.std.specs.Prelude.{nat_lt, nat_le, IsTrue, count_by}
 use Rattle.std.proofs.lemmas.Bool.Decides.{nat_tests}
 use Rattle.std.proofs.Math.ListN.{get_or-map}
@@ -9,12 +9,14 @@ use Rattle.qs_part.specs.declared.tracker.TrackerOp.{TrackerOp}
 use Rattle.qs_part.specs.declared.tracker.TrackerOp.TheVariants.{Enter, List as ToList, Start, End, Quiesce, Resume}
 use Rattle.qs_part.specs.declared.tracker.TrackerReply.{TrackerReply}
 use Rattle.qs_part.specs.declared.tracker.TrackerReply.TheVariants.{Entered, Listed, Started, Ended, Stopped, Resumed}
+use Rattle.qs_part.specs.Histories.{Call}
+use Rattle.qs_part.proofs.Histories.{stands_keeps}
 use Rattle.qs_tracker.specs.declared.seat.Listing.{Listing}
 use Rattle.qs_tracker.specs.declared.seat.Seat.{Seat}
 use Rattle.qs_tracker.specs.declared.seat.Seat.TheVariants.{Vacant, Present, Has}
 use Rattle.qs_tracker.specs.Seats.{Conflict, seat_at, is_listed, Precedes, IsClear, rank, ranked, renumbered}
 use Rattle.qs_tracker.specs.Table.{TrackerValue, fresh, numbered, placed, listed, going, MayStart, May, after}
-use Rattle.qs_tracker.specs.History.{Entry, Runs, left_by, IsListed, Goes, IsLowest}
+use Rattle.qs_tracker.specs.History.{lawful_call, StandsForFresh, IsListed, Goes, IsLowest}
 use Rattle.qs_tracker.proofs.Seats.{at_set, nobody}
 use Rattle.qs_tracker.proofs.Lowest.{one_more}
 use Rattle.qs_tracker.proofs.Ranks.{rank_le, rank_lt, rank_below, inside}
@@ -231,12 +233,10 @@ after_sound v Quiesce Stopped sound may = record { size = sound.size; below = so
 after_sound v Resume Resumed sound may = record { size = sound.size; below = sound.below; one = sound.one; clear = sound.clear }
 after_sound v _ _ sound may = sound
 
-pub run_sound : (v : TrackerValue) (es : List Entry) → Sound v → Runs v es → Sound (left_by v es)
-run_sound v [] sound runs = sound
-run_sound v (e ∷ es) sound runs = run_sound (after v e.op e.reply) es (after_sound v e.op e.reply sound runs.1) runs.2
-
-pub fresh_run : (n : ℕ) (es : List Entry) → Runs (fresh n) es → Sound (left_by (fresh n) es)
-fresh_run n es runs = run_sound (fresh n) es (fresh_sound n) runs
+pub fresh_stands : (first : ℕ) (cs : List (Call TrackerOp TrackerReply)) (v : TrackerValue) → StandsForFresh first cs v → Sound v
+fresh_stands first cs v stands =
+    stands_keeps lawful_call Sound (λ old op reply new call sound. subst Sound (sym call.1.1) (after_sound old op reply sound call.1.0))
+    (fresh first) cs v stands (fresh_sound first)
 
 -- conflict goes both ways
 pub conflict_back : (l m : Listing) → Conflict l m → Conflict m l

@@ -1,27 +1,21 @@
 -- Histories of a tracker.
-use Rattle.std.specs.Prelude.{◌≡◌, ◌↔◌, ℕ, ◌-◌, ◌^◌, ◌<◌, ◌≤◌, List, [], ◌∷◌, true}
+use Rattle.std.specs.Prelude.{◌≡◌, ◌↔◌, ℕ, ◌-◌, ◌^◌, ◌<◌, ◌≤◌, List, true}
 use Rattle.qs_part.specs.declared.tracker.TrackerOp.{TrackerOp}
 use Rattle.qs_part.specs.declared.tracker.TrackerReply.{TrackerReply}
+use Rattle.qs_part.specs.Histories.{Call, lawful, StandsFor}
 use Rattle.qs_tracker.specs.declared.seat.Listing.{Listing}
 use Rattle.qs_tracker.specs.declared.seat.Seat.{Seat}
 use Rattle.qs_tracker.specs.declared.seat.Seat.TheVariants.{Vacant, Present, Has}
 use Rattle.qs_tracker.specs.Seats.{seat_at}
-use Rattle.qs_tracker.specs.Table.{TrackerValue, Fits, May, after}
+use Rattle.qs_tracker.specs.Table.{TrackerValue, fresh, Fits, answers}
 
--- an operation and its answer
-pub record Entry : Type 0 where
-  pub op : TrackerOp
-  pub reply : TrackerReply
+-- a call that may be: the operation fits and the answer may come; nothing is fixed about a tracker
+abbrev pub lawful_call : TrackerValue → TrackerOp → TrackerReply → TrackerValue → Type 0
+lawful_call = lawful (λ (v : TrackerValue). tt) (λ (fixed : Unit {0}) op. Fits op) answers
 
--- each answer may come where the ones before it left the tracker
-abbrev pub Runs : TrackerValue → List Entry → Type 0
-Runs v [] = Unit {0}
-Runs v (e ∷ es) = Fits e.op × May v e.op e.reply × Runs (after v e.op e.reply) es
-
--- the tracker after a history
-abbrev pub left_by : TrackerValue → List Entry → TrackerValue
-left_by v [] = v
-left_by v (e ∷ es) = left_by (after v e.op e.reply) es
+-- a tracker stands for a history of a fresh one, whose numbers begin at first
+abbrev pub StandsForFresh : ℕ → List (Call TrackerOp TrackerReply) → TrackerValue → Type 0
+StandsForFresh first cs v = StandsFor lawful_call (fresh first) cs v
 
 -- this span is listed at place k
 abbrev pub IsListed : TrackerValue → ℕ → Listing → Type 0

@@ -1,10 +1,11 @@
 //! A stripe behind a turn, called by two threads.
 ghost use Rattle.std.specs.Prelude.{◌≡◌, ◌↔◌, ◌+◌, ◌++◌, true, false, [], ◌∷◌, IfOk, IsTrue, List};
 ghost use Rattle.qs_part.specs.Histories.{call, lawful, StandsFor};
+ghost use Rattle.qs_stripe.specs.History.{HeldIn};
 ghost use Rattle.qs_stripe.specs.Table.{Fits};
 ghost use Rattle.qs_turn.specs.Orders.{Merges};
 ghost use Rattle.qs_turn.specs.Words.{opening, seen, own, out, is_first, IsPassOf};
-ghost use Rattle.qs_turn_uses.specs.Stripes.{stripe_answers, stripe_fixed, HeldIn, MadeTwo};
+ghost use Rattle.qs_turn_uses.specs.Stripes.{stripe_answers, stripe_fixed, MadeTwo};
 
 use qs_bytes::Memory;
 use qs_outside::MemDisk;

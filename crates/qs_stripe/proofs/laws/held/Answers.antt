@@ -1,5 +1,5 @@
-use Rattle.qs_stripe.proofs.HeldThrough.{no_other_writes}
+use Rattle.qs_stripe.proofs.HeldThrough.{held_in}
 use Rattle.qs_stripe.proofs.laws.held.Goals as goal
 
 pub returns : goal.returns
-returns c v before between after first last b j k runs begun all other writes = no_other_writes v before between after first last b j k runs begun all other writes
+returns c opening cs v stands = held_in opening cs v stands
