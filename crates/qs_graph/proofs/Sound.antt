@@ -13,23 +13,23 @@ use Rattle.qs_graph.specs.declared.export.Export.{Export}
 use Rattle.qs_graph.specs.declared.export.Right.{Right}
 use Rattle.qs_graph.specs.Exports.{clients_of, counted, export_at, is_vacant, made, shares, takes}
 use Rattle.qs_graph.specs.Table.{GraphValue, Fits, IsShared, May, after, answers, fresh, placed, route_of}
-use Rattle.qs_graph.specs.History.{lawful_call, StandsForFresh, IsAllowed, SameExport, Stands}
+use Rattle.qs_graph.specs.History.{lawful_call, StandsForFresh, IsAllowed, SameExport, StandsAt}
 use Rattle.qs_graph.proofs.Standing.{at_set, nobody, none_against, none_not, same_export}
 use Rattle.qs_graph.proofs.Rights.{same-shares, same-takes, same-writable, together}
 
 -- an export stood at this place before, with some number of clients
 abbrev pub Before : GraphValue → ℕ → Export → Type 0
-Before v e y = (x : Export) × (Stands v e x × SameExport x y)
+Before v e y = (x : Export) × (StandsAt v e x × SameExport x y)
 
 -- an export stands at this place still, with some number of clients
 abbrev pub Still : GraphValue → ℕ → Export → Type 0
-Still v e x = (y : Export) × (Stands v e y × SameExport x y)
+Still v e x = (y : Export) × (StandsAt v e y × SameExport x y)
 
 pub same_more : (x y z : Export) → SameExport x y → SameExport y z → SameExport x z
 same_more x y z a b = b ∙ ap (λ (t : Export). record t { clients = z.clients }) a
 
 -- a place with another number of clients
-pub counted_before : (v : GraphValue) (k n e : ℕ) (y : Export) → Stands (placed v k (counted (export_at v.places k) n)) e y → Before v e y
+pub counted_before : (v : GraphValue) (k n e : ℕ) (y : Export) → StandsAt (placed v k (counted (export_at v.places k) n)) e y → Before v e y
 counted_before v k n e y =
     at_set (λ (p : Option Export). p ≡ Some y → Before v e y) v.places k (counted (export_at v.places k) n) e
     (λ at. (y, (at, refl))) (λ same. here (export_at v.places k) (ap (export_at v.places) same))
@@ -40,7 +40,7 @@ counted_before v k n e y =
         let same : record x { clients = n } ≡ y = same_export (record x { clients = n }) y is in
         (x, (at, sym same ∙ ap (λ (m : ℕ). record x { clients = m }) (ap (λ (t : Export). t.clients) same)))
 
-pub counted_still : (v : GraphValue) (k n e : ℕ) (x : Export) → Stands v e x → Still (placed v k (counted (export_at v.places k) n)) e x
+pub counted_still : (v : GraphValue) (k n e : ℕ) (x : Export) → StandsAt v e x → Still (placed v k (counted (export_at v.places k) n)) e x
 counted_still v k n e x at =
     at_set (λ (p : Option Export). (y : Export) × ((p ≡ Some y) × SameExport x y)) v.places k (counted (export_at v.places k) n) e
     (x, (at, refl)) (λ same. here (export_at v.places k) (sym (ap (export_at v.places) same) ∙ at))
@@ -52,7 +52,7 @@ counted_still v k n e x at =
         (record z { clients = n }, (refl, ap (λ (t : Export). record t { clients = n }) same))
 
 -- where each standing export stood before, the graph is still allowed
-pub kept_allowed : (v w : GraphValue) → w.read_only ≡ v.read_only → ((e : ℕ) (y : Export) → Stands w e y → Before v e y) →
+pub kept_allowed : (v w : GraphValue) → w.read_only ≡ v.read_only → ((e : ℕ) (y : Export) → StandsAt w e y → Before v e y) →
     IsAllowed v → IsAllowed w
 kept_allowed v w file before ok = record {
   shared = λ d e x y right apart a b h. shared d e x y right apart (before d x a) (before e y b) h;
@@ -69,9 +69,9 @@ kept_allowed v w file before ok = record {
 
 -- a new export, or one that stood before
 abbrev pub NewOrOld : GraphValue → ℕ → Export → ℕ → Export → Type 0
-NewOrOld v k x e y = Stands v e y ⊎ ((e ≡ k) × (x ≡ y))
+NewOrOld v k x e y = StandsAt v e y ⊎ ((e ≡ k) × (x ≡ y))
 
-pub placed_was : (v : GraphValue) (k : ℕ) (x : Export) (e : ℕ) (y : Export) → Stands (placed v k (Some x)) e y → NewOrOld v k x e y
+pub placed_was : (v : GraphValue) (k : ℕ) (x : Export) (e : ℕ) (y : Export) → StandsAt (placed v k (Some x)) e y → NewOrOld v k x e y
 placed_was v k x e y =
     at_set (λ (p : Option Export). p ≡ Some y → NewOrOld v k x e y) v.places k (Some x) e
     (λ at. inl at) (λ same is. inr (same, same_export x y is))
@@ -130,7 +130,7 @@ pub stands_size : (opening : GraphValue) (cs : List (Call GraphOp GraphReply)) (
 stands_size opening cs v stands = stands_fixed (λ (g : GraphValue). g.size) Fits answers opening cs v stands
 
 -- each answer leaves an export where it stands
-pub placed_still : (v : GraphValue) (k : ℕ) (p : Option Export) (e : ℕ) (x : Export) → position is_vacant v.places ≡ Some k → Stands v e x →
+pub placed_still : (v : GraphValue) (k : ℕ) (p : Option Export) (e : ℕ) (x : Export) → position is_vacant v.places ≡ Some k → StandsAt v e x →
     Still (placed v k p) e x
 placed_still v k p e x free at =
     at_set (λ (q : Option Export). (y : Export) × ((q ≡ Some y) × SameExport x y)) v.places k p e
@@ -140,7 +140,7 @@ placed_still v k p e x free at =
     taken None is f = none_not x is
     taken (Some y) is f = cc
 
-pub after_still : (v : GraphValue) (op : GraphOp) (reply : GraphReply) (e : ℕ) (x : Export) → May v op reply → Stands v e x →
+pub after_still : (v : GraphValue) (op : GraphOp) (reply : GraphReply) (e : ℕ) (x : Export) → May v op reply → StandsAt v e x →
     Still (after v op reply) e x
 after_still v (ExportAdd id name node writable share) (Added k) e x may at =
     placed_still v k (Some (made id name writable share)) e x may.1 at
@@ -149,7 +149,7 @@ after_still v (Attach name) (Attached info) e x may at =
 after_still v (Detach k) Detached e x may at = counted_still v k (clients_of (export_at v.places k) - 1) e x at
 after_still v _ _ e x may at = (x, (at, refl))
 
-pub still_more : (v w : GraphValue) (e : ℕ) (x : Export) → ((y : Export) → Stands v e y → Still w e y) → Still v e x → Still w e x
+pub still_more : (v w : GraphValue) (e : ℕ) (x : Export) → ((y : Export) → StandsAt v e y → Still w e y) → Still v e x → Still w e x
 still_more v w e x later s = let t : Still w e s.0 = later s.0 s.1.0 in (t.0, (t.1.0, same_more x s.0 t.0 s.1.1 t.1.1))
 
 pub call_still : (e : ℕ) (x : Export) (old : GraphValue) (op : GraphOp) (reply : GraphReply) (new : GraphValue) → lawful_call old op reply new
@@ -159,12 +159,12 @@ call_still e x old op reply new call still =
     (λ y at. subst (λ (v : GraphValue). Still v e y) (sym call.1.1) (after_still old op reply e y call.1.0 at)) still
 
 pub stands_still : (opening : GraphValue) (cs : List (Call GraphOp GraphReply)) (v : GraphValue) (e : ℕ) (x : Export)
-    → StandsFor lawful_call opening cs v → Stands opening e x → Still v e x
+    → StandsFor lawful_call opening cs v → StandsAt opening e x → Still v e x
 stands_still opening cs v e x stands at =
     stands_keeps lawful_call (λ (w : GraphValue). Still w e x) (call_still e x) opening cs v stands (x, (at, refl))
 
 -- a Route answers for the export that stands there
-pub route_for : (v : GraphValue) (e : ℕ) (x : Export) (reply : GraphReply) → Stands v e x → May v (Route e) reply →
+pub route_for : (v : GraphValue) (e : ℕ) (x : Export) (reply : GraphReply) → StandsAt v e x → May v (Route e) reply →
     reply ≡ Routed (route_of v.size x)
 route_for v e x Shutting at may = absurd (none_not x (sym may ∙ at))
 route_for v e x (Routed way) at may =

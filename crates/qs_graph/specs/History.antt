@@ -17,15 +17,15 @@ abbrev pub StandsForFresh : ℕ → List ℕ → Bool → List (Call GraphOp Gra
 StandsForFresh size file read_only cs v = StandsFor lawful_call (fresh size file read_only) cs v
 
 -- this export stands at place e
-abbrev pub Stands : GraphValue → ℕ → Export → Type 0
-Stands v e x = export_at v.places e ≡ Some x
+abbrev pub StandsAt : GraphValue → ℕ → Export → Type 0
+StandsAt v e x = export_at v.places e ≡ Some x
 
 -- The graph is allowed: each export takes only what every other one shares, and none may be written
 -- over a read-only file.
 pub record IsAllowed (v : GraphValue) : Type 0 where
-  pub shared : (d e : ℕ) (x y : Export) (right : Right) → d ≢ e → Stands v d x → Stands v e y →
+  pub shared : (d e : ℕ) (x y : Export) (right : Right) → d ≢ e → StandsAt v d x → StandsAt v e y →
       IsTrue (takes x right) → IsTrue (shares y right)
-  pub writable : (e : ℕ) (x : Export) → Stands v e x → v.read_only ≡ true → x.writable ≡ false
+  pub writable : (e : ℕ) (x : Export) → StandsAt v e x → v.read_only ≡ true → x.writable ≡ false
 
 -- the same export, but for the number of its clients
 abbrev pub SameExport : Export → Export → Type 0

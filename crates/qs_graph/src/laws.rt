@@ -8,7 +8,7 @@ ghost use Rattle.qs_part.specs.declared.graph.GraphReply.TheVariants.{Routed};
 ghost use Rattle.qs_graph.specs.declared.export.Export.{Export as Standing};
 ghost use Rattle.qs_graph.specs.Exports.{conflicting_pair, first_against, standing};
 ghost use Rattle.qs_graph.specs.Table.{GraphValue, route_of, May};
-ghost use Rattle.qs_graph.specs.History.{lawful_call, StandsForFresh, IsAllowed, SameExport, Stands};
+ghost use Rattle.qs_graph.specs.History.{lawful_call, StandsForFresh, IsAllowed, SameExport, StandsAt};
 
 /// In every history of a new graph the graph is allowed.
 pub fn allowed()
@@ -35,8 +35,8 @@ pub fn inside()
 /// of that place answers for it.
 pub fn stays()
     ensures place { (opening : GraphValue) (cs : List (Call GraphOp GraphReply)) (v : GraphValue) (e : ℕ) (x : Standing) →
-        StandsFor lawful_call opening cs v → Stands opening e x → (y : Standing) × (Stands v e y × SameExport x y) }
+        StandsFor lawful_call opening cs v → StandsAt opening e x → (y : Standing) × (StandsAt v e y × SameExport x y) }
     ensures way { (opening : GraphValue) (cs : List (Call GraphOp GraphReply)) (v : GraphValue) (e : ℕ) (x : Standing)
-        (reply : GraphReply) → StandsFor lawful_call opening cs v → Stands opening e x →
+        (reply : GraphReply) → StandsFor lawful_call opening cs v → StandsAt opening e x →
         May v (Route e) reply → reply ≡ Routed (route_of opening.size x) }
 {}
