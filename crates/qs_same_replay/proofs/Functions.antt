@@ -1,51 +1,27 @@
 -- A replay is a function of its script and of what its disks held.
-use Rattle.std.proofs.Common.{◌≡◌, ◌⊎◌, ℕ, inl, inr, List, [], ◌∷◌, ◌++◌, map, refl, sym, subst, ap, ◌∙◌, append-nil}
+use Rattle.std.proofs.Common.{◌≡◌, ◌<◌, ◌≤◌, ℕ, inl, inr, List, [], ◌∷◌, ◌++◌, length, map, refl, sym, subst, ap, ◌∙◌, arith, append-nil, append_assoc, length-append}
 use Rattle.std.specs.Prelude.{Option, Some, IsTrue}
 use Rattle.qs_status.specs.declared.status.Status.{Status}
 use Rattle.qs_status.specs.declared.status.Status.TheVariants as status
 use Rattle.qs_outside.specs.Blocks.{Seen}
 use Rattle.qs_image.specs.Image.{align_of, block_now, disk}
-use Rattle.qs_model.specs.Worlds.{World}
+use Rattle.qs_model.specs.Acts.{Exported}
+use Rattle.qs_model.specs.Steps.{after, happens}
 use Rattle.qs_bytes.specs.Geometry.{stripe_of}
+use Rattle.qs_model.specs.Worlds.{World}
 use Rattle.qs_world.specs.Stands.{Stands}
 use Rattle.qs_world.specs.Values.{WorldValue}
 use Rattle.qs_world.proofs.Opening.{disk_of}
-use Rattle.qs_replay.specs.Calls.{Call, Plays}
-use Rattle.qs_replay.specs.Runs.{IsReplayed, most_lines, no_names, opened}
-use Rattle.qs_same_replay.specs.Same.{AreComparable, AreSame, IsCalmDone, IsSmooth}
-use Rattle.qs_replay.specs.Scripts.{AllDone, Ends, ReachesLine, lines_of}
+use Rattle.qs_replay.specs.Calls.{AreCalls, Call, Plays}
+use Rattle.qs_replay.specs.Runs.{IsReplayed, export, most_lines, no_names, opened}
+use Rattle.qs_same_replay.specs.Same.{AreCalm, AreComparable, AreSame, IsSmooth}
+use Rattle.qs_replay.specs.Scripts.{AllDone, Ends, ReachesLine, Replays, lines_of}
 use Rattle.qs_replay.specs.Tables.{Names}
 use Rattle.qs_replay.proofs.Reaching.{splits_of}
-use Rattle.qs_same_replay.proofs.TwinFronts.{More, Side, ends_one, fronts, further_never}
-use Rattle.qs_same_replay.proofs.TwinLines.{twin_texts}
-use Rattle.qs_same_replay.proofs.TwinStarts.{never, twins_begin}
-use Rattle.qs_same_replay.proofs.Twins.{NeverOddFrom, Twins}
-
--- twins, the other way round
-twins_flip : {D : Type 0} (seen : D → Seen) (A : ℕ) (o o' : World) (w w' : WorldValue D) → Twins seen A o o' w w' → Twins seen A o' o w' w
-twins_flip seen A o o' w w' t = record {
-  model = t.model_too;
-  model_too = t.model;
-  reached = t.reached_too;
-  reached_too = t.reached;
-  stands = t.stands_too;
-  stands_too = t.stands;
-  alike = record {
-    tells = sym t.alike.tells;
-    next = sym t.alike.next;
-    req = λ r. sym (t.alike.req r);
-    session = λ s. sym (t.alike.session s);
-    graph = sym t.alike.graph;
-    clients = λ e. sym (t.alike.clients e);
-    tracker = sym t.alike.tracker;
-    now = λ b. sym (t.alike.now b);
-    holder = λ b. sym (t.alike.holder b);
-    plans = λ j. sym (t.alike.plans j);
-  };
-  tells = t.alike.tells ∙ t.tells;
-  align = t.align_too;
-  align_too = t.align;
-}
+use Rattle.qs_same_replay.proofs.TwinFronts.{Ended, ends_one, fronts, further_never}
+use Rattle.qs_same_replay.proofs.TwinLines.{Behind, given_calls, twin_texts}
+use Rattle.qs_same_replay.proofs.TwinStarts.{twins_begin}
+use Rattle.qs_same_replay.proofs.Twins.{Calmly, Twins, calm_parts, calmly, never_later}
 
 -- the lines that were done are the first of the script
 first_lines : {D : Type 0} (result : Status) (budget : ℕ) (lines texts : List (List ℕ)) (w : WorldValue D) (t : Names) → ReachesLine result budget lines texts w t →
@@ -74,99 +50,144 @@ held : {D : Type 0} (seen : D → Seen) (w : WorldValue D) (m : World) (disks : 
 held {D} seen w m disks stands told is b =
     ap (λ (ds : List D). (disk (map seen ds) (stripe_of b)).now b) is ∙ sym (ap (λ (d : Seen). d.now b) (disk_of seen w.stripes (stripe_of b))) ∙ sym (stands.image.now told b)
 
--- one side of the comparison
+-- One side of the comparison: how it ended, and the calm run of the model from the core with its export to what the core stands for.
+record Side {D : Type 0} {seen : D → Seen} {disks : List D} {left sent : Option (List ℕ)} {result : Status} {disks1 : List D} {left1 sent1 : Option (List ℕ)}
+    (one : IsReplayed seen disks left sent result disks1 left1 sent1) (A : ℕ) (m : World) (script : List ℕ) : Type 0 where
+  pub ended : Ended script (lines_of script) most_lines one.replays.texts one.replays.world one.replays.names result
+  pub model : World
+  pub calm : Calmly A m one.replays.calls model
+  pub stands : Stands seen one.replays.world model
+  pub disks_are : disks1 ≡ map (λ s. s.disk) one.replays.world.stripes
+
 side : {D : Type 0} {seen : D → Seen} {disks : List D} {left sent : Option (List ℕ)} {result : Status} {disks1 : List D} {left1 sent1 : Option (List ℕ)}
     (one : IsReplayed seen disks left sent result disks1 left1 sent1) (script : List ℕ) → left ≡ Some script → IsSmooth result →
-    IsCalmDone seen one.start no_names one.replays.texts one.replays.calls one.replays.printed one.replays.world one.replays.names one.replays.done →
-    Side seen script (lines_of script) most_lines one.start no_names result one.replays.texts one.replays.calls one.replays.printed one.replays.world one.replays.names
-side {D} {seen} {disks} {left} {sent} {result} {disks1} {left1} {sent1} one script told smooth calm = record {
-  done = one.replays.done;
-  calm = calm;
-  few = one.replays.few;
-  reach = one.reaches script told;
-  smooth = smooth;
-  cut = one.replays.cut;
-  taken = one.replays.taken;
-  left = one.after_all.left;
-  waiting = one.after_all.waiting;
-  split = splits_of script one.replays.taken left one.after_all.left [] one.after_all.waiting told refl one.replays.takes;
-  ends = one.replays.ends;
+    AreCalm (align_of (map seen disks)) (opened (map seen disks)) (Exported export one.run.place ∷ one.run.elements) →
+    Side one (align_of (map seen disks)) (happens (align_of (map seen disks)) (opened (map seen disks)) (Exported export one.run.place)) script
+side {D} {seen} {disks} {left} {sent} {result} one script told smooth calm =
+    let r = one.replays in
+    let A : ℕ = align_of (map seen disks) in
+    let m : World = happens A (opened (map seen disks)) (Exported export one.run.place) in
+    let none : r.cut ≡ [] = nothing_cut result most_lines r.texts r.taken r.cut r.world r.names one.after_all.left one.after_all.waiting smooth r.ends in
+    let whole : r.calls ++ r.cut ≡ r.calls = ap (λ (cs : List Call). r.calls ++ cs) none ∙ append-nil r.calls in
+    let same : one.after_all.world ≡ r.world = subst (λ (cs : List Call). Plays seen r.world cs one.after_all.world) none r.cut_plays in
+    record {
+      ended = record {
+        smooth = smooth;
+        few = r.few;
+        reach = one.reaches script told;
+        cut = r.cut;
+        taken = r.taken;
+        left = one.after_all.left;
+        waiting = one.after_all.waiting;
+        split = splits_of script r.taken left one.after_all.left [] one.after_all.waiting told refl r.takes;
+        ends = r.ends;
+      };
+      model = after A m one.run.elements;
+      calm = calmly A m r.calls one.run.elements (subst (λ (cs : List Call). AreCalls A cs one.run.elements) whole one.run.are) one.run.run.1 calm.2
+          (never_later (Exported export one.run.place) one.run.elements one.run.besides.never_odd);
+      stands = subst (λ (w : WorldValue D). Stands seen w (after A m one.run.elements)) same one.run.stands;
+      disks_are = one.disks_are ∙ ap (λ (w : WorldValue D). map (λ s. s.disk) w.stripes) same;
+    }
+
+fewer : (budget : ℕ) (texts longer : List (List ℕ)) (x : List ℕ) (more : List (List ℕ)) → longer ≡ texts ++ x ∷ more → length longer ≤ budget → length texts < budget
+fewer budget texts longer x more is few = omega (arith, few, ap length is, length-append texts (x ∷ more))
+
+-- where one replay did the lines of the other, and perhaps more, it did the same
+front_same : {D : Type 0} {seen : D → Seen} {disks others : List D} {left sent sent' : Option (List ℕ)} {result result' : Status}
+    {disks1 others1 : List D} {left1 left2 sent1 sent2 : Option (List ℕ)} (one : IsReplayed seen disks left sent result disks1 left1 sent1)
+    (two : IsReplayed seen others left sent' result' others1 left2 sent2) (A : ℕ) (m m' : World) (script : List ℕ) → Twins m m' → Side one A m script → Side two A m' script →
+    (rest : List (List ℕ)) → two.replays.texts ≡ one.replays.texts ++ rest → AreSame one two
+front_same {D} {seen} {disks} {others} {left} {sent} {sent'} {result} {result'} {disks1} {others1} one two A m m' script twins a b rest is =
+    go rest is (twin_texts A seen one.start two.start r.world q.world m m' a.model b.model no_names no_names r.texts rest r.calls q.calls r.printed q.printed r.names q.names
+    twins refl r.done (subst (λ (xs : List (List ℕ)). AllDone seen two.start no_names xs q.calls q.printed q.world q.names) is q.done) a.calm b.calm)
+  where
+    r : Replays seen (record { left = left; waiting = []; sent = sent; out = []; world = one.start; names = no_names }) most_lines result one.after_all
+    r = one.replays
+
+    q : Replays seen (record { left = left; waiting = []; sent = sent'; out = []; world = two.start; names = no_names }) most_lines result' two.after_all
+    q = two.replays
+
+    go : (rest : List (List ℕ)) → q.texts ≡ r.texts ++ rest → Behind seen A a.model b.model rest r.calls q.calls r.printed q.printed q.world r.names q.names → AreSame one two
+    go [] is behind =
+        let same : q.texts ≡ r.texts = is ∙ append-nil r.texts in
+        let model_is : b.model ≡ behind.model = given_calls A behind.model b.model behind.later [] behind.done.calls_are behind.calm in
+        let ends : Twins a.model b.model = subst (λ (n : World). Twins a.model n) (sym model_is) behind.twins in
+        record {
+          status_is = ends_one seen script (lines_of script) most_lines r.texts r.world q.world r.names result result' a.ended
+              (subst (λ (t : Names). Ended script (lines_of script) most_lines r.texts q.world t result') behind.done.names
+              (subst (λ (xs : List (List ℕ)). Ended script (lines_of script) most_lines xs q.world q.names result') same b.ended));
+          texts = same;
+          calls = behind.calls_are ∙ ap (λ (cs : List Call). r.calls ++ cs) behind.done.calls_are ∙ append-nil r.calls;
+          printed = behind.printed_are ∙ ap (λ (bs : List ℕ). r.printed ++ bs) behind.done.printed_are ∙ append-nil r.printed;
+          now = λ x. held seen q.world b.model others1 b.stands (ends.alike.tells ∙ ends.tells) b.disks_are x ∙ ends.alike.now x
+              ∙ sym (held seen r.world a.model disks1 a.stands ends.tells a.disks_are x);
+        }
+    go (x ∷ more) is behind =
+        let d = behind.done in
+        let (mid, (front, back)) = calm_parts A behind.model b.model d.first d.later (given_calls A behind.model b.model behind.later (d.first ++ d.later) d.calls_are behind.calm) in
+        let (rest, at) = first_lines result' most_lines (lines_of script) q.texts q.world q.names b.ended.reach in
+        absurd (further_never seen script (lines_of script) most_lines A r.world behind.world d.world a.model behind.model mid r.names d.names r.texts x (more ++ rest) d.first d.words
+        result a.stands behind.twins.alike d.is_text d.does front (at ∙ ap (λ (xs : List (List ℕ)). xs ++ rest) is ∙ append_assoc r.texts (x ∷ more) rest)
+        (fewer most_lines r.texts q.texts x more is b.ended.few) a.ended)
+
+-- and the other way round
+twins_flip : (m m' : World) → Twins m m' → Twins m' m
+twins_flip m m' t = record {
+  alike = record {
+    tells = sym t.alike.tells;
+    next = sym t.alike.next;
+    req = λ r. sym (t.alike.req r);
+    session = λ s. sym (t.alike.session s);
+    graph = sym t.alike.graph;
+    clients = λ e. sym (t.alike.clients e);
+    tracker = sym t.alike.tracker;
+    now = λ b. sym (t.alike.now b);
+    holder = λ b. sym (t.alike.holder b);
+    plans = λ j. sym (t.alike.plans j);
+  };
+  tells = t.alike.tells ∙ t.tells;
 }
 
--- the core at the end of a smooth replay
-ended : {D : Type 0} {seen : D → Seen} {disks : List D} {left sent : Option (List ℕ)} {result : Status} {disks1 : List D} {left1 sent1 : Option (List ℕ)}
-    (one : IsReplayed seen disks left sent result disks1 left1 sent1) → IsSmooth result → disks1 ≡ map (λ s. s.disk) one.replays.world.stripes
-ended {D} {seen} {disks} {left} {sent} {result} one smooth =
-    let r = one.replays in
-    let none : r.cut ≡ [] = nothing_cut result most_lines r.texts r.taken r.cut r.world r.names one.after_all.left one.after_all.waiting smooth r.ends in
-    let same : one.after_all.world ≡ r.world = subst (λ (cs : List Call). Plays seen r.world cs one.after_all.world) none r.cut_plays in
-    one.disks_are ∙ ap (λ (w : WorldValue D). map (λ s. s.disk) w.stripes) same
-
--- two that did the same lines did the same
-same_lines : {D : Type 0} {seen : D → Seen} {disks others : List D} {left sent sent' : Option (List ℕ)} {result result' : Status}
+same_flip : {D : Type 0} {seen : D → Seen} {disks others : List D} {left sent sent' : Option (List ℕ)} {result result' : Status}
     {disks1 others1 : List D} {left1 left2 sent1 sent2 : Option (List ℕ)} (one : IsReplayed seen disks left sent result disks1 left1 sent1)
-    (two : IsReplayed seen others left sent' result' others1 left2 sent2) → AreComparable one two → (A : ℕ) (o o' : World) → NeverOddFrom A o → NeverOddFrom A o' →
-    Twins seen A o o' one.start two.start → two.replays.texts ≡ one.replays.texts → AreSame one two
-same_lines {D} {seen} {disks} {others} {left} {sent} {sent'} {result} {result'} {disks1} {others1} one two compared A o o' never never_too twins same =
-    let r = one.replays in
-    let q = two.replays in
-    let also : (d : AllDone seen two.start no_names r.texts q.calls q.printed q.world q.names) × IsCalmDone seen two.start no_names r.texts q.calls q.printed q.world q.names d =
-    subst (λ (xs : List (List ℕ)). (d : AllDone seen two.start no_names xs q.calls q.printed q.world q.names) × IsCalmDone seen two.start no_names xs q.calls q.printed q.world q.names d)
-    same (q.done, compared.calm_too) in
-    let t = twin_texts seen A o o' never never_too one.start two.start r.world q.world no_names no_names r.texts r.calls q.calls r.printed q.printed r.names q.names twins refl
-    r.done also.0 compared.calm also.1 in
-    record {
-      status_is = ends_one compared.script (lines_of compared.script) r.texts most_lines r.world q.world r.names q.names result result' r.cut q.cut r.taken q.taken
-          one.after_all.left two.after_all.left one.after_all.waiting two.after_all.waiting t.names_are compared.smooth compared.smooth_too
-          (splits_of compared.script r.taken left one.after_all.left [] one.after_all.waiting compared.told refl r.takes)
-          (splits_of compared.script q.taken left two.after_all.left [] two.after_all.waiting compared.told refl q.takes)
-          (one.reaches compared.script compared.told)
-          (subst (λ (xs : List (List ℕ)). ReachesLine result' most_lines (lines_of compared.script) xs q.world q.names) same (two.reaches compared.script compared.told))
-          r.ends (subst (λ (xs : List (List ℕ)). Ends result' most_lines xs q.taken q.cut q.world q.names two.after_all.left two.after_all.waiting) same q.ends);
-      texts = same;
-      calls = t.calls_are;
-      printed = t.printed_are;
-      now = λ b. held seen q.world t.twins.model_too others1 t.twins.stands_too (t.twins.alike.tells ∙ t.twins.tells) (ended two compared.smooth_too) b
-          ∙ t.twins.alike.now b ∙ sym (held seen r.world t.twins.model disks1 t.twins.stands t.twins.tells (ended one compared.smooth) b);
-    }
+    (two : IsReplayed seen others left sent' result' others1 left2 sent2) → AreSame two one → AreSame one two
+same_flip one two s = record {
+  status_is = sym s.status_is;
+  texts = sym s.texts;
+  calls = sym s.calls;
+  printed = sym s.printed;
+  now = λ b. sym (s.now b);
+}
 
 pub same_replays : {D : Type 0} {seen : D → Seen} {disks others : List D} {left sent sent' : Option (List ℕ)} {result result' : Status}
     {disks1 others1 : List D} {left1 left2 sent1 sent2 : Option (List ℕ)} (one : IsReplayed seen disks left sent result disks1 left1 sent1)
     (two : IsReplayed seen others left sent' result' others1 left2 sent2) → AreComparable one two → AreSame one two
-same_replays {D} {seen} {disks} {others} {left} {sent} {sent'} {result} {result'} {disks1} {others1} one two compared =
-    go (fronts one.replays.texts two.replays.texts front.0 front_too.0 (sym front.1 ∙ front_too.1))
+same_replays {D} {seen} {disks} {others} {left} {sent} {sent'} {result} {result'} one two compared =
+    elim (fronts one.replays.texts two.replays.texts front.0 front_too.0 (sym front.1 ∙ front_too.1)) [
+      | inl more ↦ front_same one two A m m' compared.script twins a b more.0 more.1
+      | inr more ↦ same_flip one two (front_same two one A m' m compared.script (twins_flip m m' twins) b a more.0 more.1)
+    ]
   where
+    A : ℕ
+    A = align_of (map seen disks)
+
+    m : World
+    m = happens A (opened (map seen disks)) (Exported export one.run.place)
+
+    m' : World
+    m' = happens (align_of (map seen others)) (opened (map seen others)) (Exported export two.run.place)
+
+    twins : Twins m m'
+    twins = twins_begin seen disks others one.start two.start one.run.place two.run.place one.begins two.begins one.run.run.0 two.run.run.0 compared.alike
+
+    a : Side one A m compared.script
+    a = side one compared.script compared.told compared.smooth compared.calm
+
+    b : Side two A m' compared.script
+    b = subst (λ (k : ℕ). Side two k m' compared.script) compared.alike.align (side two compared.script compared.told compared.smooth_too compared.calm_too)
+
     front : (rest : List (List ℕ)) × (lines_of compared.script ≡ one.replays.texts ++ rest)
-    front = first_lines result most_lines (lines_of compared.script) one.replays.texts one.replays.world one.replays.names (one.reaches compared.script compared.told)
+    front = first_lines result most_lines (lines_of compared.script) one.replays.texts one.replays.world one.replays.names a.ended.reach
 
     front_too : (rest : List (List ℕ)) × (lines_of compared.script ≡ two.replays.texts ++ rest)
-    front_too = first_lines result' most_lines (lines_of compared.script) two.replays.texts two.replays.world two.replays.names (two.reaches compared.script compared.told)
-
-    o : World
-    o = opened (map seen disks)
-
-    o' : World
-    o' = opened (map seen others)
-
-    never_one : NeverOddFrom (align_of (map seen disks)) o
-    never_one = never seen disks one.start one.begins
-
-    never_too : NeverOddFrom (align_of (map seen disks)) o'
-    never_too = subst (λ (a : ℕ). NeverOddFrom a o') compared.alike.align (never seen others two.start two.begins)
-
-    twins : Twins seen (align_of (map seen disks)) o o' one.start two.start
-    twins = twins_begin seen disks others one.start two.start one.begins two.begins compared.alike
-
-    go : (two.replays.texts ≡ one.replays.texts) ⊎ (More one.replays.texts two.replays.texts ⊎ More two.replays.texts one.replays.texts) → AreSame one two
-    go (inl same) = same_lines one two compared (align_of (map seen disks)) o o' never_one never_too twins same
-    go (inr (inl more)) = absurd (further_never seen (align_of (map seen disks)) o o' compared.script (lines_of compared.script) most_lines
-        one.start two.start one.replays.world two.replays.world no_names result result' one.replays.texts two.replays.texts one.replays.calls two.replays.calls
-        one.replays.printed two.replays.printed one.replays.names two.replays.names never_one never_too twins
-        (side one compared.script compared.told compared.smooth compared.calm) (side two compared.script compared.told compared.smooth_too compared.calm_too)
-        front_too.0 front_too.1 more)
-    go (inr (inr more)) = absurd (further_never seen (align_of (map seen disks)) o' o compared.script (lines_of compared.script) most_lines
-        two.start one.start two.replays.world one.replays.world no_names result' result two.replays.texts one.replays.texts two.replays.calls one.replays.calls
-        two.replays.printed one.replays.printed two.replays.names one.replays.names never_too never_one
-        (twins_flip seen (align_of (map seen disks)) o o' one.start two.start twins)
-        (side two compared.script compared.told compared.smooth_too compared.calm_too) (side one compared.script compared.told compared.smooth compared.calm)
-        front.0 front.1 more)
+    front_too = first_lines result' most_lines (lines_of compared.script) two.replays.texts two.replays.world two.replays.names b.ended.reach

@@ -12,6 +12,7 @@ use Rattle.qs_part.specs.declared.event.Event.{Event}
 use Rattle.qs_part.specs.declared.event.Event.TheVariants as event
 use Rattle.qs_part.specs.declared.event.Outcome.{Outcome}
 use Rattle.qs_part.specs.declared.event.Outcome.TheVariants as outcome
+use Rattle.qs_determined.specs.Determined.{Alike}
 use Rattle.qs_script.specs.declared.actor.ScriptActor.{ScriptActor}
 use Rattle.qs_script.specs.declared.actor.ScriptActor.TheVariants as who
 use Rattle.qs_script.specs.declared.line.Line.{Line}
@@ -22,16 +23,17 @@ use Rattle.qs_model.specs.Events.{IsEvent}
 use Rattle.qs_model.specs.Guards.{May, HasRequest}
 use Rattle.qs_model.specs.Requests.{Req}
 use Rattle.qs_model.specs.Worlds.{Session, Away, Live, Leaving, World}
-use Rattle.qs_world.specs.Events.{IsNotNext, Steps}
+use Rattle.qs_world.specs.Events.{IsNotNext}
+use Rattle.qs_world.specs.Stands.{Stands}
 use Rattle.qs_world.specs.Values.{WorldValue, request_at, session_at}
-use Rattle.qs_replay.specs.Calls.{Call, Happened, Makes, Plays}
-use Rattle.qs_replay.specs.Effects.{Does, DrivesNotLive, GoesOn, IsActor, IsEventOf, IsNotLive, Adds, RunsOut, UsesAgain, bytes_or, read_ask, write_ask}
+use Rattle.qs_replay.specs.Calls.{Call, Happened}
+use Rattle.qs_replay.specs.Effects.{Acts, CallsOf, Does, DrivesNotLive, GoesOn, IsActor, IsEventOf, IsNotLive, Adds, UsesAgain, bytes_or, read_ask, write_ask}
 use Rattle.qs_replay.specs.Readings.{IsText}
 use Rattle.qs_replay.specs.Scripts.{DoesText, IsBad, IsUntimely}
 use Rattle.qs_replay.specs.Tables.{IsUsed, Names}
 use Rattle.qs_replay.proofs.Playing.{asks_once}
 use Rattle.qs_same_replay.proofs.TwinEvents.{actor_one, gives_one}
-use Rattle.qs_same_replay.proofs.Twins.{Twins}
+use Rattle.qs_same_replay.proofs.Twins.{CalmStep, Calmly}
 
 -- a cookie that a request was noted by wasn't used before
 note_fresh : (made : Event) (o : Outcome) (n : ℕ) (ask : Ask) (body : Option (List ℕ)) (t t' : Names) → made ≡ event.Ask n ask body → Adds made o t t' →
@@ -113,16 +115,16 @@ same_target w t mid mid' line.Nothing lost lost' made made' is at not_next = abs
 same_target w t mid mid' (line.Fail j k) lost lost' made made' is at not_next = absurd is
 
 -- an event that came to one of two twins can come to the other
-comes_never : {D : Type 0} (seen : D → Seen) (A : ℕ) (o o' : World) (w w' v' : WorldValue D) (made : Event) (x : Outcome) → Twins seen A o o' w w' → Steps seen w' made x v' →
+comes_never : {D : Type 0} (seen : D → Seen) (A : ℕ) (w : WorldValue D) (m m' : World) (made : Event) (e : Element) → Stands seen w m → Alike m m' → IsEvent made e → May A m' e →
     IsNotNext w made → ⊥
-comes_never {D} seen A o o' w w' v' made x t steps not_next = go made steps.element steps.answers_event (steps.does t.model_too t.stands_too).0 not_next
+comes_never seen A w m m' made e stands alike is may not_next = go made e is may not_next
   where
     -- what the first of the twins has, by what the second has
-    session_is : (s : ℕ) (found : Session) → t.model_too.session s ≡ found → session_at w.sessions s ≡ found
-    session_is s found is = sym (t.stands.session s) ∙ sym (t.alike.session s) ∙ is
+    session_is : (s : ℕ) (found : Session) → m'.session s ≡ found → session_at w.sessions s ≡ found
+    session_is s found is = sym (stands.session s) ∙ sym (alike.session s) ∙ is
 
-    request_is : (r : ℕ) (q : Req) → t.model_too.req r ≡ Some q → request_at w.requests r ≡ Some q
-    request_is r q is = sym (t.stands.request r) ∙ sym (t.alike.req r) ∙ is
+    request_is : (r : ℕ) (q : Req) → m'.req r ≡ Some q → request_at w.requests r ≡ Some q
+    request_is r q is = sym (stands.request r) ∙ sym (alike.req r) ∙ is
 
     none_some : (q : Req) → None ≡ Some q → ⊥
     none_some q e = cc
@@ -139,18 +141,17 @@ comes_never {D} seen A o o' w w' v' made x t steps not_next = go made steps.elem
     session_request : (r n : ℕ) → ASession n ≡ ARequest r → ⊥
     session_request r n e = cc
 
-    stands_still : (s e : ℕ) → t.model_too.session s ≡ Leaving e → (HasRequest t.model_too s → ⊥) → IsNotNext w (event.Step (ASession s) 0) → ⊥
+    stands_still : (s e : ℕ) → m'.session s ≡ Leaving e → (HasRequest m' s → ⊥) → IsNotNext w (event.Step (ASession s) 0) → ⊥
     stands_still s e is none (inl f) = f e (session_is s (Leaving e) is)
-    stands_still s e is none (inr h) =
-        none (h.0, h.1, (t.alike.req h.0 ∙ t.stands.request h.0 ∙ h.2.0, h.2.1))
+    stands_still s e is none (inr h) = none (h.0, h.1, (alike.req h.0 ∙ stands.request h.0 ∙ h.2.0, h.2.1))
 
-    go : (made : Event) (e : Element) → IsEvent made e → May w'.shape.align t.model_too e → IsNotNext w made → ⊥
+    go : (made : Event) (e : Element) → IsEvent made e → May A m' e → IsNotNext w made → ⊥
     go (event.Attach n name) (Attached s given info) is may f = f (ap (session_at w.sessions) is.0 ∙ session_is s Away may.0)
     go (event.Attach n name) (NoExport s given) is may f = f (ap (session_at w.sessions) is.0 ∙ session_is s Away may.0)
     go (event.Attach n name) (Crowded s given) is may f = f (ap (session_at w.sessions) is.0 ∙ session_is s Away may.0)
     go (event.Leave n) (Left s e) is may f = f e (ap (session_at w.sessions) is ∙ session_is s (Live e) may)
     go (event.Ask n ask body) (Asked r c) is may (inl f) = f c.export (ap (session_at w.sessions) is.0 ∙ session_is c.session (Live c.export) may.live)
-    go (event.Ask n ask body) (Asked r c) is may (inr f) = omega (arith, f, may.room, may.next, t.alike.next, t.stands.next)
+    go (event.Ask n ask body) (Asked r c) is may (inr f) = omega (arith, f, may.room, may.next, alike.next, stands.next)
     go (event.Step (ARequest n) now) (Did r q act) is may f =
         none_some q (sym (subst (λ (k : ℕ). request_at w.requests k ≡ None) (sym (one_request r n is)) f) ∙ request_is r q may.0)
     go (event.Step (ASession n) now) (Detached s e) is may f =
@@ -162,62 +163,37 @@ comes_never {D} seen A o o' w w' v' made x t steps not_next = go made steps.elem
     go (event.Step (ASession n) now) (Did r q act) is may f = session_request r n is
     go _ _ is may f = absurd is
 
--- the first step of a line with events
-pub record Begun {D : Type 0} (seen : D → Seen) (w : WorldValue D) (t : Names) (l : Line) : Type 0 where
-  pub made : Event
-  pub mid : Names
-  pub lost : Bool
-  pub outcome : Outcome
-  pub world : WorldValue D
-  pub event_is : IsEventOf t l lost made mid
-  pub steps : Steps seen w made outcome world
+-- what a line does that makes an event
+acts_of : (t t1 mid : Names) (l : Line) (lost gone : Bool) (calls : List Call) (printed : List ℕ) (made : Event) → Does t l lost calls printed t1 → IsEventOf t l gone made mid →
+    Acts t l lost calls printed t1
+acts_of t t1 mid line.Nothing lost gone calls printed made does is = absurd is
+acts_of t t1 mid (line.Fail j k) lost gone calls printed made does is = absurd is
+acts_of t t1 mid l lost gone calls printed made does is = does
 
-begun_one : {D : Type 0} (seen : D → Seen) (w v : WorldValue D) (t mid : Names) (l : Line) (lost : Bool) (made : Event) (x : Outcome) (calls : List Call) →
-    IsEventOf t l lost made mid → calls ≡ Happened made x ∷ [] → Plays seen w calls v → Begun seen w t l
-begun_one {D} seen w v t mid l lost made x calls is calls_are plays =
-    let first = subst (λ (cs : List Call). Plays seen w cs v) calls_are plays in
-    record { made = made; mid = mid; lost = lost; outcome = x; world = first.0; event_is = is; steps = first.1.0.0 }
-
-begun_run : {D : Type 0} (seen : D → Seen) (w v : WorldValue D) (t mid : Names) (l : Line) (lost : Bool) (made : Event) (final : Outcome) (calls : List Call) →
-    IsEventOf t l lost made mid → RunsOut made calls final → Plays seen w calls v → Begun seen w t l
-begun_run {D} seen w v t mid l lost made final calls is out plays =
-    go out.front out.on (subst (λ (cs : List Call). Plays seen w cs v) out.whole plays)
+-- its first call
+first_call : (l : Line) (made : Event) (o : Outcome) (calls : List Call) → CallsOf l made o calls → (x : Outcome) × (later : List Call) × (calls ≡ Happened made x ∷ later)
+first_call (line.Run who now) made o calls out = go out.front out.on out.whole
   where
-    go : (front : List Call) → All (GoesOn made) front → Plays seen w (front ++ Happened made final ∷ []) v → Begun seen w t l
-    go [] on first = record { made = made; mid = mid; lost = lost; outcome = final; world = first.0; event_is = is; steps = first.1.0.0 }
-    go (c ∷ front) on first =
+    go : (front : List Call) → All (GoesOn made) front → calls ≡ front ++ Happened made o ∷ [] → (x : Outcome) × (later : List Call) × (calls ≡ Happened made x ∷ later)
+    go [] on is = (o, [], is)
+    go (c ∷ front) on is =
         let head = All-head (GoesOn made) c front on in
-        let makes = subst (λ (k : Call). Makes seen w k first.0) head.is first.1.0 in
-        record { made = made; mid = mid; lost = lost; outcome = head.outcome; world = first.0; event_is = is; steps = makes.0 }
-
-begun : {D : Type 0} (seen : D → Seen) (w v : WorldValue D) (t t1 : Names) (l : Line) (lost : Bool) (calls : List Call) (printed : List ℕ) →
-    Does t l lost calls printed t1 → Plays seen w calls v → (other : Event) (mid : Names) (gone : Bool) → IsEventOf t l gone other mid → Begun seen w t l
-begun seen w v t t1 (line.Session s e) lost calls printed does plays other mid gone is =
-    begun_one seen w v t does.mid (line.Session s e) lost does.made does.outcome calls does.event_is does.calls_are plays
-begun seen w v t t1 (line.End s) lost calls printed does plays other mid gone is =
-    begun_one seen w v t does.mid (line.End s) lost does.made does.outcome calls does.event_is does.calls_are plays
-begun seen w v t t1 (line.Read s c offset long) lost calls printed does plays other mid gone is =
-    begun_one seen w v t does.mid (line.Read s c offset long) lost does.made does.outcome calls does.event_is does.calls_are plays
-begun seen w v t t1 (line.Write s c offset bytes) lost calls printed does plays other mid gone is =
-    begun_one seen w v t does.mid (line.Write s c offset bytes) lost does.made does.outcome calls does.event_is does.calls_are plays
-begun seen w v t t1 (line.Step a now) lost calls printed does plays other mid gone is =
-    begun_one seen w v t does.mid (line.Step a now) lost does.made does.outcome calls does.event_is does.calls_are plays
-begun seen w v t t1 (line.Run a now) lost calls printed does plays other mid gone is =
-    begun_run seen w v t does.mid (line.Run a now) lost does.made does.outcome calls does.event_is does.calls_are plays
-begun seen w v t t1 line.Nothing lost calls printed does plays other mid gone is = absurd is
-begun seen w v t t1 (line.Fail j k) lost calls printed does plays other mid gone is = absurd is
+        (head.outcome, front ++ Happened made o ∷ [], is ∙ ap (λ (k : Call). k ∷ front ++ Happened made o ∷ []) head.is)
+first_call l made o calls out = (o, [], out)
 
 -- a line that one of two twins did could come to the other
-pub untimely_never : {D : Type 0} (seen : D → Seen) (A : ℕ) (o o' : World) (w w' v' : WorldValue D) (t t1 : Names) (text : List ℕ) (calls : List Call) (printed : List ℕ) →
-    Twins seen A o o' w w' → DoesText seen w' t text calls printed v' t1 → IsUntimely w t text → ⊥
-untimely_never {D} seen A o o' w w' v' t t1 text calls printed twins does bad =
+pub untimely_never : {D : Type 0} (seen : D → Seen) (A : ℕ) (w w' v' : WorldValue D) (m m' n' : World) (t t1 : Names) (text : List ℕ) (calls : List Call) (printed : List ℕ) →
+    Stands seen w m → Alike m m' → DoesText seen w' t text calls printed v' t1 → Calmly A m' calls n' → IsUntimely w t text → ⊥
+untimely_never seen A w w' v' m m' n' t t1 text calls printed stands alike does calm bad =
     let l : Line = does.line in
     let same : bad.0 ≡ l = one_line text bad.0 l bad.1.0 does.reads in
     elim bad.1.2 [
       | inl cannot ↦
           let is : IsEventOf t l cannot.lost cannot.made cannot.mid = subst (λ (k : Line). IsEventOf t k cannot.lost cannot.made cannot.mid) same cannot.event_is in
-          let b : Begun seen w' t l = begun seen w' v' t t1 l does.lost calls printed does.is.does does.is.plays cannot.made cannot.mid cannot.lost is in
-          comes_never seen A o o' w w' b.world b.made b.outcome twins b.steps
-          (same_target w t cannot.mid b.mid l cannot.lost b.lost cannot.made b.made is b.event_is cannot.not_next)
+          let acts : Acts t l does.lost calls printed t1 = acts_of t t1 cannot.mid l does.lost cannot.lost calls printed cannot.made does.is.does is in
+          let (x, later, first_is) = first_call l acts.made acts.outcome calls acts.calls_are in
+          let step : CalmStep A m' (Happened acts.made x) = (subst (λ (cs : List Call). Calmly A m' cs n') first_is calm).0 in
+          comes_never seen A w m m' acts.made step.element stands alike step.comes.is step.comes.may
+          (same_target w t cannot.mid acts.mid l cannot.lost does.lost cannot.made acts.made is acts.event_is cannot.not_next)
       | inr drives ↦ driven_never t t1 l does.lost calls printed does.is.does (subst (λ (k : Line). DrivesNotLive t k) same drives)
     ]

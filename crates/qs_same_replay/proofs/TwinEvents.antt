@@ -4,7 +4,6 @@ use Rattle.std.specs.Prelude.{Option, Some, None, replicate}
 use Rattle.std.specs.FinMap as map
 use Rattle.qs_bytes.specs.Payloads.{max_payload}
 use Rattle.qs_bytes.specs.declared.ask.Ask.{Ask}
-use Rattle.qs_outside.specs.Blocks.{Seen}
 use Rattle.qs_part.specs.declared.event.Actor.{Actor}
 use Rattle.qs_part.specs.declared.event.Event.{Event}
 use Rattle.qs_part.specs.declared.event.Event.TheVariants as event
@@ -15,18 +14,13 @@ use Rattle.qs_script.specs.declared.actor.ScriptActor.TheVariants as who
 use Rattle.qs_script.specs.declared.line.Line.{Line}
 use Rattle.qs_script.specs.declared.line.Line.TheVariants as line
 use Rattle.qs_model.specs.Acts.{Element, Asked}
-use Rattle.qs_model.specs.Events.{IsEvent, outcome_of}
+use Rattle.qs_model.specs.Events.{IsEvent}
 use Rattle.qs_model.specs.Requests.{form_error}
-use Rattle.qs_model.specs.Steps.{happens}
-use Rattle.qs_model.specs.Worlds.{World}
 use Rattle.qs_model.proofs.Basics.{either}
-use Rattle.qs_world.specs.Stands.{Stands}
-use Rattle.qs_world.specs.Values.{WorldValue}
-use Rattle.qs_same_replay.specs.Same.{HasBuffers}
+use Rattle.qs_same_replay.specs.Same.{IsGiven}
 use Rattle.qs_replay.specs.Effects.{Adds, IsActor, IsKey, IsRoom, Notes, Settles, bytes_or, read_ask, write_ask}
 use Rattle.qs_replay.specs.Tables.{Gives, Names, settled}
 use Rattle.qs_replay.proofs.Playing.{gives_number, known_one}
-use Rattle.qs_same_replay.proofs.Twins.{asked_buffers}
 
 -- a name has one number
 pub gives_one : (t a b : Names) (s : List ℕ) (n m : ℕ) → Gives t s n a → Gives t s m b → (m ≡ n) × (b ≡ a)
@@ -53,33 +47,32 @@ abbrev pub room_of : ℕ → Option (List ℕ)
 room_of n = cond (nat_lt max_payload n) None (Some (replicate n 0))
 
 -- a READ brings it
-pub read_body : {D : Type 0} (seen : D → Seen) (A n cookie offset long : ℕ) (body : Option (List ℕ)) (e : Element) (o : Outcome) (m : World) (v : WorldValue D) → IsRoom body long →
-    IsEvent (event.Ask n (read_ask cookie offset long) body) e → outcome_of A e ≡ Some o → HasBuffers o v → Stands seen v (happens A m e) → body ≡ room_of long
-read_body seen A n cookie offset long None (Asked s c) o m v room is told buffers stands = elim (either (nat_lt max_payload long)) [
+pub read_body : (n cookie offset long : ℕ) (body : Option (List ℕ)) (e : Element) → IsRoom body long → IsEvent (event.Ask n (read_ask cookie offset long) body) e →
+    IsGiven e → body ≡ room_of long
+read_body n cookie offset long None (Asked s c) room is given = elim (either (nat_lt max_payload long)) [
   | inl big ↦ sym (ap (λ (b : Bool). cond b None (Some (replicate long 0))) big)
   | inr fits ↦ absurd (elim is.2.wanted [
     | inl empty ↦ let none : long ≡ 0 = ap (λ (a : Ask). a.length) is.1 ∙ empty in omega (arith, none, room)
-    | inr refused ↦ true≢false (sym (asked_buffers seen A s c o m v told buffers stands (ap form_error (sym is.1) ∙ fits)) ∙ refused)
+    | inr refused ↦ true≢false (sym (given (ap form_error (sym is.1) ∙ fits)) ∙ refused)
   ])
 ]
-read_body seen A n cookie offset long (Some bytes) (Asked s c) o m v room is told buffers stands = elim (either (nat_lt max_payload long)) [
+read_body n cookie offset long (Some bytes) (Asked s c) room is given = elim (either (nat_lt max_payload long)) [
   | inl big ↦ let above : max_payload < long = grind (arith, big) in absurd (omega (arith, above, room.1))
   | inr fits ↦ ap Some room.0 ∙ sym (ap (λ (b : Bool). cond b None (Some (replicate long 0))) fits)
 ]
-read_body seen A n cookie offset long body _ o m v room is told buffers stands = absurd is
+read_body n cookie offset long body _ room is given = absurd is
 
 -- a WRITE brings its bytes
-pub write_body : {D : Type 0} (seen : D → Seen) (A n cookie offset : ℕ) (bytes : List ℕ) (lost : Bool) (e : Element) (o : Outcome) (m : World) (v : WorldValue D) →
-    IsEvent (event.Ask n (write_ask cookie offset bytes) (bytes_or lost bytes)) e → outcome_of A e ≡ Some o → HasBuffers o v → Stands seen v (happens A m e) →
+pub write_body : (n cookie offset : ℕ) (bytes : List ℕ) (lost : Bool) (e : Element) → IsEvent (event.Ask n (write_ask cookie offset bytes) (bytes_or lost bytes)) e → IsGiven e →
     bytes_or lost bytes ≡ Some bytes
-write_body seen A n cookie offset [] true e o m v is told buffers stands = refl
-write_body seen A n cookie offset [] false e o m v is told buffers stands = refl
-write_body seen A n cookie offset (b ∷ bytes) true (Asked s c) o m v is told buffers stands = absurd (elim is.2.wanted [
+write_body n cookie offset [] true e is given = refl
+write_body n cookie offset [] false e is given = refl
+write_body n cookie offset (b ∷ bytes) true (Asked s c) is given = absurd (elim is.2.wanted [
   | inl empty ↦ let none : length (b ∷ bytes) ≡ 0 = ap (λ (a : Ask). a.length) is.1 ∙ empty in omega (arith, none)
-  | inr refused ↦ true≢false (sym (asked_buffers seen A s c o m v told buffers stands (ap form_error (sym is.1))) ∙ refused)
+  | inr refused ↦ true≢false (sym (given (ap form_error (sym is.1))) ∙ refused)
 ])
-write_body seen A n cookie offset (b ∷ bytes) true _ o m v is told buffers stands = absurd is
-write_body seen A n cookie offset (b ∷ bytes) false e o m v is told buffers stands = refl
+write_body n cookie offset (b ∷ bytes) true _ is given = absurd is
+write_body n cookie offset (b ∷ bytes) false e is given = refl
 
 -- what a request is kept under is one
 key_one : (t : Names) (w : ScriptActor) (x y : Option (ℕ × ℕ)) → IsKey t w x → IsKey t w y → y ≡ x
