@@ -1,5 +1,5 @@
 -- One line does one thing.
-use Rattle.std.proofs.Common.{◌≡◌, ◌<◌, ◌⊎◌, ℕ, inl, inr, List, [], ◌∷◌, ◌++◌, Bool, true, false, cond, nat_lt, refl, sym, subst, ap, ◌∙◌, arith, append_assoc, true≢false}
+use Rattle.std.proofs.Common.{◌≡◌, ◌<◌, ℕ, List, [], ◌∷◌, ◌++◌, Bool, true, false, cond, nat_lt, refl, sym, subst, ap, ◌∙◌, arith, append_assoc, true≢false}
 use Rattle.std.specs.Prelude.{All, Option, None, Some, replicate}
 use Rattle.std.proofs.lemmas.List.Elements.{All-head, All-tail}
 use Rattle.qs_bytes.specs.Payloads.{max_payload}
@@ -70,57 +70,27 @@ module _ (A : ℕ) where
       (given_calls m' n' calls' (Happened made' y ∷ []) at two) (ap Happens event_is) tame in
       (at ∙ ap (λ (c : Call). c ∷ []) both.0 ∙ sym is, one_goes made' made y x both.0, both.1)
 
-  -- a run, call by call
-  abbrev OutBy : Event → List Call → Outcome → Type 0
-  OutBy made [] final = ⊥
-  OutBy made (c ∷ cs) final = ((cs ≡ []) × (c ≡ Happened made final) × (goes_on final ≡ false)) ⊎ (GoesOn made c × OutBy made cs final)
-
-  out_by : (made : Event) (front : List Call) (final : Outcome) → All (GoesOn made) front → goes_on final ≡ false → OutBy made (front ++ Happened made final ∷ []) final
-  out_by made [] final on ends = inl (refl, refl, ends)
-  out_by made (c ∷ front) final on ends = inr (All-head (GoesOn made) c front on, out_by made front final (All-tail (GoesOn made) c front on) ends)
-
-  runs_by : (made : Event) (calls : List Call) (final : Outcome) → RunsOut made calls final → OutBy made calls final
-  runs_by made calls final out = subst (λ (cs : List Call). OutBy made cs final) (sym out.whole) (out_by made out.front final out.on out.ends)
-
-  -- the first call of a run is the event's
-  first_is : (made : Event) (c : Call) (cs : List Call) (final : Outcome) → OutBy made (c ∷ cs) final → (x : Outcome) × (c ≡ Happened made x)
-  first_is made c cs final (inl e) = (final, e.1)
-  first_is made c cs final (inr e) = (e.0.outcome, e.0.is)
-
   -- two runs of one event
-  twin_run : (made : Event) (m m' n n' : World) (calls calls' : List Call) (final final' : Outcome) → IsTame (Happens made) → Twins m m' →
-      OutBy made calls final → OutBy made calls' final' → Calmly A m calls n → Calmly A m' calls' n' → (calls' ≡ calls) × (final' ≡ final) × Twins n n'
-  twin_run made m m' n n' [] calls' final final' tame t out too one two = absurd out
-  twin_run made m m' n n' (c ∷ cs) [] final final' tame t out too one two = absurd too
-  twin_run made m m' n n' (c ∷ cs) (d ∷ ds) final final' tame t out too one two =
-      go out too (λ on on_too. twin_run made mid mid' n n' cs ds final final' tame both.1 on on_too one.1 two.1)
-    where
-      mid : World
-      mid = happens A m one.0.element
-
-      mid' : World
-      mid' = happens A m' two.0.element
-
-      is : (x : Outcome) × (c ≡ Happened made x)
-      is = first_is made c cs final out
-
-      at : (x : Outcome) × (d ≡ Happened made x)
-      at = first_is made d ds final' too
-
-      both : (d ≡ c) × Twins mid mid'
-      both = twin_call A m m' c d t one.0 two.0 (ap input_of at.1 ∙ sym (ap input_of is.1)) (subst (λ (k : Call). IsTame (input_of k)) (sym is.1) tame)
-
-      go : ((cs ≡ []) × (c ≡ Happened made final) × (goes_on final ≡ false)) ⊎ (GoesOn made c × OutBy made cs final) →
-          ((ds ≡ []) × (d ≡ Happened made final') × (goes_on final' ≡ false)) ⊎ (GoesOn made d × OutBy made ds final') →
-          (OutBy made cs final → OutBy made ds final' → (ds ≡ cs) × (final' ≡ final) × Twins n n') → (d ∷ ds ≡ c ∷ cs) × (final' ≡ final) × Twins n n'
-      go (inl a) (inl b) on = (
-        ap (λ (x : Call). x ∷ ds) both.0 ∙ ap (λ (xs : List Call). c ∷ xs) (b.0 ∙ sym a.0),
-        one_goes made made final' final (sym b.1 ∙ both.0 ∙ a.1),
-        twins_end mid mid' n n' both.1 (given_calls mid n cs [] a.0 one.1) (given_calls mid' n' ds [] b.0 two.1),
-      )
-      go (inl a) (inr b) on = absurd (true≢false (sym b.0.on ∙ ap goes_on (one_goes made made b.0.outcome final (sym b.0.is ∙ both.0 ∙ a.1)) ∙ a.2))
-      go (inr a) (inl b) on = absurd (true≢false (sym a.0.on ∙ ap goes_on (one_goes made made a.0.outcome final' (sym a.0.is ∙ sym both.0 ∙ b.1)) ∙ b.2))
-      go (inr a) (inr b) on = let rest = on a.1 b.1 in (ap (λ (x : Call). x ∷ ds) both.0 ∙ ap (λ (xs : List Call). c ∷ xs) rest.0, rest.1, rest.2)
+  twin_run : (made : Event) (m m' n n' : World) (front front' : List Call) (x y : Outcome) → IsTame (Happens made) → Twins m m' → All (GoesOn made) front →
+      All (GoesOn made) front' → goes_on x ≡ false → goes_on y ≡ false → Calmly A m (front ++ Happened made x ∷ []) n → Calmly A m' (front' ++ Happened made y ∷ []) n' →
+      (front' ≡ front) × (y ≡ x) × Twins n n'
+  twin_run made m m' n n' [] [] x y tame t on on_too ends ends_too one two =
+      let both = twin_one m m' n n' (Happened made x) (Happened made y) t one two refl tame in (refl, one_goes made made y x both.0, both.1)
+  twin_run made m m' n n' [] (d ∷ ds) x y tame t on on_too ends ends_too one two =
+      let goes = All-head (GoesOn made) d ds on_too in
+      let both = twin_call A m m' (Happened made x) d t one.0 two.0 (ap input_of goes.is) tame in
+      absurd (true≢false (sym goes.on ∙ ap goes_on (one_goes made made goes.outcome x (sym goes.is ∙ both.0)) ∙ ends))
+  twin_run made m m' n n' (c ∷ cs) [] x y tame t on on_too ends ends_too one two =
+      let goes = All-head (GoesOn made) c cs on in
+      let both = twin_call A m m' c (Happened made y) t one.0 two.0 (sym (ap input_of goes.is)) (subst (λ (k : Call). IsTame (input_of k)) (sym goes.is) tame) in
+      absurd (true≢false (sym goes.on ∙ ap goes_on (one_goes made made goes.outcome y (sym goes.is ∙ sym both.0)) ∙ ends_too))
+  twin_run made m m' n n' (c ∷ cs) (d ∷ ds) x y tame t on on_too ends ends_too one two =
+      let goes = All-head (GoesOn made) c cs on in
+      let both = twin_call A m m' c d t one.0 two.0 (ap input_of (All-head (GoesOn made) d ds on_too).is ∙ sym (ap input_of goes.is))
+      (subst (λ (k : Call). IsTame (input_of k)) (sym goes.is) tame) in
+      let rest = twin_run made (happens A m one.0.element) (happens A m' two.0.element) n n' cs ds x y tame both.1 (All-tail (GoesOn made) c cs on)
+      (All-tail (GoesOn made) d ds on_too) ends ends_too one.1 two.1 in
+      (ap (λ (k : Call). k ∷ ds) both.0 ∙ ap (λ (ks : List Call). c ∷ ks) rest.0, rest.1, rest.2)
 
   -- a line with events
   acts_one : (n n' : World) (t t1 t1' : Names) (l : Line) (lost lost' : Bool) (calls calls' : List Call) (printed printed' : List ℕ) (does : Acts t l lost calls printed t1)
@@ -216,10 +186,16 @@ module _ (A : ℕ) where
   twin_line m m' n n' t (line.Run who now) lost lost' calls calls' printed printed' t1 t1' twins does also one two =
       let same = actor_one t does.mid also.mid who does.event_is.0 also.event_is.0 does.event_is.1.0 also.event_is.1.0 in
       let event_is : also.made ≡ does.made = also.event_is.1.1 ∙ ap (λ (a : Actor). event.Step a now) same.0 ∙ sym does.event_is.1.1 in
-      acts_one n n' t t1 t1' (line.Run who now) lost lost' calls calls' printed printed' does also event_is same.1
-      (twin_run does.made m m' n n' calls calls' does.outcome also.outcome (tame_as does.made _ does.event_is.1.1 tt) twins
-      (runs_by does.made calls does.outcome does.calls_are)
-      (runs_by does.made calls' also.outcome (subst (λ (e : Event). RunsOut e calls' also.outcome) event_is also.calls_are)) one two)
+      let run : RunsOut does.made calls does.outcome = does.calls_are in
+      let ran : RunsOut does.made calls' also.outcome = subst (λ (e : Event). RunsOut e calls' also.outcome) event_is also.calls_are in
+      let both = twin_run does.made m m' n n' run.front ran.front does.outcome also.outcome (tame_as does.made _ does.event_is.1.1 tt) twins run.on ran.on run.ends ran.ends
+      (given_calls m n calls _ run.whole one) (given_calls m' n' calls' _ ran.whole two) in
+      acts_one n n' t t1 t1' (line.Run who now) lost lost' calls calls' printed printed' does also event_is same.1 (
+        ran.whole ∙ ap (λ (cs : List Call). cs ++ Happened does.made also.outcome ∷ []) both.0 ∙ ap (λ (z : Outcome). run.front ++ Happened does.made z ∷ []) both.1
+            ∙ sym run.whole,
+        both.1,
+        both.2,
+      )
 
   -- the texts of the same lines, behind which one replay may have done more
   pub twin_texts : {D : Type 0} (seen : D → Seen) (w w' v v' : WorldValue D) (m m' n n' : World) (t t' : Names) (texts rest : List (List ℕ)) (calls calls' : List Call)

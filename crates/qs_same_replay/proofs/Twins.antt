@@ -22,26 +22,28 @@ abbrev pub input_of : Call → Input
 input_of (Happened event outcome) = Happens event
 input_of (Rigged stripe fail) = Fails stripe fail
 
+-- a call's outcome is its step's
 abbrev pub HasOutcome : ℕ → Call → Element → Type 0
 HasOutcome A (Happened event outcome) e = outcome_of A e ≡ Some outcome
 HasOutcome A (Rigged stripe fail) e = Unit {0}
 
--- the step of a call in which nothing outside was disturbed
+-- the step of a call that nothing outside disturbed
 pub record CalmStep (A : ℕ) (m : World) (c : Call) : Type 0 where
   pub element : Element
   pub comes : Comes A m (input_of c) element
   pub outcome_is : HasOutcome A c element
   pub given : IsGiven element
 
--- calls in which nothing was, and the state that they lead to
+-- such calls one after the other, and the state that they lead to
 abbrev pub Calmly : ℕ → World → List Call → World → Type 0
 Calmly A m [] n = n ≡ m
 Calmly A m (c ∷ calls) n = (step : CalmStep A m c) × Calmly A (happens A m step.element) calls n
 
+-- the steps behind the first have no odd answer either
 pub never_later : (e : Element) (es : List Element) → NeverOdd (e ∷ es) → NeverOdd es
 never_later e es never before d follows = never (e ∷ before) d (follows.0, ap (λ (xs : List Element). e ∷ xs) follows.1)
 
--- a calm run
+-- a run that nothing outside disturbed
 pub calmly : (A : ℕ) (m : World) (calls : List Call) (es : List Element) → AreCalls A calls es → Runs A m es → AreCalm A m es → NeverOdd es →
     Calmly A m calls (after A m es)
 calmly A m [] [] are run calm never = refl
