@@ -1,5 +1,5 @@
 -- A stream with its two sides, and what a run of calls does to it.
-use Rattle.std.specs.Prelude.{◌≡◌, ◌≢◌, ℕ, ◌⊎◌, List, [], length, Option, Result, Ok, Err, IfOk, OnErr}
+use Rattle.std.specs.Prelude.{◌≡◌, ◌≢◌, ℕ, ◌⊎◌, List, [], length, Option, Result, Ok, Err, IfOk, OnErr, OnOk}
 use Rattle.std.specs.Io.KnownBytes.{IsAtEnd}
 use Rattle.qs_outside.specs.Faults.{Rose}
 use Rattle.qs_stream.specs.declared.state.State.{State}
@@ -63,7 +63,7 @@ pub record Puts (given : List ℕ) (output : Side) (old : Buffers) (output' : Si
   pub moved : (input : Side) →
       Moved [] given (record { input = input; output = output; stream = old }) (record { input = input; output = output'; stream = new })
 
--- More was read, once. The source was called only where nothing waited to be written.
+-- More was read, once. The source was called only where nothing waited to be written, so behind a read nothing waits.
 pub record Fills {E : Type 0} (old : Flow) (result : Result ℕ E) (new : Flow) : Type 0 where
   pub moved : Moved [] [] old new
   pub tells : Tells result new.stream.state
@@ -71,3 +71,4 @@ pub record Fills {E : Type 0} (old : Flow) (result : Result ℕ E) (new : Flow) 
   pub at_end : IfOk result (λ n. n ≡ 0 → IsAtEnd new.input.bytes)
   pub nothing : OnErr result (new.stream.waiting ≡ [])
   pub written : (new.input ≡ old.input) ⊎ (new.stream.held ≡ [])
+  pub emptied : OnOk result (new.stream.held ≡ [])

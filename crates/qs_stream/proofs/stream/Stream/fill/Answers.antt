@@ -24,6 +24,7 @@ returns-in-Ok g c =
       at_end = c.in-Ok.ensures.end;
       nothing = tt;
       written = inr (held_is ∙ flushed.written);
+      emptied = held_is ∙ flushed.written;
     }
 
 pub returns-in-Err : goal.returns-in-Err
@@ -41,4 +42,5 @@ returns-in-Err g c =
       at_end = tt;
       nothing = c.in-Err.ensures.failed;
       written = inr (held_is ∙ flushed.written);
+      emptied = tt;
     }
