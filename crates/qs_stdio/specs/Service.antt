@@ -7,7 +7,8 @@ use Rattle.qs_bytes.specs.declared.ask.Ask.{Ask}
 use Rattle.qs_bytes.specs.declared.ask.Errno.TheVariants.{Io, NoMem, Inval}
 use Rattle.qs_bytes.specs.declared.ask.Verdict.{Verdict}
 use Rattle.qs_bytes.specs.declared.ask.Verdict.TheVariants.{Got, Fine, Refused}
-use Rattle.qs_nbd_transmission.specs.Heads.{ask_of, is_write, longest}
+use Rattle.qs_nbd_transmission.specs.Heads.{ask_of, is_write}
+use Rattle.qs_bytes.specs.Payloads.{max_payload}
 use Rattle.qs_nbd_transmission.specs.Messages.{Message, IsMessage, spelling}
 use Rattle.qs_nbd_transmission.specs.Replies.{is_read, reply_of}
 use Rattle.qs_outside.specs.Blocks.{Seen}
@@ -28,7 +29,7 @@ ask x = ask_of false x.message.head
 abbrev pub is_valid : ℕ → ℕ → Ask → Bool
 is_valid align size a =
     not (not (is_read a.kind) && not (is_write a.kind)) && not a.fua && a.flags_fit
-    && not (is_read a.kind && nat_lt longest a.length)
+    && not (is_read a.kind && nat_lt max_payload a.length)
     && (a.offset % align == 0) && (a.length % align == 0) && nat_le (a.offset + a.length) size
 
 -- which answers a request may get
