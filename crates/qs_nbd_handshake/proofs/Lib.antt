@@ -1,0 +1,6 @@
+pub mod Naming
+pub mod Overlays
+pub mod Sizes
+pub mod Reading
+pub mod Asking
+pub mod Going

@@ -1,0 +1,19 @@
+//! Laws of the definitions, each the contract of a function with nothing to do.
+
+ghost use Rattle.qs_nbd_handshake.specs.Laws.{GoesOn, JoinsPieces, ReadsOnce};
+
+/// A piece that brought no event, and the next one, lead where both together do.
+pub fn any_cutting()
+    ensures { JoinsPieces }
+{}
+
+/// The first event of a stream, and its place, depend on the stream alone.
+pub fn one_event()
+    ensures { ReadsOnce }
+{}
+
+/// Behind what brought no event, behind the client's flags and behind an answer that stays, bytes
+/// are awaited; behind what wants something, what may be told for it.
+pub fn goes_on()
+    ensures { GoesOn }
+{}
