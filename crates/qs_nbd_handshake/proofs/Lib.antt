@@ -4,3 +4,5 @@ pub mod Sizes
 pub mod Reading
 pub mod Asking
 pub mod Going
+pub mod Served
+pub mod Histories

@@ -4,3 +4,4 @@ pub mod Phases
 pub mod Answers
 pub mod Stages
 pub mod Laws
+pub mod Sessions

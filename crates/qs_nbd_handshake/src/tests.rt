@@ -413,5 +413,7 @@ fn the_longest_option(rt: HostRuntime) -> Result<(), Fail> {
     laws::any_cutting();
     laws::one_event();
     laws::goes_on();
+    laws::one_spelling();
+    laws::whole_sessions();
     Ok(())
 }
