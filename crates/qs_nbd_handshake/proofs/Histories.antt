@@ -67,10 +67,10 @@ whole old new bytes more all events further p fixed is spelled tells leaves =
       each = All-append (IsOption p.known.fixed) p.options one p.each (All-cons (IsOption p.known.fixed) all [] is (All-nil (IsOption p.known.fixed)));
       taken = ap (λ xs. xs ++ more) p.taken ∙ append_assoc p.flags (options ++ p.rest) more
           ∙ ap (λ xs. p.flags ++ xs) (append_assoc options p.rest more ∙ ap (λ xs. options ++ xs) (spelled ∙ sym (append-nil all))
-              ∙ sym (flat_map-append bytes_of p.options one) ∙ sym (append-nil (flat_map bytes_of (p.options ++ one))));
+          ∙ sym (flat_map-append bytes_of p.options one) ∙ sym (append-nil (flat_map bytes_of (p.options ++ one))));
       told = ap (λ xs. xs ++ further) p.told
           ∙ ap (λ xs. event.Flags (number32 p.flags 0) ∷ xs) (append_assoc told p.last further ∙ ap (λ xs. told ++ xs) (tells ∙ sym (append-nil (told_of all)))
-              ∙ sym (flat_map-append told_of p.options one) ∙ sym (append-nil (flat_map told_of (p.options ++ one))));
+          ∙ sym (flat_map-append told_of p.options one) ∙ sym (append-nil (flat_map told_of (p.options ++ one))));
       leaves = leaves;
     }
 
@@ -98,7 +98,7 @@ ends terms held bytes more events p (Some bad) fault size =
     let same : p.rest ++ more ≡ all = ap (λ xs. xs ++ more) p.leaves.0 in
     longer (reader terms (InOption held)) (reader terms (Stuck bad)) bytes more events (event.Bad bad ∷ []) p p.fixed (
       subst (λ (xs : List ℕ). IsRefused p.known.fixed xs bad) (sym same)
-      (record { whole = refused_size p.known.fixed all bad size fault; fault = fault }),
+          (record { whole = refused_size p.known.fixed all bad size fault; fault = fault }),
       (0, ap (λ (xs : List HandEvent). xs ++ event.Bad bad ∷ []) p.leaves.2),
     )
 
@@ -142,7 +142,7 @@ answers terms w t bytes events new p r =
     subst (λ (q : Reader). TellsOptions q (bytes ++ []) (events ++ [])) (sym r)
     (longer (reader terms (Asked w)) (reader_behind terms w t) bytes [] events [] p p.fixed
     (subst (λ (xs : List ℕ). Leaves p.known.fixed (phase_behind s) xs (p.last ++ [])) (sym p.leaves.0 ∙ sym (append-nil p.rest))
-      (subst (λ (xs : List HandEvent). Leaves p.known.fixed (phase_behind s) [] xs) (sym p.leaves.1 ∙ sym (append-nil p.last)) (behind_step p.known.fixed s))))
+    (subst (λ (xs : List HandEvent). Leaves p.known.fixed (phase_behind s) [] xs) (sym p.leaves.1 ∙ sym (append-nil p.last)) (behind_step p.known.fixed s))))
 
 again : (terms : Terms) (bad : SessionEnd) (bytes more : List ℕ) (events : List HandEvent) (told : HandEvent) (new : Reader) → TellsOptions (reader terms (Stuck bad)) bytes events →
     more ≡ [] → told ≡ event.Bad bad → new ≡ reader terms (Stuck bad) → TellsOptions new (bytes ++ more) (events ++ told ∷ [])

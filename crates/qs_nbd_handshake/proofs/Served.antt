@@ -40,8 +40,7 @@ spells_served = record {
       length-option_bytes o
       ∙ ap (λ (h : OptionHead). 16 + h.length) (sym (head_read o fits))
       ∙ ap (λ (d : Option SessionEnd). 16 + data_size d (option_head_of (option_bytes o)).length) (sym fault)
-      ∙ sym (size-long fixed (option_bytes o) (omega (arith, length-option_bytes o))) in
-      (
+      ∙ sym (size-long fixed (option_bytes o) (omega (arith, length-option_bytes o))) in (
         record { whole = whole; served = fault },
         ap (λ (h : OptionHead). wish_of h.number (drop 16 (option_bytes o))) (head_read o fits) ∙ ap (λ xs. wish_of o.number xs) (content_read o),
       );

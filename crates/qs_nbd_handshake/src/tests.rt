@@ -1,6 +1,6 @@
-ghost use Rattle.std.specs.Prelude.{◌<◌, IfOk, IsTrue};
+ghost use Rattle.std.specs.Prelude.{◌<◌, ℕ, List, Some, IfOk, IsTrue};
 ghost use Rattle.qs_nbd_handshake.specs.Answers.{CanAnswer, CanAttach, CanFind, CanTell};
-ghost use Rattle.qs_nbd_handshake.specs.Phases.{CanFeed};
+ghost use Rattle.qs_nbd_handshake.specs.Phases.{CanFeed, Reaches, Reader};
 
 use crate::{HandEvent, HandStep, Handshake, Told, Want, laws};
 use qs_bytes::{Bytes, Memory, Mode, Name, NameList, SessionEnd};
@@ -71,14 +71,14 @@ fn tell(alloc: Global, want: &Want) -> Result<Told, Memory>
 fn answer(
     alloc: Global,
     shake: &mut Handshake,
-    want: &Want,
+    want: Want,
     session: &mut Session,
 ) -> Result<bool, Memory>
-    requires { (told : Told) → CanTell want.now told → CanAnswer shake.old.phase told }
+    requires { (told : Told) → CanTell want told → CanAnswer shake.old.phase told }
     ensures { IfOk result (λ stays. IsTrue stays → CanFeed shake.new.phase) }
 {
-    session.wants.push(*want)?;
-    let told = tell(alloc, want)?;
+    session.wants.push(want)?;
+    let told = tell(alloc, &want)?;
     match shake.answer(alloc, &told, &mut session.out)? {
         HandStep::Stay => Ok(true),
         HandStep::Transmit(mode) => {
@@ -86,6 +86,26 @@ fn answer(
             Ok(false)
         }
         HandStep::Close(_) => Ok(false),
+    }
+}
+
+/// Does what an event asks for, and says whether the handshake goes on.
+fn hear(
+    alloc: Global,
+    shake: &mut Handshake,
+    event: HandEvent,
+    session: &mut Session,
+) -> Result<bool, Memory>
+    requires { (old : Reader) × ((bytes : List ℕ) × Reaches old bytes (Some event) shake.old) }
+    ensures { IfOk result (λ stays. IsTrue stays → CanFeed shake.new.phase) }
+{
+    match event {
+        HandEvent::Flags(flags) => {
+            session.flags = Some(flags);
+            Ok(true)
+        }
+        HandEvent::Wanted(want) => answer(alloc, shake, want, session),
+        HandEvent::Bad(_) => Ok(false),
     }
 }
 
@@ -105,15 +125,10 @@ fn serve(alloc: Global, stream: &[u8], cut: usize) -> Result<Session, Memory>
     for _ in 0..stream.len() {
         let fed = shake.feed(&rest[..rest.len().min(cut)]);
         rest = &rest[fed.taken..];
-        match fed.event {
-            None => {}
-            Some(HandEvent::Flags(flags)) => session.flags = Some(flags),
-            Some(HandEvent::Wanted(want)) => {
-                if !answer(alloc, &mut shake, &want, &mut session)? {
-                    break;
-                }
+        if let Some(event) = fed.event {
+            if !hear(alloc, &mut shake, event, &mut session)? {
+                break;
             }
-            Some(HandEvent::Bad(_)) => break,
         }
     }
     session.end = shake.at_end();
@@ -394,26 +409,43 @@ fn refusals_by_their_field(rt: HostRuntime) -> Result<(), Fail> {
     Ok(())
 }
 
+/// The stream is one option that isn't known.
+fn is_unknown(rt: &impl Abort, alloc: Global, stream: &[u8], cut: usize) -> Result<(), Memory>
+    requires { 0 < cut }
+{
+    let session = serve(alloc, stream, cut)?;
+    assert_eq!(rt; session.wants.as_slice(), [Want::Nothing].as_slice());
+    assert_eq!(rt; session.flags, Some(1));
+    assert_eq!(rt; session.end, SessionEnd::Done);
+    assert_eq!(rt;
+        session.out.as_slice(),
+        b"\x00\x03\xe8\x89\x04\x55\x65\xa9\0\0\0\x05\x80\0\0\x01\0\0\0\0".as_slice()
+    );
+    Ok(())
+}
+
+/// Bytes of data.
+fn filled(alloc: Global, length: usize) -> Result<Vec<u8>, Memory> {
+    Ok(vec![in alloc; 7; length]?)
+}
+
 #[test]
 fn the_longest_option(rt: HostRuntime) -> Result<(), Fail> {
     let alloc = rt.alloc();
     let mut stream = b"\0\0\0\x01IHAVEOPT\0\0\0\x05\0\x01\0\0".to_vec(alloc)?;
-    stream.extend_from_slice(vec![in alloc; 7; 65_536]?.as_slice())?;
-    for cut in [1, 1000, 65_556] {
-        let session = serve(alloc, stream.as_slice(), cut)?;
-        assert_eq!(rt; session.wants.as_slice(), [Want::Nothing].as_slice());
-        assert_eq!(rt; session.flags, Some(1));
-        assert_eq!(rt; session.end, SessionEnd::Done);
-        assert_eq!(rt;
-            session.out.as_slice(),
-            b"\x00\x03\xe8\x89\x04\x55\x65\xa9\0\0\0\x05\x80\0\0\x01\0\0\0\0".as_slice()
-        );
-    }
+    stream.extend_from_slice(filled(alloc, 65_536)?.as_slice())?;
+    is_unknown(&rt, alloc, stream.as_slice(), 1)?;
+    is_unknown(&rt, alloc, stream.as_slice(), 1000)?;
+    is_unknown(&rt, alloc, stream.as_slice(), 65_556)?;
+    Ok(())
+}
+
+#[test]
+fn the_greeting(rt: HostRuntime) {
     assert_eq!(rt; Handshake::greeting(), *b"NBDMAGICIHAVEOPT\0\x03");
     laws::any_cutting();
     laws::one_event();
     laws::goes_on();
     laws::one_spelling();
     laws::whole_sessions();
-    Ok(())
 }
