@@ -3,7 +3,6 @@ use Rattle.std.proofs.Common.{◌≡◌, ℕ, List, ◌++◌, Option, Some, None
 use Rattle.qs_bytes.specs.declared.status.SessionEnd.{SessionEnd}
 use Rattle.qs_bytes.specs.Numbers.{number32}
 use Rattle.qs_nbd_wire.specs.declared.opening.ClientFlags.{ClientFlags}
-use Rattle.qs_nbd_wire.specs.declared.option.OptionHead.{OptionHead}
 use Rattle.qs_nbd_wire.specs.Greetings.{flags_of}
 use Rattle.qs_nbd_wire.specs.Options.{option_head_of}
 use Rattle.qs_nbd_handshake.specs.declared.event.HandEvent.{HandEvent}
@@ -15,8 +14,8 @@ use Rattle.qs_nbd_handshake.specs.declared.event.Want.{Want}
 use Rattle.qs_nbd_handshake.specs.declared.event.Want.TheVariants.{Nothing}
 use Rattle.qs_nbd_handshake.specs.declared.stage.Terms.{Terms}
 use Rattle.qs_nbd_handshake.specs.declared.wish.Wish.{Wish}
-use Rattle.qs_nbd_handshake.specs.Answers.{CanTell, CanAnswer, IsStep, IsBehind, phase_behind, step_of}
-use Rattle.qs_nbd_handshake.specs.Phases.{Phase, InFlags, InOption, Asked, Over, Stuck, Reader, CanFeed, Reaches, Leads, behind_flags, flags_event, event_of, phase_of_option, wish_in}
+use Rattle.qs_nbd_handshake.specs.Answers.{CanTell, CanAnswer, IsStep, IsBehind, phase_behind}
+use Rattle.qs_nbd_handshake.specs.Phases.{Phase, InFlags, InOption, Asked, Over, Stuck, Reader, CanFeed, Leads, behind_flags, flags_event, event_of, phase_of_option, wish_in}
 use Rattle.qs_nbd_handshake.specs.Wishes.{fault_of}
 use Rattle.qs_nbd_handshake.specs.Laws.{GoesOn}
 

@@ -1,5 +1,5 @@
 -- What the calls of a handshake tell together, by induction on them.
-use Rattle.std.proofs.Common.{◌≡◌, ℕ, ◌+◌, ◌<◌, Bool, List, [], ◌∷◌, ◌++◌, length, replicate, Option, Some, None, refl, ap, sym, ◌∙◌, subst, append_assoc, arith, ◌⊎◌, inl, inr}
+use Rattle.std.proofs.Common.{◌≡◌, ℕ, ◌+◌, ◌<◌, Bool, List, [], ◌∷◌, ◌++◌, length, replicate, Option, Some, None, refl, ap, sym, ◌∙◌, subst, append_assoc, arith, inl, inr}
 use Rattle.std.specs.List.{flat_map}
 use Rattle.std.proofs.lemmas.List.{append-nil, replicate_more}
 use Rattle.std.proofs.lemmas.List.Elements.{All-append, All-cons, All-nil}
@@ -17,8 +17,8 @@ use Rattle.qs_nbd_handshake.specs.declared.event.HandStep.TheVariants.{Stay, Tra
 use Rattle.qs_nbd_handshake.specs.declared.event.Told.{Told}
 use Rattle.qs_nbd_handshake.specs.declared.stage.Terms.{Terms}
 use Rattle.qs_nbd_handshake.specs.declared.wish.Wish.{Wish}
-use Rattle.qs_nbd_handshake.specs.Answers.{IsBehind, reader_behind, mode_behind, phase_behind, step_of}
-use Rattle.qs_nbd_handshake.specs.Phases.{Phase, InFlags, InOption, Asked, Over, Stuck, Reader, Leads, FlagsTell, OptionTells, behind_flags, data_size, event_of, flags_event, option_phase, option_size, phase_of_option, wish_in, opening}
+use Rattle.qs_nbd_handshake.specs.Answers.{IsBehind, reader_behind, phase_behind, step_of}
+use Rattle.qs_nbd_handshake.specs.Phases.{Phase, InFlags, InOption, Asked, Over, Stuck, Reader, Leads, FlagsTell, OptionTells, behind_flags, data_size, event_of, flags_event, option_size, phase_of_option, wish_in, opening}
 use Rattle.qs_nbd_handshake.specs.Wishes.{fault_of}
 use Rattle.qs_nbd_handshake.specs.Sessions.{Call, Took, Answered, Makes, Runs, taken_by, told_by, IsOption, IsRefused, told_of, bytes_of, Leaves, TellsOptions, RefusesFlags, AwaitsFlags, Tells, ReadsSessions}
 use Rattle.qs_nbd_handshake.proofs.Sizes.{size-least, size-long}

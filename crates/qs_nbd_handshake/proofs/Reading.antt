@@ -1,13 +1,11 @@
 -- What a handshake tells depends on the bytes alone, however they are cut.
-use Rattle.std.proofs.Common.{◌≡◌, ℕ, ◌+◌, ◌≤◌, Bool, List, [], ◌++◌, length, take, Option, Some, None, refl, ap, sym, ◌∙◌, subst, append_assoc, arith}
+use Rattle.std.proofs.Common.{◌≡◌, ℕ, Bool, List, ◌++◌, length, take, Option, Some, None, refl, ap, sym, ◌∙◌, subst, append_assoc, arith}
 use Rattle.std.proofs.lemmas.List.{length-append, take_at, append_cancel_left}
 use Rattle.qs_bytes.specs.Numbers.{number32}
-use Rattle.qs_bytes.specs.declared.status.SessionEnd.{SessionEnd}
 use Rattle.qs_nbd_wire.specs.Greetings.{flags_of}
 use Rattle.qs_nbd_handshake.specs.declared.event.HandEvent.{HandEvent}
-use Rattle.qs_nbd_handshake.specs.declared.event.HandEvent.TheVariants as event
 use Rattle.qs_nbd_handshake.specs.declared.stage.Terms.{Terms}
-use Rattle.qs_nbd_handshake.specs.Phases.{Phase, InFlags, InOption, Asked, Over, Stuck, Reader, Leads, Reaches, FlagsTell, OptionTells, StaysStuck, behind_flags, flags_event, option_event, option_phase, option_size}
+use Rattle.qs_nbd_handshake.specs.Phases.{Phase, InFlags, InOption, Asked, Over, Stuck, Reader, Leads, Reaches, FlagsTell, OptionTells, behind_flags, flags_event, option_event, option_phase, option_size}
 use Rattle.qs_nbd_handshake.specs.Laws.{JoinsPieces, ReadsOnce}
 use Rattle.qs_nbd_handshake.proofs.Sizes.{size-append, size-least}
 

@@ -1,14 +1,14 @@
 -- Whole options, and the spellings of options that may be sent.
-use Rattle.std.proofs.Common.{◌≡◌, ℕ, ◌+◌, ◌<◌, ◌^◌, Bool, true, false, not, ◌&&◌, ◌==◌, nat_lt, if◌then◌else◌, List, ◌++◌, length, drop, Option, Some, None, refl, ap, sym, ◌∙◌, arith}
+use Rattle.std.proofs.Common.{◌≡◌, ℕ, ◌+◌, Bool, true, false, not, ◌==◌, if◌then◌else◌, List, length, drop, Option, Some, None, refl, ap, sym, ◌∙◌, arith}
 use Rattle.std.proofs.lemmas.Bool.{eqb-true}
-use Rattle.std.proofs.lemmas.List.{append-nil, drop_at}
+use Rattle.std.proofs.lemmas.List.{drop_at}
 use Rattle.qs_bytes.specs.declared.status.SessionEnd.{SessionEnd}
 use Rattle.qs_nbd_wire.specs.declared.option.OptionHead.{OptionHead}
-use Rattle.qs_nbd_wire.specs.Options.{AreBytes, ClientOption, FitsOption, head_bytes, option_bytes, option_head_of, option_magic}
+use Rattle.qs_nbd_wire.specs.Options.{ClientOption, FitsOption, head_bytes, option_bytes, option_head_of, option_magic}
 use Rattle.qs_nbd_wire.proofs.Spelling.{length-head_bytes, length-option_bytes, option_head-head_bytes, option_spelled}
-use Rattle.qs_nbd_handshake.specs.Phases.{data_size, option_size, wish_in}
+use Rattle.qs_nbd_handshake.specs.Phases.{data_size, option_size}
 use Rattle.qs_nbd_handshake.specs.Sessions.{IsOption, SpellsServed, head_for}
-use Rattle.qs_nbd_handshake.specs.Wishes.{fault_of, longest, wish_of}
+use Rattle.qs_nbd_handshake.specs.Wishes.{fault_of, wish_of}
 use Rattle.qs_nbd_handshake.proofs.Sizes.{size-least, size-long}
 
 first_rule : (a : Bool) (bad : SessionEnd) (rest : Option SessionEnd) → (if not a then Some bad else rest) ≡ None → a ≡ true

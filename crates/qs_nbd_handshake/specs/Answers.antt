@@ -1,5 +1,5 @@
 -- What answers each option, and how the session goes on (NBD proto.md, "Option types").
-use Rattle.std.specs.Prelude.{◌≡◌, ℕ, Bool, true, if◌then◌else◌, List, [], ◌++◌, Option, Some, None}
+use Rattle.std.specs.Prelude.{◌≡◌, ℕ, Bool, true, if◌then◌else◌, List, [], ◌++◌, Option, Some}
 use Rattle.std.specs.List.{flat_map}
 use Rattle.qs_bytes.specs.declared.ask.Mode.{Mode}
 use Rattle.qs_bytes.specs.declared.status.SessionEnd.TheVariants as ended

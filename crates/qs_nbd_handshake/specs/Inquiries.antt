@@ -1,6 +1,6 @@
 -- The data of INFO and GO (NBD proto.md, "NBD_OPT_INFO"): name length (32), name, count (16) and as
 -- many numbers of informations (16), and nothing more.
-use Rattle.std.specs.Prelude.{ℕ, ◌+◌, ◌*◌, Bool, true, false, not, ◌&&◌, ◌||◌, ◌==◌, nat_lt, if◌then◌else◌, List, [], ◌∷◌, length, drop, Option, Some, None}
+use Rattle.std.specs.Prelude.{ℕ, ◌+◌, ◌*◌, Bool, false, not, ◌&&◌, ◌||◌, ◌==◌, nat_lt, if◌then◌else◌, List, [], ◌∷◌, length, drop, Option, Some, None}
 use Rattle.std.specs.Str.{is_utf8}
 use Rattle.qs_bytes.specs.Numbers.{number16, number32}
 use Rattle.qs_bytes.specs.Pieces.{part}

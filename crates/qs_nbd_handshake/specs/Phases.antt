@@ -1,11 +1,9 @@
 -- What a handshake has taken of the next message, and what each feed makes of it.
 use Rattle.std.specs.Prelude.{◌≡◌, ℕ, ◌+◌, ◌<◌, Bool, true, false, nat_lt, if◌then◌else◌, List, [], ◌∷◌, ◌++◌, length, drop, Option, Some, None}
 use Rattle.qs_bytes.specs.Numbers.{number32}
-use Rattle.qs_bytes.specs.declared.ask.Mode.{Mode}
 use Rattle.qs_bytes.specs.declared.status.SessionEnd.{SessionEnd}
 use Rattle.qs_bytes.specs.declared.status.SessionEnd.TheVariants.{Done, Truncated, BadFlags}
 use Rattle.qs_nbd_wire.specs.declared.opening.ClientFlags.{ClientFlags}
-use Rattle.qs_nbd_wire.specs.declared.option.OptionHead.{OptionHead}
 use Rattle.qs_nbd_wire.specs.Greetings.{flags_of}
 use Rattle.qs_nbd_wire.specs.Options.{option_head_of}
 use Rattle.qs_nbd_handshake.specs.declared.event.HandEvent.{HandEvent}

@@ -1,5 +1,5 @@
 -- The handshake's own fields: the buffer, of which some front is held, and the stage.
-use Rattle.std.specs.Prelude.{ℕ, ◌<◌, ◌≤◌, Bool, List, length, take}
+use Rattle.std.specs.Prelude.{ℕ, ◌<◌, Bool, List, take}
 use Rattle.qs_nbd_handshake.specs.declared.stage.Stage.{Stage}
 use Rattle.qs_nbd_handshake.specs.declared.stage.Stage.TheVariants as stage
 use Rattle.qs_nbd_handshake.specs.declared.stage.Terms.{Terms}

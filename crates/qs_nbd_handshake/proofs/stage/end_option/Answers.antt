@@ -1,10 +1,10 @@
-use Rattle.std.proofs.Common.{◌≡◌, ℕ, ◌-◌, List, length, take, drop, Option, None, ap, sym, ◌∙◌, arith}
+use Rattle.std.proofs.Common.{◌≡◌, ◌-◌, length, take, drop, Option, None, ap, sym, ◌∙◌, arith}
 use Rattle.std.proofs.lemmas.List.{take_all, length-drop}
 use Rattle.qs_bytes.specs.declared.status.SessionEnd.{SessionEnd}
 use Rattle.qs_nbd_wire.specs.declared.option.OptionHead.{OptionHead}
 use Rattle.qs_nbd_wire.specs.Options.{option_head_of}
 use Rattle.qs_nbd_handshake.specs.declared.wish.Wish.{Wish}
-use Rattle.qs_nbd_handshake.specs.Phases.{Phase, Asked, phase_of_option, wish_in}
+use Rattle.qs_nbd_handshake.specs.Phases.{Asked, phase_of_option, wish_in}
 use Rattle.qs_nbd_handshake.specs.Wishes.{fault_of, wish_of}
 use Rattle.qs_nbd_handshake.proofs.stage.end_option.Goals as goal
 

@@ -1,6 +1,5 @@
-use Rattle.std.proofs.Common.{◌≡◌, ◌+◌, ◌≤◌, ◌++◌, length, take, ap, sym, ◌∙◌, arith, subst}
+use Rattle.std.proofs.Common.{◌≡◌, ◌+◌, ◌++◌, length, take, arith}
 use Rattle.std.proofs.lemmas.List.{length-take-le}
-use Rattle.qs_nbd_handshake.specs.Phases.{option_size}
 use Rattle.qs_nbd_handshake.proofs.Overlays.{take-overlay}
 use Rattle.qs_nbd_handshake.proofs.Sizes.{size-grows}
 use Rattle.qs_nbd_handshake.proofs.stage.fill.Goals as goal
