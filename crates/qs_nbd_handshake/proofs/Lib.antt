@@ -6,3 +6,4 @@ pub mod Asking
 pub mod Going
 pub mod Served
 pub mod Histories
+pub mod OneWay

@@ -33,7 +33,7 @@ behind_held held xs ys more rest e =
     append_assoc held xs more ∙ ap (λ zs. held ++ zs) e ∙ sym (append_assoc held ys rest)
 
 -- an option has one end
-same_option : (fixed : Bool) (xs ys more rest : List ℕ) → length xs ≡ option_size fixed xs → length ys ≡ option_size fixed ys →
+pub same_option : (fixed : Bool) (xs ys more rest : List ℕ) → length xs ≡ option_size fixed xs → length ys ≡ option_size fixed ys →
     xs ++ more ≡ ys ++ rest → xs ≡ ys
 same_option fixed xs ys more rest p q e =
     let a = size-append fixed xs more (omega (arith, p, size-least fixed xs)) in

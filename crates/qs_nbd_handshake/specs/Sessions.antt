@@ -118,3 +118,11 @@ pub record SpellsServed : Type 0 where
       (bytes ≡ option_bytes o) × (wish_in bytes ≡ wish_of o.number o.content)
   pub served : (fixed : Bool) → (o : ClientOption) → FitsOption o → fault_of fixed (head_for o) ≡ None →
       IsOption fixed (option_bytes o) × (wish_in (option_bytes o) ≡ wish_of o.number o.content)
+
+-- A stream has one reading: two handshakes that took the same bytes, the client's flags among them, read the
+-- same flags and the same options from them, and have the same rest.
+abbrev pub ReadsOneWay : Type 0
+ReadsOneWay =
+    (new other : Reader) → (bytes : List ℕ) → (events further : List HandEvent) →
+    (p : TellsOptions new bytes events) → (q : TellsOptions other bytes further) →
+    (p.flags ≡ q.flags) × (p.options ≡ q.options) × (p.rest ≡ q.rest)

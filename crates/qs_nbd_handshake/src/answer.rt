@@ -1,7 +1,8 @@
 ghost use Rattle.std.specs.Prelude.{◌≡◌, ◌++◌, ℕ, Bool, List, IfOk};
 ghost use Rattle.std.specs.List.{flat_map};
 ghost use Rattle.qs_nbd_wire.specs.Replies.{reply_bytes};
-ghost use Rattle.qs_nbd_handshake.specs.Answers.{CanTell, export_step, export_text, go_step, info_text, informations, mode_behind as mode_after, name_text, names_text, phase_behind, step_of, text_of};
+ghost use Rattle.qs_nbd_handshake.specs.Answers.{CanTell, export_text, info_text, informations, name_text, names_text, text_of};
+ghost use Rattle.qs_nbd_handshake.specs.Answers.{export_step, go_step, mode_behind as mode_after, phase_behind, step_of};
 ghost use Rattle.qs_nbd_handshake.specs.Stages.{IsSound, phase_of};
 ghost use Rattle.qs_nbd_handshake.specs.Wishes.{want_of};
 
@@ -103,7 +104,8 @@ fn informations(
     sizes: bool,
     info: &ExportInfo2,
 ) -> Result<Bytes, Memory>
-    ensures { IfOk result (λ text. text ≡ informations number structured sizes info.now ++ reply_bytes number OptionReply.Ack) }
+    ensures { IfOk result (λ text.
+        text ≡ informations number structured sizes info.now ++ reply_bytes number OptionReply.Ack) }
 {
     let mut text = Bytes::of(Vec::new(alloc));
     let export = OptionReply::Export {

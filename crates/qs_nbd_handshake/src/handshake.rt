@@ -92,7 +92,8 @@ impl Handshake {
     ) -> Result<HandStep, Memory>
         requires { CanAnswer self.old.phase told.now }
         ensures step { IfOk result (IsStep self.old.terms.mode self.old.phase told.now) }
-        ensures text { OnOk result ((text : List ℕ) × (IsText self.old.terms.mode self.old.phase told.now text × (out.new ≡ out.old ++ text))) }
+        ensures text { OnOk result ((text : List ℕ)
+            × (IsText self.old.terms.mode self.old.phase told.now text × (out.new ≡ out.old ++ text))) }
         ensures behind { OnOk result (IsBehind self.old.terms self.old.phase told.now self.new) }
         ensures err { OnErr result (self.new ≡ self.old) }
         ensures unwritten { OnErr result (out.new ≡ out.old) }

@@ -1,7 +1,7 @@
 //! Laws of the definitions, each the contract of a function with nothing to do.
 
 ghost use Rattle.qs_nbd_handshake.specs.Laws.{GoesOn, JoinsPieces, ReadsOnce};
-ghost use Rattle.qs_nbd_handshake.specs.Sessions.{ReadsSessions, SpellsServed};
+ghost use Rattle.qs_nbd_handshake.specs.Sessions.{ReadsOneWay, ReadsSessions, SpellsServed};
 
 /// A piece that brought no event, and the next one, lead where both together do.
 pub fn any_cutting()
@@ -28,4 +28,9 @@ pub fn one_spelling()
 /// and nothing else, up to a rest that is less than an option or what is refused.
 pub fn whole_sessions()
     ensures { ReadsSessions }
+{}
+
+/// A stream has one reading, however it is cut.
+pub fn one_reading()
+    ensures { ReadsOneWay }
 {}

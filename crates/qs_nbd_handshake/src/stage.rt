@@ -2,7 +2,8 @@ ghost use Rattle.std.specs.Prelude.{◌≡◌, ℕ, ◌+◌, ◌<◌, ◌≤◌,
 ghost use Rattle.qs_bytes.specs.Numbers.{number32};
 ghost use Rattle.qs_nbd_wire.specs.Greetings.{flags_of};
 ghost use Rattle.qs_nbd_wire.specs.Options.{option_head_of};
-ghost use Rattle.qs_nbd_handshake.specs.Phases.{CanFeed, Reaches, behind_flags, data_size, flags_event, is_stuck, option_event, option_phase, option_size};
+ghost use Rattle.qs_nbd_handshake.specs.Phases.{CanFeed, Reaches, behind_flags, data_size, flags_event, is_stuck};
+ghost use Rattle.qs_nbd_handshake.specs.Phases.{option_event, option_phase, option_size};
 ghost use Rattle.qs_nbd_handshake.specs.Stages.{IsSound, phase_of, reader_of};
 ghost use Rattle.qs_nbd_handshake.specs.Wishes.{fault_of};
 
@@ -104,7 +105,8 @@ fn end_flags(terms: Terms, buffer: &[u8], taken: usize) -> Advance
     requires room { length buffer.now ≡ 65552 }
     ensures taken { result.taken ≡ taken }
     ensures event { result.event ≡ Some (flags_event (number32 buffer.now 0) (flags_of (number32 buffer.now 0))) }
-    ensures behind { reader_of result.terms buffer.now result.stage ≡ behind_flags terms (number32 buffer.now 0) (flags_of (number32 buffer.now 0)) }
+    ensures behind { reader_of result.terms buffer.now result.stage
+        ≡ behind_flags terms (number32 buffer.now 0) (flags_of (number32 buffer.now 0)) }
     ensures sound { IsSound result.terms.fixed buffer.now result.stage }
 {
     let flags = u32_at(buffer, 0);
@@ -127,7 +129,8 @@ fn end_flags(terms: Terms, buffer: &[u8], taken: usize) -> Advance
 
 /// A refusal, behind so many bytes.
 fn refused(terms: Terms, taken: usize, bad: SessionEnd) -> Advance
-    ensures { result ≡ record { taken = taken; event = Some (HandEvent.Bad bad); terms = terms; stage = Stage.Stuck bad } }
+    ensures { result
+        ≡ record { taken = taken; event = Some (HandEvent.Bad bad); terms = terms; stage = Stage.Stuck bad } }
 {
     Advance {
         taken,

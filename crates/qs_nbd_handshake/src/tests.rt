@@ -448,4 +448,5 @@ fn the_greeting(rt: HostRuntime) {
     laws::goes_on();
     laws::one_spelling();
     laws::whole_sessions();
+    laws::one_reading();
 }

@@ -1,11 +1,11 @@
 -- Laws of the spellings of options and replies.
 use Rattle.std.proofs.Common.{◌≡◌, ℕ, ◌+◌, ◌<◌, ◌≤◌, ◌^◌, List, [], ◌++◌, length, take, drop, refl, ap, sym, ◌∙◌, append_assoc, arith, lit<}
 use Rattle.std.proofs.Math.Seq.{take-add}
-use Rattle.std.proofs.lemmas.List.{length-append, length-take-le, take_all, take_at, drop_at, take-append-drop, nil_from_length, length-drop, append-nil}
+use Rattle.std.proofs.lemmas.List.{length-append, take_all, drop_at, take-append-drop, nil_from_length, length-drop, append-nil}
 use Rattle.qs_bytes.specs.Numbers.{bytes16, bytes32, bytes64, number32, number64}
 use Rattle.qs_bytes.specs.Pieces.{part}
 use Rattle.qs_nbd_wire.specs.declared.option.OptionHead.{OptionHead}
-use Rattle.qs_nbd_wire.specs.Options.{AreBytes, ClientOption, FitsOption, head_bytes, option_bytes, option_head_of, option_magic}
+use Rattle.qs_nbd_wire.specs.Options.{AreBytes, ClientOption, head_bytes, option_bytes, option_head_of, option_magic}
 use Rattle.qs_nbd_wire.specs.Exports.{export_answer, zeros_told, flags_of_export}
 use Rattle.qs_nbd_wire.specs.Replies.{option_reply, reply_front, reply_magic, sizes_payload, export_payload, server_payload}
 use Rattle.qs_nbd_wire.specs.Laws.{Reply, FitsReply, SpellsFlags, SpellsOptions, RepliesStandApart, AnswersStandApart}

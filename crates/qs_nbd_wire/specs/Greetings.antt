@@ -1,6 +1,6 @@
 -- How a handshake begins (NBD proto.md, "Newstyle negotiation").
-use Rattle.std.specs.Prelude.{ℕ, Bool, ◌||◌, ◌==◌, nat_lt, if◌then◌else◌, List, ◌++◌, Option, Some, None}
-use Rattle.qs_bytes.specs.Numbers.{bytes16, bytes32, bytes64}
+use Rattle.std.specs.Prelude.{ℕ, ◌||◌, ◌==◌, nat_lt, if◌then◌else◌, List, ◌++◌, Option, Some, None}
+use Rattle.qs_bytes.specs.Numbers.{bytes16, bytes64}
 use Rattle.qs_nbd_wire.specs.declared.opening.ClientFlags.{ClientFlags}
 use Rattle.qs_nbd_wire.specs.Options.{option_magic}
 

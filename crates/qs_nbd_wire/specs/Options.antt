@@ -1,5 +1,5 @@
 -- Options, by which a client asks before its requests (NBD proto.md, "Option types").
-use Rattle.std.specs.Prelude.{◌≡◌, ℕ, ◌<◌, ◌^◌, List, ◌++◌, length, get_or}
+use Rattle.std.specs.Prelude.{ℕ, ◌<◌, ◌^◌, List, ◌++◌, length, get_or}
 use Rattle.qs_bytes.specs.Numbers.{bytes32, bytes64, number32, number64}
 use Rattle.qs_nbd_wire.specs.declared.option.OptionHead.{OptionHead}
 

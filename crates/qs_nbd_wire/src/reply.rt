@@ -1,5 +1,6 @@
 ghost use Rattle.std.specs.Prelude.{◌≡◌, ◌++◌, ◌<◌, ◌^◌, length, OnOk, OnErr, IfOk};
-ghost use Rattle.qs_nbd_wire.specs.Replies.{error_number, export_payload, option_reply, reply_bytes, reply_kind, reply_payload, server_payload, sizes_payload};
+ghost use Rattle.qs_nbd_wire.specs.Replies.{error_number, option_reply, reply_bytes, reply_kind, reply_payload};
+ghost use Rattle.qs_nbd_wire.specs.Replies.{export_payload, server_payload, sizes_payload};
 
 use qs_bytes::{Bytes, Memory, Name, put16, put32, put64};
 use std::alloc::Global;

@@ -1,4 +1,3 @@
-use Rattle.std.proofs.Common.{arith}
 use Rattle.qs_nbd_wire.proofs.Spelling.{short-export}
 use Rattle.qs_nbd_wire.proofs.reply.export.Goals as goal
 
