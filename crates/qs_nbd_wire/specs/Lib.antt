@@ -1,0 +1,5 @@
+pub mod Greetings
+pub mod Options
+pub mod Replies
+pub mod Exports
+pub mod Laws
