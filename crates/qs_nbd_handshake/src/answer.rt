@@ -10,10 +10,10 @@ use crate::event::{HandStep, Told};
 use crate::stage::Stage;
 use crate::wish::{ABORT, GO, INFO, LIST, STRUCTURED_REPLY, Wish};
 use qs_bytes::{Bytes, Memory, Mode, Name, NameList};
-use qs_status::SessionEnd;
 use qs_nbd_wire::{
     ExportInfo2, OptionError, OptionReply, flags_told, put_export_answer, put_reply,
 };
+use qs_status::SessionEnd;
 use std::alloc::Global;
 
 /// The bytes that answer an option.

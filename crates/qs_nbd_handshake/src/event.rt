@@ -1,6 +1,6 @@
 use qs_bytes::{Mode, Name, NameList};
-use qs_status::SessionEnd;
 use qs_nbd_wire::ExportInfo2;
+use qs_status::SessionEnd;
 
 /// What is wanted for the answer to an option. A name is `None` where its bytes are no name, and so
 /// name no export.

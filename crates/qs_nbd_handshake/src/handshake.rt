@@ -7,8 +7,8 @@ use crate::answer::{answer_to, mode_behind, stage_behind, step};
 use crate::event::{HandEvent, HandStep, Told};
 use crate::stage::{Advance, ROOM, Stage, Terms, take_piece};
 use qs_bytes::{Bytes, Fed, Memory, Mode};
-use qs_status::SessionEnd;
 use qs_nbd_wire::greeting;
+use qs_status::SessionEnd;
 use std::alloc::Global;
 use std::marker::Model;
 

@@ -10,8 +10,8 @@ ghost use Rattle.qs_nbd_handshake.specs.Wishes.{fault_of};
 use crate::event::HandEvent;
 use crate::wish::{LONGEST, Wish, head_fault, read_wish, wanted};
 use qs_bytes::{Mode, u32_at, write_over};
-use qs_status::SessionEnd;
 use qs_nbd_wire::{OPTION_HEAD_BYTES, OptionHead, client_flags, option_head};
+use qs_status::SessionEnd;
 
 /// The bytes of the client's flags.
 const FLAGS_BYTES: usize = 4;

@@ -4,8 +4,8 @@ ghost use Rattle.qs_nbd_handshake.specs.Phases.{CanFeed, Reaches, Reader};
 
 use crate::{HandEvent, HandStep, Handshake, Told, Want, laws};
 use qs_bytes::{Bytes, Memory, Mode, Name, NameList};
-use qs_status::SessionEnd;
 use qs_nbd_wire::ExportInfo2;
+use qs_status::SessionEnd;
 use std::alloc::Global;
 use std::process::Abort;
 use std::test::Fail;

@@ -4,8 +4,8 @@ ghost use Rattle.qs_nbd_handshake.specs.Wishes.{bare_wish, fault_of, want_of, wi
 use crate::event::Want;
 use crate::inquiry::{Inquiry, name, read_inquiry};
 use qs_bytes::Name;
-use qs_status::SessionEnd;
 use qs_nbd_wire::{OPTION_MAGIC, OptionHead};
+use qs_status::SessionEnd;
 
 /// The most data of an option, in bytes.
 pub const LONGEST: u32 = 65_536;
