@@ -1,11 +1,12 @@
 -- A key at its first dot.
 use Rattle.std.proofs.Common.{◌≡◌, ℕ, ◌<◌, ◌==◌, Bool, true, false, if◌then◌else◌, List, [], ◌∷◌, ◌++◌, length, refl, ap, sym, ◌∙◌, arith, Option, Some, None, option_map}
-use Rattle.std.specs.Prelude.{Result, Ok, Err}
+use Rattle.std.specs.Prelude.{Result, Ok, Err, not, ◌&&◌}
+use Rattle.std.specs.List.{list_all}
 use Rattle.serde_json.specs.Data.{Members, object, put}
 use Rattle.serde_json.specs.Find.{get_member}
 use Rattle.qs_keyval.specs.declared.fault.KeyvalFault.{KeyvalFault}
 use Rattle.qs_keyval.specs.Cutting.{Sides, sides, in_front, onto, split_first}
-use Rattle.qs_keyval.specs.Reading.{dot, chain, parts_of, set_at, inner_at, add}
+use Rattle.qs_keyval.specs.Reading.{HasKeyParts, dot, chain, is_key, is_key_byte, is_part, parts_of, set_at, inner_at, add}
 
 -- the parts of a key that is split so
 abbrev parts_by : List ℕ → Option Sides → List (List ℕ)
@@ -84,3 +85,36 @@ shorter (b ∷ key) = shorter_step (b == dot) b key (shorter key)
 
 pub dot_shorter : (key part rest : List ℕ) → split_first dot key ≡ sides part rest → length rest < length key
 dot_shorter key part rest e = rw e at (shorter key)
+
+-- the first part goes on with one that has bytes already
+abbrev goes_on : List (List ℕ) → Bool
+goes_on [] = true
+goes_on (part ∷ parts) = list_all is_key_byte part && list_all is_part parts
+
+-- what is_key says, by the parts
+abbrev by_parts : Bool → List (List ℕ) → Bool
+by_parts true parts = list_all is_part parts
+by_parts false parts = goes_on parts
+
+and_assoc : (a b c : Bool) → (a && (b && c)) ≡ ((a && b) && c)
+and_assoc true b c = refl
+and_assoc false b c = refl
+
+key_onto : (is_empty : Bool) (b : ℕ) (parts : List (List ℕ)) → IsSome parts → (is_key_byte b && goes_on parts) ≡ by_parts is_empty (onto b parts)
+key_onto is_empty b [] some = absurd some
+key_onto true b (part ∷ parts) some = and_assoc (is_key_byte b) (list_all is_key_byte part) (list_all is_part parts)
+key_onto false b (part ∷ parts) some = and_assoc (is_key_byte b) (list_all is_key_byte part) (list_all is_part parts)
+
+key_step : (e is_empty : Bool) (b : ℕ) (key : List ℕ) → is_key true key ≡ list_all is_part (parts_of key) → is_key false key ≡ goes_on (parts_of key) →
+    (if e then not is_empty && is_key true key else is_key_byte b && is_key false key) ≡ by_parts is_empty (if e then [] ∷ parts_of key else onto b (parts_of key))
+key_step true true b key whole part = refl
+key_step true false b key whole part = whole
+key_step false is_empty b key whole part = ap (λ t. is_key_byte b && t) part ∙ key_onto is_empty b (parts_of key) (some_parts key)
+
+key_parts : (key : List ℕ) (is_empty : Bool) → is_key is_empty key ≡ by_parts is_empty (parts_of key)
+key_parts [] true = refl
+key_parts [] false = refl
+key_parts (b ∷ key) is_empty = key_step (b == dot) is_empty b key (key_parts key true) (key_parts key false)
+
+pub has_key_parts : HasKeyParts
+has_key_parts key = key_parts key true

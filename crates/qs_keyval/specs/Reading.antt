@@ -1,12 +1,13 @@
 -- What an option word reads as (qemu-storage-daemon, "keyval" syntax).
 use Rattle.std.specs.Prelude.{◌≡◌, ℕ, ◌+◌, Bool, true, false, not, ◌&&◌, ◌||◌, ◌==◌, if◌then◌else◌, List, [], ◌∷◌, ◌++◌, length, Option, Some, None, is_some, Result, Ok, Err}
+use Rattle.std.specs.List.{list_all}
 use Rattle.std.specs.Char.{is_ascii_alphanumeric}
 use Rattle.serde_json.specs.Data.{Data, string, object, Members, no_members, put}
 use Rattle.serde_json.specs.Find.{as_object, get_member}
 use Rattle.serde_json.specs.Read.{read}
 use Rattle.qs_keyval.specs.declared.fault.KeyvalFault.{KeyvalFault}
 use Rattle.qs_keyval.specs.declared.fault.KeyvalFault.TheVariants.{BadKey, NoValue, Clash, BadJson, Memory}
-use Rattle.qs_keyval.specs.Cutting.{Item, onto, items_from, split_first}
+use Rattle.qs_keyval.specs.Cutting.{Item, Sides, onto, items_from, split_first}
 
 abbrev pub dot : ℕ
 dot = 46
@@ -47,6 +48,14 @@ abbrev pub is_key : Bool → List ℕ → Bool
 is_key is_empty [] = not is_empty
 is_key is_empty (b ∷ bytes) = if b == dot then not is_empty && is_key true bytes else is_key_byte b && is_key false bytes
 
+abbrev pub is_part : List ℕ → Bool
+is_part [] = false
+is_part (b ∷ bytes) = is_key_byte b && list_all is_key_byte bytes
+
+-- a key is one or more parts, none of them empty
+abbrev pub HasKeyParts : Type 0
+HasKeyParts = (key : List ℕ) → is_key true key ≡ list_all is_part (parts_of key)
+
 -- the parts of an item's key, and its value
 pub record Entry : Type 0 where
   pub key : List (List ℕ)
@@ -57,7 +66,7 @@ abbrev pub alone : Option (List ℕ) → Item → Result Entry KeyvalFault
 alone None item = Err (NoValue item.at)
 alone (Some key) item = Ok (record { key = key ∷ []; value = item.text })
 
-abbrev pub keyed : Option (List ℕ) → Item → Option (List ℕ × List ℕ) → Result Entry KeyvalFault
+abbrev pub keyed : Option (List ℕ) → Item → Option Sides → Result Entry KeyvalFault
 keyed implied item None = alone implied item
 keyed implied item (Some parts) = if is_key true parts.0 then Ok (record { key = parts_of parts.0; value = parts.1 }) else Err (BadKey item.at)
 

@@ -23,7 +23,8 @@ fn behind_comma(text: &str) -> Option<&str>
 pub fn cut_first<'a>(alloc: Global, word: &'a str) -> Result<Front<'a>, AllocError>
     requires { 0 < length word.now }
     ensures items { IfOk result (λ front. (at : ℕ) → items_from at word.now
-        ≡ record { at = at; text = string_bytes front.text } ∷ items_from (at + (length word.now - length front.behind.now)) front.behind.now) }
+        ≡ record { at = at; text = string_bytes front.text }
+        ∷ items_from (at + (length word.now - length front.behind.now)) front.behind.now) }
     ensures shorter { IfOk result (λ front. length front.behind.now < length word.now) }
 {
     let mut text = String::new(alloc);

@@ -93,5 +93,6 @@ fn the_first_item_may_have_the_implied_key(rt: HostRuntime) -> Result<(), Fail> 
         );
     }
     laws::spellings();
+    laws::keys();
     Ok(())
 }

@@ -20,7 +20,8 @@ fn add_item(
     implied: Option<&str>,
 ) -> Result<Members, KeyvalFault>
     ensures { Gives (λ m. members_view m.entries) result
-        (add_item (option_map (λ s. s.now) implied.entry) (record { at = at; text = text.now }) (members_view members.entries)) }
+        (add_item (option_map (λ s. s.now) implied.entry) (record { at = at; text = text.now })
+        (members_view members.entries)) }
 {
     if text.is_empty() {
         return Err(KeyvalFault::BadKey(at));
