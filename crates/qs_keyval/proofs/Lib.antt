@@ -1,0 +1,4 @@
+pub mod Splitting
+pub mod Spelling
+pub mod Fronts
+pub mod Keys
