@@ -1,6 +1,6 @@
 use crate::stray::stray_word;
-use qs_status::Status;
 use qs_host::Ended;
+use qs_status::Status;
 use std::fmt;
 
 /// The command's form.

@@ -1,6 +1,6 @@
 use crate::stray::stray_word;
-use qs_status::Status;
 use qs_host::{BrokenRule, Ended, StartFault};
+use qs_status::Status;
 use qs_stdio::stdio_words;
 use std::fmt;
 
