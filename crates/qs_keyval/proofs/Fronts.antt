@@ -1,7 +1,7 @@
 -- What stands in front of a word's first comma, and of its first item's end.
-use Rattle.std.proofs.Common.{◌≡◌, ℕ, ◌+◌, ◌-◌, ◌<◌, ◌≤◌, ◌==◌, Bool, true, false, if◌then◌else◌, List, [], ◌∷◌, ◌++◌, length, refl, ap, sym, ◌∙◌, append_assoc, arith, suc, Option, Some, None, option_map}
+use Rattle.std.proofs.Common.{◌≡◌, ℕ, ◌+◌, ◌-◌, ◌<◌, ◌==◌, Bool, true, false, if◌then◌else◌, List, [], ◌∷◌, ◌++◌, length, refl, ap, sym, ◌∙◌, append_assoc, arith, suc, Option, Some, None, option_map}
 use Rattle.std.proofs.lemmas.List.{append-nil, length-append}
-use Rattle.qs_keyval.specs.Cutting.{Sides, sides, in_front, split_first, comma, onto, cut, texts_of, spelled_byte, spelled, joined, AreTexts, HasNoComma, Item, placed, trimmed, items_from}
+use Rattle.qs_keyval.specs.Cutting.{Sides, sides, in_front, split_first, comma, onto, cut, texts_of, spelled, joined, AreTexts, HasNoComma, Item, placed, trimmed, items_from}
 use Rattle.qs_keyval.proofs.Spelling.{prepend, prepend_none, cut_spelled, ends_item, spelled_back, stand_apart}
 
 -- a word without a comma, or with its first one behind the front

@@ -1,6 +1,6 @@
 -- A key at its first dot.
-use Rattle.std.proofs.Common.{◌≡◌, ℕ, ◌<◌, ◌==◌, Bool, true, false, if◌then◌else◌, List, [], ◌∷◌, ◌++◌, length, refl, ap, sym, ◌∙◌, arith, Option, Some, None, option_map}
-use Rattle.std.specs.Prelude.{Result, Ok, Err, not, ◌&&◌}
+use Rattle.std.proofs.Common.{◌≡◌, ℕ, ◌<◌, ◌==◌, Bool, true, false, if◌then◌else◌, List, [], ◌∷◌, ◌++◌, length, refl, ap, ◌∙◌, arith, Option, Some, None, option_map}
+use Rattle.std.specs.Prelude.{Result, Ok, not, ◌&&◌}
 use Rattle.std.specs.List.{list_all}
 use Rattle.serde_json.specs.Data.{Members, object, put}
 use Rattle.serde_json.specs.Find.{get_member}

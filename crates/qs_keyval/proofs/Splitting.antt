@@ -2,7 +2,7 @@
 use Rattle.std.proofs.Common.{◌≡◌, ℕ, ◌+◌, ◌<◌, ◌==◌, Bool, true, false, not, cond, if◌then◌else◌, List, [], ◌∷◌, length, take, drop, refl, ap, sym, ◌∙◌, arith, suc, Bor, Option, Some, None, option_map}
 use Rattle.std.specs.Option.{MatchOption}
 use Rattle.std.specs.List.{position_or_len, before_first, after_first}
-use Rattle.qs_keyval.specs.Cutting.{Sides, sides, in_front, split_first}
+use Rattle.qs_keyval.specs.Cutting.{sides, in_front, split_first}
 
 none_step : (e : Bool) (c b : ℕ) (bs : List ℕ) (n : ℕ) → cond (not e) (1 + n) 0 ≡ suc (length bs) → (n ≡ length bs → split_first c bs ≡ None) →
     (if e then sides [] bs else option_map (in_front b) (split_first c bs)) ≡ None

@@ -1,10 +1,9 @@
 -- What calls of a framer told is what their bytes hold.
-use Rattle.std.proofs.Common.{◌≡◌, ℕ, ◌+◌, ◌<◌, ◌≤◌, Bool, true, false, ◌==◌, if◌then◌else◌, List, [], ◌∷◌, ◌++◌, length, take, refl, ap, sym, ◌∙◌, append_assoc, arith, suc, zero}
-use Rattle.std.specs.Prelude.{Option, Some, None}
+use Rattle.std.proofs.Common.{◌≡◌, ℕ, ◌<◌, ◌≤◌, false, ◌==◌, if◌then◌else◌, List, [], ◌∷◌, ◌++◌, length, take, refl, ap, sym, ◌∙◌, arith, suc, zero}
+use Rattle.std.specs.Prelude.{Option, None}
 use Rattle.std.specs.List.{flat_map}
 use Rattle.std.proofs.lemmas.List.{append-nil, length-take-le}
 use Rattle.qs_qmp_frame.specs.declared.stage.FrameEvent.{FrameEvent}
-use Rattle.qs_qmp_frame.specs.declared.stage.FrameEvent.TheVariants.{Object, NotObject, TooLong}
 use Rattle.qs_qmp_frame.specs.Phases.{Phase, Gap, Part, Whole, Wrong, Long, after, event_of, refusal_of, IsFed, objects, run, whole}
 use Rattle.qs_qmp_frame.specs.Streams.{Call, AreCalls, bytes_of, told, told_by, reached, JoinsPieces}
 use Rattle.qs_qmp_frame.proofs.Runs.{objects-append, run-append}

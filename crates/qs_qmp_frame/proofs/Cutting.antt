@@ -1,11 +1,11 @@
 -- Streams are cut into their objects, and what is cut is a stream.
-use Rattle.std.proofs.Common.{◌≡◌, ℕ, ◌+◌, ◌<◌, ◌≤◌, Bool, true, false, ◌&&◌, ◌==◌, if◌then◌else◌, List, [], ◌∷◌, ◌++◌, length, refl, ap, sym, ◌∙◌, append_assoc, arith, subst, suc}
+use Rattle.std.proofs.Common.{◌≡◌, ℕ, ◌+◌, ◌<◌, ◌≤◌, Bool, true, false, ◌==◌, if◌then◌else◌, List, [], ◌∷◌, ◌++◌, length, refl, ap, sym, ◌∙◌, append_assoc, arith, subst, suc}
 use Rattle.std.specs.List.{flat_map}
 use Rattle.std.proofs.lemmas.List.{length-append, append-nil, nil_from_length}
 use Rattle.qs_qmp_frame.specs.declared.place.Place.{Place}
 use Rattle.qs_qmp_frame.specs.declared.place.Place.TheVariants.{Outside}
 use Rattle.qs_qmp_frame.specs.Objects.{open_brace, is_blank, limit, closes, ends, next, stays, is_object, is_beginning}
-use Rattle.qs_qmp_frame.specs.Phases.{Phase, Gap, Part, Whole, Wrong, Long, after, begin, objects, refusal_of, run, whole}
+use Rattle.qs_qmp_frame.specs.Phases.{Phase, Gap, Part, Whole, Wrong, Long, after, refusal_of}
 use Rattle.qs_qmp_frame.specs.Streams.{Item, Blank, Framed, item_bytes, IsItem, AreItems, framed, Rest, Bare, Begun, Stray, Endless, rest_bytes, IsRest, refused_in, Stream, stream_bytes, IsStream, IsCut, IsSpelled, CutsStreams}
 use Rattle.qs_qmp_frame.proofs.Runs.{Leads, leads-append, leads-cons, wrong_stays, long_stays, IsReady, ready_begins, begin_blank, begin_stray, go_end, go_more, go_long}
 

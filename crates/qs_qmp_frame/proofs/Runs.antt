@@ -1,10 +1,8 @@
 -- What bytes lead to, step by step.
-use Rattle.std.proofs.Common.{◌≡◌, ℕ, ◌+◌, ◌<◌, ◌≤◌, Bool, true, false, ◌&&◌, ◌==◌, if◌then◌else◌, List, [], ◌∷◌, ◌++◌, length, refl, ap, sym, ◌∙◌, append_assoc, arith}
-use Rattle.std.proofs.lemmas.List.{length-append, append-nil, nil_from_length}
+use Rattle.std.proofs.Common.{◌≡◌, ℕ, ◌<◌, true, false, ◌==◌, List, [], ◌∷◌, ◌++◌, length, refl, ap, sym, ◌∙◌, append_assoc, arith}
 use Rattle.std.proofs.lemmas.List.Sums.{fold-append}
 use Rattle.qs_qmp_frame.specs.declared.place.Place.{Place}
-use Rattle.qs_qmp_frame.specs.declared.place.Place.TheVariants.{Outside}
-use Rattle.qs_qmp_frame.specs.Objects.{open_brace, is_blank, limit, closes, ends, next, stays, is_object, is_beginning}
+use Rattle.qs_qmp_frame.specs.Objects.{open_brace, is_blank, limit, ends, next}
 use Rattle.qs_qmp_frame.specs.Phases.{Phase, Gap, Part, Whole, Wrong, Long, after, begin, go_on, objects, run, whole}
 
 -- the bytes lead from p to q, and these objects end within them

@@ -1,5 +1,5 @@
 -- What a framer has taken of the stream, and what each byte and each piece makes of it.
-use Rattle.std.specs.Prelude.{◌≡◌, ℕ, ◌+◌, ◌<◌, ◌≤◌, Bool, true, false, ◌==◌, if◌then◌else◌, List, [], ◌∷◌, ◌++◌, length, take, Option, Some, None}
+use Rattle.std.specs.Prelude.{◌≡◌, ℕ, ◌<◌, ◌≤◌, Bool, true, false, ◌==◌, if◌then◌else◌, List, [], ◌∷◌, ◌++◌, length, take, Option, Some, None}
 use Rattle.std.specs.List.{fold}
 use Rattle.qs_qmp_frame.specs.declared.place.Place.{Place}
 use Rattle.qs_qmp_frame.specs.declared.place.Place.TheVariants.{Outside}

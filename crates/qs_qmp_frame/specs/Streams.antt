@@ -1,5 +1,5 @@
 -- What a stream of objects is, above the cutting: blanks and objects in any order, and a rest.
-use Rattle.std.specs.Prelude.{◌≡◌, ℕ, ◌-◌, ◌<◌, ◌≤◌, Bool, true, false, ◌==◌, List, [], ◌∷◌, ◌++◌, length, take, Option, Some, None}
+use Rattle.std.specs.Prelude.{◌≡◌, ℕ, ◌-◌, ◌<◌, ◌≤◌, true, false, ◌==◌, List, [], ◌∷◌, ◌++◌, length, take, Option, Some, None}
 use Rattle.std.specs.List.{flat_map}
 use Rattle.qs_qmp_frame.specs.declared.stage.FrameEvent.{FrameEvent}
 use Rattle.qs_qmp_frame.specs.declared.stage.FrameEvent.TheVariants.{Object, NotObject, TooLong}

@@ -1,7 +1,6 @@
-use Rattle.std.proofs.Common.{◌≡◌, ℕ, ◌<◌, List, [], ◌∷◌, ◌++◌, length, string_bytes, refl, sym, ap, ◌∙◌, arith, rules, None}
-use Rattle.std.proofs.lemmas.Str.{IsUtf8-nil}
-use Rattle.qs_keyval.specs.Cutting.{comma, sides, split_first, HasNoComma, items_from}
-use Rattle.qs_keyval.proofs.Fronts.{IsSoFar, IsFront, so_far_none, so_far_more, front_ended, front_last, splits_shorter}
+use Rattle.std.proofs.Common.{◌≡◌, ℕ, ◌<◌, List, ◌∷◌, length, string_bytes, refl, sym, ap, ◌∙◌, arith, rules, None}
+use Rattle.qs_keyval.specs.Cutting.{comma, sides, split_first}
+use Rattle.qs_keyval.proofs.Fronts.{so_far_none, so_far_more, front_ended, front_last, splits_shorter}
 use Rattle.qs_keyval.proofs.cutting.cut_first.Goals as goal
 
 pub loop-front-init : goal.loop-front-init

@@ -1,4 +1,4 @@
-use Rattle.std.proofs.Common.{◌≡◌, ℕ, ◌<◌, List, [], ◌∷◌, ◌++◌, length, string_bytes, refl, sym, ap, ◌∙◌, arith, rules, None}
+use Rattle.std.proofs.Common.{◌≡◌, ◌<◌, length, sym, rules, None}
 use Rattle.serde_json.specs.View.{members_view}
 use Rattle.qs_keyval.specs.Cutting.{sides, split_first}
 use Rattle.qs_keyval.specs.Reading.{dot}

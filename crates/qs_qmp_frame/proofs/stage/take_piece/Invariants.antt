@@ -1,7 +1,6 @@
-use Rattle.std.proofs.Common.{◌≡◌, ℕ, ◌-◌, ◌<◌, ◌≤◌, false, length, take, vec_capacity}
+use Rattle.std.proofs.Common.{◌≡◌, ℕ, ◌-◌, ◌<◌, ◌≤◌, length, take, vec_capacity}
 use Rattle.std.specs.Prelude.{None}
-use Rattle.qs_qmp_frame.specs.Objects.{limit}
-use Rattle.qs_qmp_frame.specs.Phases.{HasRoom, event_of, is_refused, phase_of, run}
+use Rattle.qs_qmp_frame.specs.Phases.{HasRoom, event_of, phase_of, run}
 use Rattle.qs_qmp_frame.proofs.stage.take_piece.Given as goal
 
 -- the bytes so far led here, and none of them told an event
