@@ -116,13 +116,13 @@ joins line taken line' text cuts =
     record { no_end = subst (λ (l : List ℕ). HasNo 10 l) (sym cuts.1) (has_no_append 10 line taken text.no_end cuts.0); short = cuts.2 }
 
 -- a cut is a line's end, or there were too many bytes
-comes_of : {E : Type 0} (line taken line' : List ℕ) (event : Cut) (after : Flow) → IsText line → Cuts line taken (Some event) line' →
+comes_of : (E : Type 0) (line taken line' : List ℕ) (event : Cut) (after : Flow) → IsText line → Cuts line taken (Some event) line' →
     Comes {E = E} (line ++ taken) (Ok (came_of event)) line' after
-comes_of line taken line' cut.Line after text cuts = (
+comes_of E line taken line' cut.Line after text cuts = (
   ap (λ (l : List ℕ). line ++ l) cuts.1.0 ∙ sym (append_assoc line cuts.0 (10 ∷ [])) ∙ ap (λ (l : List ℕ). l ++ 10 ∷ []) (sym cuts.1.2),
   record { no_end = subst (λ (l : List ℕ). HasNo 10 l) (sym cuts.1.2) (has_no_append 10 line cuts.0 text.no_end cuts.1.1); short = cuts.1.3 },
 )
-comes_of line taken line' cut.TooLong after text cuts = (
+comes_of E line taken line' cut.TooLong after text cuts = (
   sym cuts.1,
   subst (λ (l : List ℕ). HasNo 10 l) (sym cuts.1) (has_no_append 10 line taken text.no_end cuts.0),
   cuts.2,
@@ -141,7 +141,7 @@ module _ (f : Flow) (stream : Buffers) (going : f.stream.state ≡ Open) (same :
     taken = feeds.taken;
     moved = moved_split f stream feeds.taken going feeds.joined same;
     tells = still_going;
-    comes = comes_of {E} [] feeds.taken line' event (record f { stream = stream }) no_text
+    comes = comes_of E [] feeds.taken line' event (record f { stream = stream }) no_text
         (subst (λ (l : List ℕ). Cuts l feeds.taken (Some event) line') fresh feeds.cuts);
     written = λ no read. still_reads (record f { stream = stream }) still_going read;
   }
@@ -209,7 +209,7 @@ module _ {E : Type 0} (before now read : Flow) (line : List ℕ) (sought : Sough
       taken = line ++ feeds.taken;
       moved = more_taken (Some event) feeds;
       tells = on_going;
-      comes = comes_of {E} line feeds.taken line' event (record read { stream = stream }) sought.text feeds.cuts;
+      comes = comes_of E line feeds.taken line' event (record read { stream = stream }) sought.text feeds.cuts;
       written = λ no failing. still_reads (record read { stream = stream }) on_going failing;
     }
 

@@ -19,11 +19,11 @@ use Rattle.qs_stream.specs.declared.state.State.{State}
 use Rattle.qs_stream.specs.declared.state.State.TheVariants as state
 use Rattle.qs_stream.specs.Buffers.{Buffers}
 use Rattle.qs_stream.specs.Bytes.{Gives}
-use Rattle.qs_stream.specs.Flows.{Flow, Moved, Puts, Runs, Side}
+use Rattle.qs_stream.specs.Flows.{Flow, Moved, Proceeds, Puts, Side}
 use Rattle.qs_stream.proofs.Moves.{moved_none, moved_on}
 use Rattle.qs_replay.specs.Readings.{AllSent, IsText}
 use Rattle.qs_replay.specs.Scripts.{AllDone, DoesText, Ends, Finishes, IsFront, PlaysText, Replays, Scene, SoFar, Turns}
-use Rattle.qs_replay.specs.Scripts.{is_cut, is_whole, side_of, spelled, status_of}
+use Rattle.qs_replay.specs.Scripts.{is_silent, is_whole, side_of, spelled, status_of}
 use Rattle.qs_replay.proofs.Coming.{all_sent_on}
 use Rattle.qs_replay.proofs.Turning.{open_reads, put_reads}
 
@@ -91,15 +91,15 @@ so_far_more seen a b c n so t = record {
       subst (λ (l : List ℕ). Moved l (so.printed ++ t.printed) a.flow c.flow)
       (ap (λ (l : List ℕ). spelled so.texts ++ l) t.does.0 ∙ sym (spelled_more so.texts t.text))
       (moved_on a.flow b.flow c.flow (spelled so.texts) so.printed t.taken t.printed so.moved t.moved);
-  reads = t.leads;
+  reads = t.stream_is;
 }
 
 -- the stream at the end of a script, before what waits is written
-abbrev pub IsLeft : Status → State → Type 0
-IsLeft status.ReadFault now = now ≡ state.ReadFault
-IsLeft status.WriteFault now = now ≡ state.WriteFault
-IsLeft status.Memory now = now ≡ state.Open
-IsLeft other now = now ≢ state.ReadFault
+abbrev pub StreamAtEnd : Status → State → Type 0
+StreamAtEnd status.ReadFault now = now ≡ state.ReadFault
+StreamAtEnd status.WriteFault now = now ≡ state.WriteFault
+StreamAtEnd status.Memory now = now ≡ state.Open
+StreamAtEnd other now = now ≢ state.ReadFault
 
 -- A script up to the line that ended it, before what waits is written.
 pub record Closes {D : Type 0} (seen : D → Seen) (a : Scene D) (budget : ℕ) (result : Status) (c : Scene D) : Type 0 where
@@ -112,7 +112,7 @@ pub record Closes {D : Type 0} (seen : D → Seen) (a : Scene D) (budget : ℕ) 
   pub few : length texts ≤ budget
   pub taken : List ℕ
   pub moved : Moved taken printed a.flow c.flow
-  pub is_left : IsLeft result c.flow.stream.state
+  pub stream_is : StreamAtEnd result c.flow.stream.state
   pub written : result ≡ status.ReadFault → AllSent printed a.flow c.flow
   pub cut : List Call
   pub cut_plays : Plays seen world cut c.world
@@ -120,10 +120,10 @@ pub record Closes {D : Type 0} (seen : D → Seen) (a : Scene D) (budget : ℕ) 
 
 -- the parts that all ends but a last line share: the lines before, and what was taken and given behind them
 record_of : {D : Type 0} (seen : D → Seen) (a b c : Scene D) (n budget : ℕ) (how : Turn) (so : SoFar seen a n b) (t : Turns seen b how c)
-    (result : Status) (cut : List Call) → n < budget → t.printed ≡ [] → IsLeft result c.flow.stream.state →
+    (result : Status) (cut : List Call) → n < budget → t.printed ≡ [] → StreamAtEnd result c.flow.stream.state →
     (result ≡ status.ReadFault → AllSent so.printed a.flow c.flow) → Plays seen b.world cut c.world →
     Ends result budget so.texts (spelled so.texts ++ t.taken) cut b.world b.names c.flow.input.bytes c.flow.stream.waiting → Closes seen a budget result c
-record_of seen a b c n budget how so t result cut below silent is_left written plays ends = record {
+record_of seen a b c n budget how so t result cut below silent stream_is written plays ends = record {
   texts = so.texts;
   calls = so.calls;
   printed = so.printed;
@@ -136,7 +136,7 @@ record_of seen a b c n budget how so t result cut below silent is_left written p
       subst (λ (l : List ℕ). Moved (spelled so.texts ++ t.taken) l a.flow c.flow)
       (ap (λ (l : List ℕ). so.printed ++ l) silent ∙ append-nil so.printed)
       (moved_on a.flow b.flow c.flow (spelled so.texts) so.printed t.taken t.printed so.moved t.moved);
-  is_left = is_left;
+  stream_is = stream_is;
   written = written;
   cut = cut;
   cut_plays = plays;
@@ -146,9 +146,9 @@ record_of seen a b c n budget how so t result cut below silent is_left written p
 -- The input failed behind lines that were done: the stream had been open, and what they printed was written before.
 sent_before : (a b c : Flow) (taken given more : List ℕ) → Moved taken given a b → b.stream.state ≢ state.ReadFault → Moved more [] b c →
     c.stream.state ≡ state.ReadFault → AllSent [] b c → AllSent given a c
-sent_before a b c taken given more moved reads behind failed sent = by_state b.stream.state refl reads (subst (λ (s : State). Runs b.stream.state s b c) failed behind.runs)
+sent_before a b c taken given more moved reads behind failed sent = by_state b.stream.state refl reads (subst (λ (s : State). Proceeds b.stream.state s b c) failed behind.runs)
   where
-    by_state : (s : State) → b.stream.state ≡ s → s ≢ state.ReadFault → Runs s state.ReadFault b c → AllSent given a c
+    by_state : (s : State) → b.stream.state ≡ s → s ≢ state.ReadFault → Proceeds s state.ReadFault b c → AllSent given a c
     by_state state.Open now reads runs = subst (λ (l : List ℕ). AllSent l a c) (append-nil given) (all_sent_on a b c taken given [] moved now sent)
     by_state state.ReadFault now reads runs = absurd (reads refl)
     by_state state.WriteFault now reads runs = absurd runs
@@ -174,40 +174,40 @@ closes seen a b c n budget turn.Last below so t ne = record {
   moved =
       subst (λ (l : List ℕ). Moved (spelled so.texts ++ l) (so.printed ++ t.printed) a.flow c.flow) t.does.0
       (moved_on a.flow b.flow c.flow (spelled so.texts) so.printed t.taken t.printed so.moved t.moved);
-  is_left = t.leads;
+  stream_is = t.stream_is;
   written = λ e. absurd (cc);
   cut = [];
   cut_plays = refl;
   ends = (inr (so.texts, t.text, (refl, t.does.2, refl)), t.does.3, refl, λ same. absurd (bare_last so.texts t.text same));
 }
 closes seen a b c n budget turn.End below so t ne =
-    record_of seen a b c n budget turn.End so t status.Done [] below t.does.2.printed_is (open_reads c.flow.stream.state t.leads) (λ e. absurd (cc))
+    record_of seen a b c n budget turn.End so t status.Done [] below t.does.2.printed_is (open_reads c.flow.stream.state t.stream_is) (λ e. absurd (cc))
     t.does.2.world
     (inl (ap (λ (l : List ℕ). spelled so.texts ++ l) t.does.0 ∙ append-nil (spelled so.texts)), t.does.1, refl, λ same. omega (arith, so.count))
 closes seen a b c n budget (turn.Stops stop.BadLine) below so t ne =
     record_of seen a b c n budget (turn.Stops stop.BadLine) so t (status.BadLine (n + 1)) t.does.2.calls below t.does.1
-    (open_reads c.flow.stream.state t.leads) (λ e. absurd (cc)) t.does.2.plays (
+    (open_reads c.flow.stream.state t.stream_is) (λ e. absurd (cc)) t.does.2.plays (
       ap (λ (k : ℕ). k + 1) (sym so.count),
       record { text = t.text; bytes = t.taken; no_end = t.no_end; taken_is = refl; is_taken = t.does.0; why = t.does.2.why },
       omega arith,
     )
 closes seen a b c n budget (turn.Stops stop.NotNext) below so t ne =
     record_of seen a b c n budget (turn.Stops stop.NotNext) so t (status.NotNext (n + 1)) t.does.2.calls below t.does.1
-    (open_reads c.flow.stream.state t.leads) (λ e. absurd (cc)) t.does.2.plays (
+    (open_reads c.flow.stream.state t.stream_is) (λ e. absurd (cc)) t.does.2.plays (
       ap (λ (k : ℕ). k + 1) (sym so.count),
       record { text = t.text; bytes = t.taken; no_end = t.no_end; taken_is = refl; is_taken = t.does.0; why = t.does.2.why },
       omega arith,
     )
 closes seen a b c n budget (turn.Stops stop.Memory) below so t ne =
-    record_of seen a b c n budget (turn.Stops stop.Memory) so t status.Memory t.does.2.calls below t.does.1 t.leads (λ e. absurd (cc)) t.does.2.plays
+    record_of seen a b c n budget (turn.Stops stop.Memory) so t status.Memory t.does.2.calls below t.does.1 t.stream_is (λ e. absurd (cc)) t.does.2.plays
     (record { text = t.text; bytes = t.taken; no_end = t.no_end; taken_is = refl; is_taken = t.does.0; why = t.does.2.why })
 closes seen a b c n budget turn.ReadFault below so t ne =
-    record_of seen a b c n budget turn.ReadFault so t status.ReadFault [] below t.does.1.printed_is t.leads
+    record_of seen a b c n budget turn.ReadFault so t status.ReadFault [] below t.does.1.printed_is t.stream_is
     (λ e. sent_before a.flow b.flow c.flow (spelled so.texts) so.printed t.taken so.moved so.reads
-    (subst (λ (l : List ℕ). Moved t.taken l b.flow c.flow) t.does.1.printed_is t.moved) t.leads (t.written refl so.reads)) t.does.1.world
+    (subst (λ (l : List ℕ). Moved t.taken l b.flow c.flow) t.does.1.printed_is t.moved) t.stream_is (t.written refl so.reads)) t.does.1.world
     (refl, (t.text, (t.no_end, ap (λ (l : List ℕ). spelled so.texts ++ l) t.does.0)))
 closes seen a b c n budget turn.WriteFault below so t ne =
-    record_of seen a b c n budget turn.WriteFault so t status.WriteFault [] below t.does.1.printed_is t.leads (λ e. absurd (cc)) t.does.1.world
+    record_of seen a b c n budget turn.WriteFault so t status.WriteFault [] below t.does.1.printed_is t.stream_is (λ e. absurd (cc)) t.does.1.world
     (refl, inl (t.taken, refl))
 
 -- all lines of the budget were done
@@ -222,7 +222,7 @@ closes_spent seen a b budget so = record {
   few = omega (arith, so.count);
   taken = spelled so.texts;
   moved = so.moved;
-  is_left = so.reads;
+  stream_is = so.reads;
   written = λ e. absurd (cc);
   cut = [];
   cut_plays = refl;
@@ -230,28 +230,28 @@ closes_spent seen a b budget so = record {
 }
 
 -- which side failed where nothing more is written, and that none did before where it is
-side_at : (before : Status) (now : State) → is_cut before ≡ true → IsLeft before now → now ≡ side_of before
-side_at status.Memory now cut is = is
-side_at status.ReadFault now cut is = is
-side_at status.WriteFault now cut is = is
-side_at _ now cut is = absurd (cc)
+side_at : (before : Status) (now : State) → is_silent before ≡ true → StreamAtEnd before now → now ≡ side_of before
+side_at status.Memory now quiet is = is
+side_at status.ReadFault now quiet is = is
+side_at status.WriteFault now quiet is = is
+side_at _ now quiet is = absurd (cc)
 
-reads_at : (before : Status) (now : State) → is_cut before ≡ false → IsLeft before now → now ≢ state.ReadFault
-reads_at status.Memory now cut is = absurd (cc)
-reads_at status.ReadFault now cut is = absurd (cc)
-reads_at status.WriteFault now cut is = absurd (cc)
-reads_at _ now cut is = is
+reads_at : (before : Status) (now : State) → is_silent before ≡ false → StreamAtEnd before now → now ≢ state.ReadFault
+reads_at status.Memory now quiet is = absurd (cc)
+reads_at status.ReadFault now quiet is = absurd (cc)
+reads_at status.WriteFault now quiet is = absurd (cc)
+reads_at _ now quiet is = is
 
-open_at : (before : Status) → is_cut before ≡ false → side_of before ≡ state.Open
-open_at status.ReadFault cut = absurd (cc)
-open_at status.WriteFault cut = absurd (cc)
-open_at _ cut = refl
+open_at : (before : Status) → is_silent before ≡ false → side_of before ≡ state.Open
+open_at status.ReadFault quiet = absurd (cc)
+open_at status.WriteFault quiet = absurd (cc)
+open_at _ quiet = refl
 
-whole_at : (before : Status) → is_cut before ≡ true → is_whole before ≡ true → before ≡ status.ReadFault
-whole_at status.Memory cut whole = absurd (cc)
-whole_at status.ReadFault cut whole = refl
-whole_at status.WriteFault cut whole = absurd (cc)
-whole_at _ cut whole = absurd (cc)
+whole_at : (before : Status) → is_silent before ≡ true → is_whole before ≡ true → before ≡ status.ReadFault
+whole_at status.Memory quiet whole = absurd (cc)
+whole_at status.ReadFault quiet whole = refl
+whole_at status.WriteFault quiet whole = absurd (cc)
+whole_at _ quiet whole = absurd (cc)
 
 lost_whole : {X : Type 0} (result : Status) → result ≡ status.WriteFault → is_whole result ≡ true → X
 lost_whole result is whole = let no : false ≡ true = sym (ap is_whole is) ∙ whole in absurd (cc)
@@ -267,7 +267,7 @@ put_fails o p x y puts reads failed = by_state y.state (put_reads o p x y [] put
 
 -- the output failed behind this end
 front_of : {D : Type 0} (before : Status) (budget : ℕ) (texts : List (List ℕ)) (taken : List ℕ) (cut : List Call) (w : WorldValue D) (t : Names)
-    (left : Option (List ℕ)) (waiting : List ℕ) → is_cut before ≡ false → Ends before budget texts taken cut w t left waiting →
+    (left : Option (List ℕ)) (waiting : List ℕ) → is_silent before ≡ false → Ends before budget texts taken cut w t left waiting →
     (cut ≡ []) × IsFront texts taken left waiting
 front_of status.Done budget texts taken cut w t left waiting on ends = (ends.2, inr (ends.0, ends.1))
 front_of (status.BadLine n) budget texts taken cut w t left waiting on ends = (ends.1.why.0, inl (ends.1.bytes, ends.1.taken_is))
@@ -294,12 +294,12 @@ module _ {D : Type 0} (seen : D → Seen) (a c : Scene D) (budget : ℕ) (before
 
   failed_as : stream.state ≡ side_of result
   failed_as = elim f.how [
-    | inl idle ↦ ap (λ (b : Buffers). b.state) idle.3 ∙ side_at before c.flow.stream.state idle.0 x.is_left ∙ ap side_of (sym idle.1)
+    | inl idle ↦ ap (λ (b : Buffers). b.state) idle.3 ∙ side_at before c.flow.stream.state idle.0 x.stream_is ∙ ap side_of (sym idle.1)
     | inr on ↦
         elim on.1 [
           | inl written ↦ written.1 ∙ sym (ap side_of written.0 ∙ open_at before on.0)
           | inr lost ↦
-              put_fails c.flow.output output c.flow.stream stream f.puts (reads_at before c.flow.stream.state on.0 x.is_left) lost.1
+              put_fails c.flow.output output c.flow.stream stream f.puts (reads_at before c.flow.stream.state on.0 x.stream_is) lost.1
                   ∙ ap side_of (sym lost.0)
         ]
   ]

@@ -18,7 +18,7 @@ use Rattle.qs_request.specs.declared.shape.Shape.{Shape}
 use Rattle.qs_stream.specs.declared.state.State.{State}
 use Rattle.qs_stream.specs.declared.state.State.TheVariants.{Open}
 use Rattle.qs_stream.specs.Buffers.{Buffers, new_buffers}
-use Rattle.qs_stream.specs.Flows.{Rises, Runs, Side}
+use Rattle.qs_stream.specs.Flows.{Proceeds, Rises, Side}
 use Rattle.qs_stream.proofs.Moves.{rises_from}
 use Rattle.qs_world.specs.Events.{Does}
 use Rattle.qs_world.specs.Openings.{opening_over}
@@ -122,7 +122,7 @@ pub replay_rises : {D : Type 0} (seen : D → Seen) (a z : Scene D) (n : ℕ) (r
     Rises (side_of result) a.flow.input.faults z.flow.input.faults a.flow.output.faults z.flow.output.faults
 replay_rises seen a z n result going replays =
     rises_from a.flow.stream.state (side_of result) a.flow z.flow going
-    (subst (λ (s : State). Runs a.flow.stream.state s a.flow z.flow) replays.failed replays.moved.runs)
+    (subst (λ (s : State). Proceeds a.flow.stream.state s a.flow z.flow) replays.failed replays.moved.runs)
 
 -- and where the disks came back
 pub back_rises : {D : Type 0} (seen : D → Seen) (disks back : List D) (result : Status) (r w : ℕ) → ComesBack seen disks back result →

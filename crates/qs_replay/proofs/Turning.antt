@@ -7,7 +7,7 @@ use Rattle.qs_script.specs.Finds.{HasNo}
 use Rattle.qs_stream.specs.declared.state.State.{State}
 use Rattle.qs_stream.specs.declared.state.State.TheVariants as state
 use Rattle.qs_stream.specs.Buffers.{Buffers}
-use Rattle.qs_stream.specs.Flows.{Flow, Moved, Puts, Runs, Side}
+use Rattle.qs_stream.specs.Flows.{Flow, Moved, Proceeds, Puts, Side}
 use Rattle.qs_stream.proofs.Moves.{moved_on, moved_none}
 use Rattle.qs_world.specs.Values.{WorldValue}
 use Rattle.qs_replay.specs.declared.desk.Desk.{Desk}
@@ -26,7 +26,7 @@ pub put_reads : (o p : Side) (a b : Buffers) (given : List ℕ) → Puts given o
 put_reads o p a b given puts reads = by_state a.state b.state reads (puts.moved (record { bytes = o.bytes; faults = 0 })).runs
   where
     by_state : (s t : State) → s ≢ state.ReadFault →
-        Runs s t (record { input = record { bytes = o.bytes; faults = 0 }; output = o; stream = a }) (record { input = record { bytes = o.bytes; faults = 0 }; output = p; stream = b }) →
+        Proceeds s t (record { input = record { bytes = o.bytes; faults = 0 }; output = o; stream = a }) (record { input = record { bytes = o.bytes; faults = 0 }; output = p; stream = b }) →
         t ≢ state.ReadFault
     by_state state.Open state.Open reads runs = λ e. absurd (cc)
     by_state state.Open state.ReadFault reads runs = absurd (omega (arith, runs.0))
@@ -64,7 +64,7 @@ leaves_text seen old new o a text s (Ok u) is leaves = absurd is
 leaves_text {D} seen old new o a text s (Err e) is leaves =
     subst (λ (x : Stop). PutsText seen old o a text (Err x) new o a) (sym is) (leaves.0, refl, refl)
 
-module _ {E : Type 0} {D : Type 0} (seen : D → Seen) (before mid : Flow) (old new : Desk D) (output : Side) (stream : Buffers) (text : List ℕ) where
+module _ {D : Type 0} (seen : D → Seen) (before mid : Flow) (old new : Desk D) (output : Side) (stream : Buffers) (text : List ℕ) where
   abbrev final : Flow
   final = record { input = mid.input; output = output; stream = stream }
 
@@ -76,7 +76,7 @@ module _ {E : Type 0} {D : Type 0} (seen : D → Seen) (before mid : Flow) (old 
   both taken printed moved puts =
       subst (λ (l : List ℕ). Moved l printed before final) (append-nil taken) (moved_on before mid final taken [] [] printed moved (puts.moved mid.input))
 
-  pub turn_goes : Seeks {E = E} before (Ok came.Line) text mid → PutsText seen old mid.output mid.stream text (Ok tt) new output stream → Made turn.Goes
+  pub turn_goes : {E : Type 0} → Seeks {E = E} before (Ok came.Line) text mid → PutsText seen old mid.output mid.stream text (Ok tt) new output stream → Made turn.Goes
   turn_goes seeks puts = record {
     text = text;
     taken = seeks.taken;
@@ -85,11 +85,11 @@ module _ {E : Type 0} {D : Type 0} (seen : D → Seen) (before mid : Flow) (old 
     no_end = seeks.comes.1.no_end;
     moved = both seeks.taken puts.1 seeks.moved puts.2.1;
     does = (seeks.comes.0, seeks.comes.1, puts.2.0);
-    leads = put_reads mid.output output mid.stream stream puts.1 puts.2.1 (open_reads mid.stream.state seeks.tells);
+    stream_is = put_reads mid.output output mid.stream stream puts.1 puts.2.1 (open_reads mid.stream.state seeks.tells);
     written = λ e. absurd (cc);
   }
 
-  pub turn_last : Seeks {E = E} before (Ok came.Last) text mid → PutsText seen old mid.output mid.stream text (Ok tt) new output stream → Made turn.Last
+  pub turn_last : {E : Type 0} → Seeks {E = E} before (Ok came.Last) text mid → PutsText seen old mid.output mid.stream text (Ok tt) new output stream → Made turn.Last
   turn_last seeks puts = record {
     text = text;
     taken = seeks.taken;
@@ -98,7 +98,7 @@ module _ {E : Type 0} {D : Type 0} (seen : D → Seen) (before mid : Flow) (old 
     no_end = seeks.comes.1.no_end;
     moved = both seeks.taken puts.1 seeks.moved puts.2.1;
     does = (seeks.comes.0, seeks.comes.1, seeks.comes.2, (seeks.comes.3.0, puts.2.1.waiting ∙ seeks.comes.3.1), puts.2.0);
-    leads = put_reads mid.output output mid.stream stream puts.1 puts.2.1 (open_reads mid.stream.state seeks.tells);
+    stream_is = put_reads mid.output output mid.stream stream puts.1 puts.2.1 (open_reads mid.stream.state seeks.tells);
     written = λ e. absurd (cc);
   }
 
@@ -115,7 +115,7 @@ module _ {E : Type 0} {D : Type 0} (seen : D → Seen) (before mid : Flow) (old 
         subst (λ (o : Side). Moved taken [] before (record { input = mid.input; output = o; stream = stream })) (sym leaves.1)
         (subst (λ (b : Buffers). Moved taken [] before (record { input = mid.input; output = mid.output; stream = b })) (sym leaves.2) moved);
     does = (is, refl, leaves.0);
-    leads = ap (λ (b : Buffers). b.state) leaves.2 ∙ going;
+    stream_is = ap (λ (b : Buffers). b.state) leaves.2 ∙ going;
     written = λ e. absurd (cc);
   }
 
@@ -124,7 +124,7 @@ module _ {E : Type 0} {D : Type 0} (seen : D → Seen) (before mid : Flow) (old 
   line_taken stop.NotNext taken short is = (inl is, short)
   line_taken stop.Memory taken short is = (inl is, short)
 
-  pub turn_stops : (s : Stop) → Seeks {E = E} before (Ok came.Line) text mid → PutsText seen old mid.output mid.stream text (Err s) new output stream →
+  pub turn_stops : {E : Type 0} (s : Stop) → Seeks {E = E} before (Ok came.Line) text mid → PutsText seen old mid.output mid.stream text (Err s) new output stream →
       Made (turn.Stops s)
   turn_stops s seeks leaves =
       stops_with s seeks.taken seeks.moved seeks.tells seeks.comes.1.no_end (line_taken s seeks.taken seeks.comes.1.short seeks.comes.0) leaves
@@ -135,19 +135,19 @@ module _ {E : Type 0} {D : Type 0} (seen : D → Seen) (before mid : Flow) (old 
   last_taken stop.NotNext taken short is some over = (inr (is, some, over), short)
   last_taken stop.Memory taken short is some over = (inr (is, some, over), short)
 
-  pub turn_last_stops : (s : Stop) → Seeks {E = E} before (Ok came.Last) text mid → PutsText seen old mid.output mid.stream text (Err s) new output stream →
+  pub turn_last_stops : {E : Type 0} (s : Stop) → Seeks {E = E} before (Ok came.Last) text mid → PutsText seen old mid.output mid.stream text (Err s) new output stream →
       Made (turn.Stops s)
   turn_last_stops s seeks leaves =
       stops_with s seeks.taken seeks.moved seeks.tells seeks.comes.1.no_end
       (last_taken s seeks.taken seeks.comes.1.short seeks.comes.0 seeks.comes.2
       (seeks.comes.3.0, ap (λ (b : Buffers). b.waiting) leaves.2 ∙ seeks.comes.3.1)) leaves
 
-module _ {E : Type 0} {D : Type 0} (seen : D → Seen) (before after : Flow) (w : WorldValue D) (t : Names) (text : List ℕ) where
+module _ {D : Type 0} (seen : D → Seen) (before after : Flow) (w : WorldValue D) (t : Names) (text : List ℕ) where
   abbrev Brought : Turn → Type 0
   Brought how = Turns seen (record { flow = before; world = w; names = t }) how (record { flow = after; world = w; names = t })
 
   -- the line was too long
-  pub turn_long : Seeks {E = E} before (Ok came.TooLong) text after → Brought (turn.Stops stop.BadLine)
+  pub turn_long : {E : Type 0} → Seeks {E = E} before (Ok came.TooLong) text after → Brought (turn.Stops stop.BadLine)
   turn_long seeks = record {
     text = text;
     taken = seeks.taken;
@@ -156,12 +156,12 @@ module _ {E : Type 0} {D : Type 0} (seen : D → Seen) (before after : Flow) (w 
     no_end = seeks.comes.1;
     moved = seeks.moved;
     does = (inr (seeks.comes.0, seeks.comes.2), refl, record { calls = []; plays = refl; why = (refl, inl (omega (arith, seeks.comes.2))) });
-    leads = seeks.tells;
+    stream_is = seeks.tells;
     written = λ e. absurd (cc);
   }
 
   -- there was no line more
-  pub turn_end : Seeks {E = E} before (Ok came.End) text after → Brought turn.End
+  pub turn_end : {E : Type 0} → Seeks {E = E} before (Ok came.End) text after → Brought turn.End
   turn_end seeks = record {
     text = [];
     taken = seeks.taken;
@@ -170,12 +170,12 @@ module _ {E : Type 0} {D : Type 0} (seen : D → Seen) (before after : Flow) (w 
     no_end = λ k below. absurd (omega arith);
     moved = seeks.moved;
     does = (seeks.comes.0, seeks.comes.1, record { world = refl; names = refl; printed_is = refl });
-    leads = seeks.tells;
+    stream_is = seeks.tells;
     written = λ e. absurd (cc);
   }
 
   -- the stream failed
-  pub turn_fault : (e : E) (how : Turn) → how ≡ fault_turn after.stream.state → Seeks {E = E} before (Err e) text after → Brought how
+  pub turn_fault : {E : Type 0} (e : E) (how : Turn) → how ≡ fault_turn after.stream.state → Seeks {E = E} before (Err e) text after → Brought how
   turn_fault e how is seeks = subst Brought (sym is) (by_state after.stream.state refl)
     where
       by_state : (s : State) → after.stream.state ≡ s → Brought (fault_turn s)
@@ -188,7 +188,7 @@ module _ {E : Type 0} {D : Type 0} (seen : D → Seen) (before after : Flow) (w 
         no_end = seeks.comes.no_end;
         moved = seeks.moved;
         does = (refl, record { world = refl; names = refl; printed_is = refl });
-        leads = now;
+        stream_is = now;
         written = λ is reads. seeks.written reads now;
       }
       by_state state.WriteFault now = record {
@@ -199,6 +199,6 @@ module _ {E : Type 0} {D : Type 0} (seen : D → Seen) (before after : Flow) (w 
         no_end = seeks.comes.no_end;
         moved = seeks.moved;
         does = (refl, record { world = refl; names = refl; printed_is = refl });
-        leads = now;
+        stream_is = now;
         written = λ e. absurd (cc);
       }

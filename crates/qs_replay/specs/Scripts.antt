@@ -140,12 +140,12 @@ TurnDoes seen before (turn.Stops s) text taken calls printed after =
 TurnDoes seen before other text taken calls printed after = (taken ≡ text) × Idles before printed after
 
 -- The stream behind a line: it goes on, or one of its sides failed; what a line printed may have failed to be written.
-abbrev pub Leads : Turn → State → Type 0
-Leads turn.ReadFault now = now ≡ state.ReadFault
-Leads turn.WriteFault now = now ≡ state.WriteFault
-Leads turn.Goes now = now ≢ state.ReadFault
-Leads turn.Last now = now ≢ state.ReadFault
-Leads other now = now ≡ state.Open
+abbrev pub StreamAfter : Turn → State → Type 0
+StreamAfter turn.ReadFault now = now ≡ state.ReadFault
+StreamAfter turn.WriteFault now = now ≡ state.WriteFault
+StreamAfter turn.Goes now = now ≢ state.ReadFault
+StreamAfter turn.Last now = now ≢ state.ReadFault
+StreamAfter other now = now ≡ state.Open
 
 -- what a stream that failed makes of a line
 abbrev pub fault_turn : State → Turn
@@ -161,7 +161,7 @@ pub record Turns {D : Type 0} (seen : D → Seen) (before : Scene D) (r : Turn) 
   pub no_end : HasNo 10 text
   pub moved : Moved taken printed before.flow after.flow
   pub does : TurnDoes seen before r text taken calls printed after
-  pub leads : Leads r after.flow.stream.state
+  pub stream_is : StreamAfter r after.flow.stream.state
   pub written : r ≡ turn.ReadFault → before.flow.stream.state ≢ state.ReadFault → AllSent [] before.flow after.flow
 
 -- so many lines were done
@@ -187,16 +187,16 @@ is_whole status.Memory = false
 is_whole other = true
 
 -- nothing is written at such an end: a side had failed, or memory was refused
-abbrev pub is_cut : Status → Bool
-is_cut status.Memory = true
-is_cut status.ReadFault = true
-is_cut status.WriteFault = true
-is_cut other = false
+abbrev pub is_silent : Status → Bool
+is_silent status.Memory = true
+is_silent status.ReadFault = true
+is_silent status.WriteFault = true
+is_silent other = false
 
 -- What waited was written at the end, or couldn't be, unless a side had failed before or memory was refused.
 pub record Finishes (output : Side) (old : Buffers) (before result : Status) (output' : Side) (new : Buffers) : Type 0 where
   pub puts : Puts [] output old output' new
-  pub how : ((is_cut before ≡ true) × (result ≡ before) × (output' ≡ output) × (new ≡ old)) ⊎ ((is_cut before ≡ false) ×
+  pub how : ((is_silent before ≡ true) × (result ≡ before) × (output' ≡ output) × (new ≡ old)) ⊎ ((is_silent before ≡ false) ×
       (((result ≡ before) × (new.state ≡ state.Open) × (new.held ≡ [])) ⊎ ((result ≡ status.WriteFault) × (new.state ≢ state.Open))))
 
 -- the status of a script that ends with this line

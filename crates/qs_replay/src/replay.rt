@@ -2,7 +2,7 @@ ghost use Rattle.std.specs.Prelude.{◌≡◌, ◌<◌, ◌-◌, ◌^◌, [], Li
 ghost use Rattle.qs_script.specs.Lines.{IsLineFault, Reads};
 ghost use Rattle.qs_stream.specs.declared.state.State.TheVariants.{Open};
 ghost use Rattle.qs_stream.specs.Flows.{Puts, side};
-ghost use Rattle.qs_replay.specs.Scripts.{Finishes, PlaysText, PutsText, Replays, Turns, fault_turn, is_cut as the_cut, scene, status_of};
+ghost use Rattle.qs_replay.specs.Scripts.{Finishes, PlaysText, PutsText, Replays, Turns, fault_turn, is_silent as the_silent, scene, status_of};
 
 use crate::desk::Desk;
 use crate::lines::{Came, next_line};
@@ -83,7 +83,7 @@ fn do_line<O: Sink, D: RiggedDisk + Drop>(
     requires { desk.old.out ≡ [] }
     ensures puts { PutsText D.Disk.seen desk.old (side O.sent O.write_faults output.old) stream.old text.now result
         desk.new (side O.sent O.write_faults output.new) stream.new }
-    ensures silent { desk.new.out ≡ [] }
+    ensures empty { desk.new.out ≡ [] }
 {
     play_text(desk, text)?;
     print(desk, stream, output);
@@ -114,7 +114,7 @@ fn take_turn<I: Source, O: Sink, D: RiggedDisk + Drop>(
         (scene I.left I.read_faults O.sent O.write_faults input.old output.old stream.old desk.old.world desk.old.table)
         result
         (scene I.left I.read_faults O.sent O.write_faults input.new output.new stream.new desk.new.world desk.new.table) }
-    ensures silent { desk.new.out ≡ [] }
+    ensures empty { desk.new.out ≡ [] }
 {
     match next_line(cutter, stream, input, output) {
         Ok(Came::Line) => match do_line(desk, stream, output, cutter.line()) {
@@ -132,8 +132,8 @@ fn take_turn<I: Source, O: Sink, D: RiggedDisk + Drop>(
 }
 
 /// Whether a script ends so that nothing more is written: a side failed, or memory was refused.
-fn is_cut(status: Status) -> bool
-    ensures { result ≡ the_cut status }
+fn is_silent(status: Status) -> bool
+    ensures { result ≡ the_silent status }
 {
     matches!(
         status,
@@ -145,7 +145,7 @@ fn is_cut(status: Status) -> bool
 fn finish<O: Sink>(stream: &mut Stream, output: &mut O, status: Status) -> Status
     ensures { Finishes (side O.sent O.write_faults output.old) stream.old status result (side O.sent O.write_faults output.new) stream.new }
 {
-    if is_cut(status) {
+    if is_silent(status) {
         return status;
     }
     match stream.flush(output) {
@@ -179,7 +179,7 @@ pub fn replay<I: Source, O: Sink, D: RiggedDisk + Drop>(
     budget: u64,
 ) -> Status
     requires budget { budget < 2 ^ 64 - 1 }
-    requires silent { desk.old.out ≡ [] }
+    requires empty { desk.old.out ≡ [] }
     requires ongoing { stream.old.state ≡ Open }
     ensures { Replays D.Disk.seen
         (scene I.left I.read_faults O.sent O.write_faults input.old output.old stream.old desk.old.world desk.old.table)

@@ -12,9 +12,9 @@ returns-in_err-flush-clause-written g c = λ failed.
     never_read _ _ c.args.stream.now _ c.requires.ongoing c.in_err-flush.ensures.puts c.in_err-flush.ensures.tells failed
 
 pub returns-clause-fills : goal.returns-clause-fills
-returns-clause-fills g c = fills_on _ _ _ c.args.stream.now c.flush.new.stream _ _ c.in_ok-flush.ensures.puts c.fill.ensures
+returns-clause-fills g c = fills_on _ _ _ c.args.stream.now c.flush.new.self _ _ c.in_ok-flush.ensures.puts c.fill.ensures
 
 pub returns-clause-written : goal.returns-clause-written
 returns-clause-written g c = λ failed.
-    written_on _ _ _ c.args.stream.now c.flush.new.stream _ _ c.in_ok-flush.ensures.puts c.in_ok-flush.ensures.tells c.in_ok-flush.ensures.written
+    written_on _ _ _ c.args.stream.now c.flush.new.self _ _ c.in_ok-flush.ensures.puts c.in_ok-flush.ensures.tells c.in_ok-flush.ensures.written
     c.fill.ensures

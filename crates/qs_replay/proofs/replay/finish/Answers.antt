@@ -3,17 +3,17 @@ use Rattle.std.proofs.Common.{refl, sym, inl, inr, ◌∙◌}
 use Rattle.qs_replay.proofs.Turning.{puts_none}
 use Rattle.qs_replay.proofs.replay.finish.Goals as goal
 
-pub returns-then-is_cut : goal.returns-then-is_cut
-returns-then-is_cut g c = record { puts = puts_none _ c.args.stream.now; how = inl (sym c.is_cut.ensures ∙ c.if-is_cut.true, refl, refl, refl) }
+pub returns-then-is_silent : goal.returns-then-is_silent
+returns-then-is_silent g c = record { puts = puts_none _ c.args.stream.now; how = inl (sym c.is_silent.ensures ∙ c.if-is_silent.true, refl, refl, refl) }
 
 pub returns-in-Ok : goal.returns-in-Ok
 returns-in-Ok g c = record {
   puts = c.in-Ok.ensures.puts;
-  how = inr (sym c.is_cut.ensures ∙ c.if-is_cut.false, inl (refl, c.in-Ok.ensures.tells, c.in-Ok.ensures.written));
+  how = inr (sym c.is_silent.ensures ∙ c.if-is_silent.false, inl (refl, c.in-Ok.ensures.tells, c.in-Ok.ensures.written));
 }
 
 pub returns-in-Err : goal.returns-in-Err
 returns-in-Err g c = record {
   puts = c.in-Err.ensures.puts;
-  how = inr (sym c.is_cut.ensures ∙ c.if-is_cut.false, inr (refl, c.in-Err.ensures.tells));
+  how = inr (sym c.is_silent.ensures ∙ c.if-is_silent.false, inr (refl, c.in-Err.ensures.tells));
 }

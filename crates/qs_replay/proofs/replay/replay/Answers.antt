@@ -7,12 +7,12 @@ use Rattle.qs_replay.proofs.Running.{so_far_at}
 use Rattle.qs_replay.proofs.replay.replay.Goals as goal
 
 pub loop-n-init : goal.loop-n-init
-loop-n-init g c = record { so_far = so_far_none g.D.Disk.seen _ c.requires.ongoing; silent = c.requires.silent }
+loop-n-init g c = record { so_far = so_far_none g.D.Disk.seen _ c.requires.ongoing; empty = c.requires.empty }
 
 pub loop-n-preserved : goal.loop-n-preserved
 loop-n-preserved g c = record {
   so_far = so_far_more g.D.Disk.seen _ _ _ c.loop-n.n c.loop-n.invariant.so_far c.in-Goes.ensures.turns;
-  silent = c.in-Goes.ensures.silent;
+  empty = c.in-Goes.ensures.empty;
 }
 
 pub returns-in_default : goal.returns-in_default

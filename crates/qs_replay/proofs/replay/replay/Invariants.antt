@@ -9,5 +9,5 @@ invariant-loop-n g l = record {
       (scene g.I.Source.left g.I.Source.read_faults g.O.Sink.sent g.O.Sink.write_faults l.fn.input l.fn.output l.fn.stream l.fn.desk.world l.fn.desk.table)
       l.n
       (scene g.I.Source.left g.I.Source.read_faults g.O.Sink.sent g.O.Sink.write_faults l.input l.output l.stream l.desk.world l.desk.table);
-  silent : l.desk.out ≡ [];
+  empty : l.desk.out ≡ [];
 }
