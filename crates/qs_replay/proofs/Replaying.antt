@@ -300,7 +300,7 @@ module _ {D : Type 0} (seen : D → Seen) (a c : Scene D) (budget : ℕ) (before
           | inl written ↦ written.1 ∙ sym (ap side_of written.0 ∙ open_at before on.0)
           | inr lost ↦
               put_fails c.flow.output output c.flow.stream stream f.puts (reads_at before c.flow.stream.state on.0 x.stream_is) lost.1
-                  ∙ ap side_of (sym lost.0)
+              ∙ ap side_of (sym lost.0)
         ]
   ]
 

@@ -15,6 +15,6 @@ returns-clause-opening g c =
     (scene g.I.Source.left g.I.Source.read_faults g.O.Sink.sent g.O.Sink.write_faults c.replay-status.new.input c.replay-status.new.output
     c.replay-status.new.stream c.replay-status.new.desk.world c.replay-status.new.desk.table)
     (subst (λ (disks : List _). Begins g.D.Disk.seen disks c.in-Ok-open_core.world) (ap (λ v. v.items) c.replace-taken.ensures.value) c.in-Ok-open_core.ensures)
-    (replays_from g.D.Disk.seen input output c.in-Ok-new.stream c.in-Ok-open_core.world c.new-3.result _ c.replay-status.result _
-    c.in-Ok-new.ensures c.new-3.ensures c.replay-status.ensures)
+    (replays_from g.D.Disk.seen input output c.in-Ok-new.stream c.in-Ok-open_core.world c.new-4.result _ c.replay-status.result _
+    c.in-Ok-new.ensures c.new-4.ensures c.replay-status.ensures)
     c.into_disks.ensures)
