@@ -170,7 +170,7 @@ fn faults_of_the_outside(rt: HostRuntime) -> Result<(), Fail> {
     let text = b"session A disk\nend A\n";
     let later = run(alloc, 8, text, 15, (second, Vec::new(alloc)))?;
     assert_eq!(rt; later.0, Status::ReadFault);
-    assert_eq!(rt; later.1.as_slice(), b"A attached 4096 rw\n");
+    assert_eq!(rt; later.1.as_slice(), b"A attached 4096 rw\n".as_slice());
     let first = [0].to_vec(alloc)?;
     let write = run(alloc, 8, b"session A disk", 9, (Vec::new(alloc), first))?;
     assert_eq!(rt; write.0, Status::WriteFault);
