@@ -1,7 +1,6 @@
 pub mod Plays
 pub mod Playing
 pub mod Happening
-pub mod Flows
 pub mod Coming
 pub mod Spelling
 pub mod Replaying

@@ -12,7 +12,7 @@ use Rattle.qs_replay.specs.declared.stop.Stop.TheVariants as stop
 use Rattle.qs_replay.specs.Calls.{Call}
 use Rattle.qs_replay.specs.Readings.{IsText, IsUsedUp}
 use Rattle.qs_replay.specs.Tables.{Names}
-use Rattle.qs_replay.specs.Waiting.{Takes}
+use Rattle.qs_stream.specs.Bytes.{Takes}
 use Rattle.qs_replay.specs.Scripts.{AllDone, BreaksOff, Ends, IsBad, IsFront, IsLine, IsNextLine, IsScript, IsUntimely, ReachesLine, Replays}
 use Rattle.qs_replay.specs.Scripts.{Scene, lines_from, lines_of, spelled}
 
@@ -234,9 +234,9 @@ reaches_end status.Spent budget script taken texts cut w t left waiting bare spl
 reaches_end other budget script taken texts cut w t left waiting bare split ends = absurd ends
 
 pub reaches : {D : Type 0} (seen : D → Seen) (a : Scene D) (budget : ℕ) (result : Status) (z : Scene D) (script : List ℕ) →
-    a.left ≡ Some script → a.waiting ≡ [] → (r : Replays seen a budget result z) →
+    a.flow.input.bytes ≡ Some script → a.flow.stream.waiting ≡ [] → (r : Replays seen a budget result z) →
     ReachesLine result budget (lines_of script) r.texts r.world r.names
 reaches seen a budget result z script told empty r =
-    reaches_end result budget script r.taken r.texts r.cut r.world r.names z.left z.waiting
+    reaches_end result budget script r.taken r.texts r.cut r.world r.names z.flow.input.bytes z.flow.stream.waiting
     (are_bare seen a.world a.names r.texts r.calls r.printed r.world r.names r.done)
-    (splits_of script r.taken a.left z.left a.waiting z.waiting told empty r.takes) r.ends
+    (splits_of script r.taken a.flow.input.bytes z.flow.input.bytes a.flow.stream.waiting z.flow.stream.waiting told empty r.moved.takes) r.ends

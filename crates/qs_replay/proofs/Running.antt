@@ -15,13 +15,18 @@ use Rattle.qs_model.specs.Worlds.{Opening as OpenedOver}
 use Rattle.qs_verdicts.proofs.Judged.{judged}
 use Rattle.qs_part.specs.declared.graph.GraphOp.TheVariants.{ExportAdd}
 use Rattle.qs_request.specs.declared.shape.Shape.{Shape}
+use Rattle.qs_stream.specs.declared.state.State.{State}
+use Rattle.qs_stream.specs.declared.state.State.TheVariants.{Open}
+use Rattle.qs_stream.specs.Buffers.{Buffers, new_buffers}
+use Rattle.qs_stream.specs.Flows.{Proceeds, Rises, Side}
+use Rattle.qs_stream.proofs.Moves.{rises_from}
 use Rattle.qs_world.specs.Events.{Does}
 use Rattle.qs_world.specs.Openings.{opening_over}
 use Rattle.qs_world.specs.Stands.{Stands}
 use Rattle.qs_world.specs.Values.{WorldValue}
 use Rattle.qs_replay.specs.Calls.{Call, Plays}
-use Rattle.qs_replay.specs.Runs.{Begins, HasRun, IsReplayed, Opening, export, most_lines, no_names, opened}
-use Rattle.qs_replay.specs.Scripts.{AllDone, Replays, Scene, SoFar}
+use Rattle.qs_replay.specs.Runs.{Begins, ComesBack, HasRun, IsReplayed, Opening, export, first_scene, most_lines, no_names, opened}
+use Rattle.qs_replay.specs.Scripts.{AllDone, Replays, Scene, SoFar, side_of}
 use Rattle.qs_replay.specs.Tables.{Names}
 use Rattle.qs_replay.proofs.Plays.{leads, plays_more}
 use Rattle.qs_replay.proofs.Reaching.{reaches}
@@ -84,32 +89,47 @@ has_run {D} seen disks start w calls begins plays =
     }
 
 -- where nothing waited at first
-pub replays_from : {D : Type 0} (seen : D → Seen) (left sent : Option (List ℕ)) (waiting out : List ℕ) (w : WorldValue D) (t : Names) (n : ℕ) (result : Status) (after_all : Scene D) →
-    waiting ≡ [] → out ≡ [] → t ≡ no_names → Replays seen (record { left = left; waiting = waiting; sent = sent; out = out; world = w; names = t }) n result after_all →
-    Replays seen (record { left = left; waiting = []; sent = sent; out = []; world = w; names = no_names }) n result after_all
-replays_from seen left sent waiting out w t n result after_all e f h replays =
-    subst (λ (x : List ℕ). Replays seen (record { left = left; waiting = x; sent = sent; out = []; world = w; names = no_names }) n result after_all) e
-    (subst (λ (x : List ℕ). Replays seen (record { left = left; waiting = waiting; sent = sent; out = x; world = w; names = no_names }) n result after_all) f
-    (subst (λ (x : Names). Replays seen (record { left = left; waiting = waiting; sent = sent; out = out; world = w; names = x }) n result after_all) h replays))
+pub replays_from : {D : Type 0} (seen : D → Seen) (input output : Side) (stream : Buffers) (w : WorldValue D) (t : Names) (n : ℕ) (result : Status) (after_all : Scene D) →
+    stream ≡ new_buffers → t ≡ no_names →
+    Replays seen (record { flow = record { input = input; output = output; stream = stream }; world = w; names = t }) n result after_all →
+    Replays seen (first_scene input output w) n result after_all
+replays_from seen input output stream w t n result after_all e f replays =
+    subst (λ (x : Buffers). Replays seen (record { flow = record { input = input; output = output; stream = x }; world = w; names = no_names }) n result after_all) e
+    (subst (λ (x : Names). Replays seen (record { flow = record { input = input; output = output; stream = stream }; world = w; names = x }) n result after_all) f
+    replays)
 
-pub is_replayed : {D : Type 0} (seen : D → Seen) (disks disks' : List D) (left sent : Option (List ℕ)) (result : Status) (start : WorldValue D) (after_all : Scene D) →
-    Begins seen disks start →
-    Replays seen (record { left = left; waiting = []; sent = sent; out = []; world = start; names = no_names }) most_lines result after_all →
-    disks' ≡ map (λ s. s.disk) after_all.world.stripes → IsReplayed seen disks left sent result disks' after_all.left after_all.sent
-is_replayed seen disks disks' left sent result start after_all begins replays is = record {
+pub is_replayed : {D : Type 0} (seen : D → Seen) (disks disks' : List D) (input output : Side) (result : Status) (start : WorldValue D) (after_all : Scene D) →
+    Begins seen disks start → Replays seen (first_scene input output start) most_lines result after_all → disks' ≡ map (λ s. s.disk) after_all.world.stripes →
+    IsReplayed seen disks input.bytes output.bytes result disks' after_all.flow.input.bytes after_all.flow.output.bytes
+is_replayed seen disks disks' input output result start after_all begins replays is = record {
   start = start;
   begins = begins;
+  read_faults = input.faults;
+  write_faults = output.faults;
   after_all = after_all;
   replays = replays;
   left_is = refl;
   sent_is = refl;
   disks_are = is;
-  reaches = λ script told. reaches seen (record { left = left; waiting = []; sent = sent; out = []; world = start; names = no_names }) most_lines result after_all
-      script told refl replays;
+  reaches = λ script told. reaches seen (first_scene input output start) most_lines result after_all script told refl replays;
   run = has_run seen disks start after_all.world (replays.calls ++ replays.cut) begins
       (plays_more seen start replays.calls replays.world replays.cut after_all.world
       (plays_done seen start no_names replays.texts replays.calls replays.printed replays.world replays.names replays.done) replays.cut_plays);
 }
+
+-- the counts over a replay
+pub replay_rises : {D : Type 0} (seen : D → Seen) (a z : Scene D) (n : ℕ) (result : Status) → a.flow.stream.state ≡ Open → Replays seen a n result z →
+    Rises (side_of result) a.flow.input.faults z.flow.input.faults a.flow.output.faults z.flow.output.faults
+replay_rises seen a z n result going replays =
+    rises_from a.flow.stream.state (side_of result) a.flow z.flow going
+    (subst (λ (s : State). Proceeds a.flow.stream.state s a.flow z.flow) replays.failed replays.moved.runs)
+
+-- and where the disks came back
+pub back_rises : {D : Type 0} (seen : D → Seen) (disks back : List D) (result : Status) (r w : ℕ) → ComesBack seen disks back result →
+    Rises (side_of result) r r w w
+back_rises seen disks back (status.OpenBad bad) r w is = (refl, refl)
+back_rises seen disks back status.Memory r w is = (refl, refl)
+back_rises seen disks back _ r w is = absurd is
 
 pub opening_of : {D : Type 0} (seen : D → Seen) (disks disks' : List D) (left sent left' sent' : Option (List ℕ)) (result : Status) →
     IsReplayed seen disks left sent result disks' left' sent' → Opening seen disks left sent result disks' left' sent'

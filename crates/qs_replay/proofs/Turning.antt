@@ -1,196 +1,204 @@
 -- What one line makes of a scene.
-use Rattle.std.proofs.Common.{◌≡◌, ◌≢◌, ◌<◌, length, ℕ, List, [], ◌∷◌, ◌++◌, refl, sym, subst, inl, inr, arith}
-use Rattle.std.specs.Prelude.{Option, Ok, Err}
+use Rattle.std.proofs.Common.{◌≡◌, ◌≢◌, ◌<◌, length, ℕ, List, [], ◌∷◌, ◌++◌, refl, sym, subst, ap, ◌∙◌, inl, inr, arith, append-nil}
+use Rattle.std.specs.Prelude.{Option, Result, Ok, Err, IsErrAnd}
 use Rattle.qs_outside.specs.Blocks.{Seen}
+use Rattle.qs_script.specs.Cuts.{longest}
 use Rattle.qs_script.specs.Finds.{HasNo}
+use Rattle.qs_stream.specs.declared.state.State.{State}
+use Rattle.qs_stream.specs.declared.state.State.TheVariants as state
+use Rattle.qs_stream.specs.Buffers.{Buffers}
+use Rattle.qs_stream.specs.Flows.{Flow, Moved, Proceeds, Puts, Side}
+use Rattle.qs_stream.proofs.Moves.{moved_on, moved_none}
 use Rattle.qs_world.specs.Values.{WorldValue}
 use Rattle.qs_replay.specs.declared.desk.Desk.{Desk}
+use Rattle.qs_replay.specs.declared.lines.Came.{Came}
 use Rattle.qs_replay.specs.declared.lines.Came.TheVariants as came
 use Rattle.qs_replay.specs.declared.stop.Stop.{Stop}
 use Rattle.qs_replay.specs.declared.stop.Stop.TheVariants as stop
+use Rattle.qs_replay.specs.declared.replay.Turn.{Turn}
 use Rattle.qs_replay.specs.declared.replay.Turn.TheVariants as turn
-use Rattle.qs_script.specs.Cuts.{longest}
-use Rattle.qs_replay.specs.Readings.{Comes, IsUsedUp}
+use Rattle.qs_replay.specs.Readings.{IsUsedUp, Seeks}
 use Rattle.qs_replay.specs.Tables.{Names}
-use Rattle.qs_replay.specs.Waiting.{Gives, Takes, Writes}
-use Rattle.qs_replay.specs.Scripts.{IsTaken, PlaysText, Turns}
-use Rattle.qs_replay.proofs.Flows.{gives_behind, gives_on}
+use Rattle.qs_replay.specs.Scripts.{DoesText, IsTaken, PlaysText, PutsText, Scene, Turns, fault_turn}
 
--- what waited is written or waits
-given : (sent sent' : Option (List ℕ)) (out out1 : List ℕ) (F : Type 0) → (F → ⊥) → Writes sent out sent' out1 F → Gives sent out [] sent' out1
-given sent sent' out out1 F never w = elim w.1.1 [ inl f ↦ absurd (never f) | inr e ↦ subst (λ (l : List ℕ). Gives sent out [] sent' l) e w.1.0 ]
+-- a put is no fault of the input
+pub put_reads : (o p : Side) (a b : Buffers) (given : List ℕ) → Puts given o a p b → a.state ≢ state.ReadFault → b.state ≢ state.ReadFault
+put_reads o p a b given puts reads = by_state a.state b.state reads (puts.moved (record { bytes = o.bytes; faults = 0 })).runs
+  where
+    by_state : (s t : State) → s ≢ state.ReadFault →
+        Proceeds s t (record { input = record { bytes = o.bytes; faults = 0 }; output = o; stream = a }) (record { input = record { bytes = o.bytes; faults = 0 }; output = p; stream = b }) →
+        t ≢ state.ReadFault
+    by_state state.Open state.Open reads runs = λ e. absurd (cc)
+    by_state state.Open state.ReadFault reads runs = absurd (omega (arith, runs.0))
+    by_state state.Open state.WriteFault reads runs = λ e. absurd (cc)
+    by_state state.ReadFault t reads runs = absurd (reads refl)
+    by_state state.WriteFault state.Open reads runs = absurd runs
+    by_state state.WriteFault state.ReadFault reads runs = absurd runs
+    by_state state.WriteFault state.WriteFault reads runs = λ e. absurd (cc)
 
--- a line was done
-pub turn_goes : {D : Type 0} (seen : D → Seen) (left left' sent sent' : Option (List ℕ)) (waiting waiting' text out : List ℕ) (old new : Desk D) →
-    Comes left waiting came.Line text left' waiting' → Writes sent out sent' old.out (came.Line ≡ came.WriteFault) → PlaysText seen old text (Ok tt) new →
-    Turns seen (record { left = left; waiting = waiting; sent = sent; out = out; world = old.world; names = old.table }) turn.Goes
-    (record { left = left'; waiting = waiting'; sent = sent'; out = new.out; world = new.world; names = new.table })
-turn_goes seen left left' sent sent' waiting waiting' text out old new comes writes plays = record {
-  text = text;
-  taken = text ++ 10 ∷ [];
-  calls = plays.0;
-  printed = plays.1;
-  rest = new.out;
-  no_end = comes.1.no_end;
-  takes = comes.0;
-  gives = gives_on sent sent' sent' out old.out new.out [] plays.1 (given sent sent' out old.out (came.Line ≡ came.WriteFault) (λ e. absurd (cc)) writes)
-      (gives_behind sent' old.out plays.1 new.out plays.2.1);
-  rest_is = inr refl;
-  does = (refl, comes.1, plays.2.0);
-}
+-- an open stream is no fault of the input
+pub open_reads : (s : State) → s ≡ state.Open → s ≢ state.ReadFault
+open_reads s is = λ e. let no : state.Open ≡ state.ReadFault = sym is ∙ e in absurd (cc)
 
--- the last line was done
-pub turn_last : {D : Type 0} (seen : D → Seen) (left left' sent sent' : Option (List ℕ)) (waiting waiting' text out : List ℕ) (old new : Desk D) →
-    Comes left waiting came.Last text left' waiting' → Writes sent out sent' old.out (came.Last ≡ came.WriteFault) → PlaysText seen old text (Ok tt) new →
-    Turns seen (record { left = left; waiting = waiting; sent = sent; out = out; world = old.world; names = old.table }) turn.Last
-    (record { left = left'; waiting = waiting'; sent = sent'; out = new.out; world = new.world; names = new.table })
-turn_last seen left left' sent sent' waiting waiting' text out old new comes writes plays = record {
-  text = text;
-  taken = text;
-  calls = plays.0;
-  printed = plays.1;
-  rest = new.out;
-  no_end = comes.1.no_end;
-  takes = comes.0;
-  gives = gives_on sent sent' sent' out old.out new.out [] plays.1 (given sent sent' out old.out (came.Last ≡ came.WriteFault) (λ e. absurd (cc)) writes)
-      (gives_behind sent' old.out plays.1 new.out plays.2.1);
-  rest_is = inr refl;
-  does = (refl, comes.1, comes.2, comes.3, plays.2.0);
-}
+-- nothing was put
+pub puts_none : (o : Side) (a : Buffers) → Puts [] o a o a
+puts_none o a = record { waiting = refl; moved = λ input. moved_none (record { input = input; output = o; stream = a }) }
 
--- a whole line was taken, or the last one
-line_taken : (s : Stop) (text : List ℕ) (left : Option (List ℕ)) (waiting : List ℕ) → length text < longest → IsTaken s (text ++ 10 ∷ []) text left waiting
-line_taken stop.BadLine text left waiting short = inl (inl refl)
-line_taken stop.NotNext text left waiting short = (inl refl, short)
-line_taken stop.Memory text left waiting short = inr refl
+-- the line was done, and what it printed was put; or it wasn't done to its end
+pub puts_text : {D : Type 0} (seen : D → Seen) (old played new : Desk D) (o p : Side) (a b : Buffers) (text : List ℕ) → old.out ≡ [] →
+    PlaysText seen old text (Ok tt) played → Puts played.out o a p b → new.world ≡ played.world → new.table ≡ played.table →
+    PutsText seen old o a text (Ok tt) new p b
+puts_text {D} seen old played new o p a b text silent plays puts world names = (
+  plays.0,
+  plays.1,
+  (
+    subst (λ (w : WorldValue D). DoesText seen old.world old.table text plays.0 plays.1 w new.table) (sym world)
+        (subst (λ (t : Names). DoesText seen old.world old.table text plays.0 plays.1 played.world t) (sym names) plays.2.0),
+    subst (λ (l : List ℕ). Puts l o a p b) (plays.2.1 ∙ ap (λ (l : List ℕ). l ++ plays.1) silent) puts,
+  ),
+)
 
-last_taken : (s : Stop) (text : List ℕ) (left : Option (List ℕ)) (waiting : List ℕ) → length text < longest → (text ≢ []) → IsUsedUp left waiting →
-    IsTaken s text text left waiting
-last_taken stop.BadLine text left waiting short some over = inl (inr (refl, some, over))
-last_taken stop.NotNext text left waiting short some over = (inr (refl, some, over), short)
-last_taken stop.Memory text left waiting short some over = inl refl
+pub leaves_text : {D : Type 0} (seen : D → Seen) (old new : Desk D) (o : Side) (a : Buffers) (text : List ℕ) (s : Stop) (result : Result Unit Stop) →
+    IsErrAnd result (λ e. e ≡ s) → PlaysText seen old text (Err s) new → PutsText seen old o a text result new o a
+leaves_text seen old new o a text s (Ok u) is leaves = absurd is
+leaves_text {D} seen old new o a text s (Err e) is leaves =
+    subst (λ (x : Stop). PutsText seen old o a text (Err x) new o a) (sym is) (leaves.0, refl, refl)
 
--- a line wasn't done to its end
-stops_with : {D : Type 0} (seen : D → Seen) (left left' sent sent' : Option (List ℕ)) (waiting waiting' text taken out : List ℕ) (s : Stop) (old new : Desk D) →
-    Takes left waiting taken left' waiting' → HasNo 10 text → IsTaken s taken text left' waiting' → Gives sent out [] sent' old.out →
-    PlaysText seen old text (Err s) new →
-    Turns seen (record { left = left; waiting = waiting; sent = sent; out = out; world = old.world; names = old.table }) (turn.Stops s)
-    (record { left = left'; waiting = waiting'; sent = sent'; out = new.out; world = new.world; names = new.table })
-stops_with seen left left' sent sent' waiting waiting' text taken out s old new takes no_end is gives plays = record {
-  text = text;
-  taken = taken;
-  calls = [];
-  printed = [];
-  rest = new.out;
-  no_end = no_end;
-  takes = takes;
-  gives = subst (λ (l : List ℕ). Gives sent out [] sent' l) (sym plays.1) gives;
-  rest_is = inr refl;
-  does = (is, refl, plays.0);
-}
+module _ {D : Type 0} (seen : D → Seen) (before mid : Flow) (old new : Desk D) (output : Side) (stream : Buffers) (text : List ℕ) where
+  abbrev final : Flow
+  final = record { input = mid.input; output = output; stream = stream }
 
-pub turn_stops : {D : Type 0} (seen : D → Seen) (left left' sent sent' : Option (List ℕ)) (waiting waiting' text out : List ℕ) (s : Stop) (old new : Desk D) →
-    Comes left waiting came.Line text left' waiting' → Writes sent out sent' old.out (came.Line ≡ came.WriteFault) → PlaysText seen old text (Err s) new →
-    Turns seen (record { left = left; waiting = waiting; sent = sent; out = out; world = old.world; names = old.table }) (turn.Stops s)
-    (record { left = left'; waiting = waiting'; sent = sent'; out = new.out; world = new.world; names = new.table })
-turn_stops seen left left' sent sent' waiting waiting' text out s old new comes writes plays =
-    stops_with seen left left' sent sent' waiting waiting' text (text ++ 10 ∷ []) out s old new comes.0 comes.1.no_end (line_taken s text left' waiting' comes.1.short)
-    (given sent sent' out old.out (came.Line ≡ came.WriteFault) (λ e. absurd (cc)) writes) plays
+  abbrev Made : Turn → Type 0
+  Made how = Turns seen (record { flow = before; world = old.world; names = old.table }) how (record { flow = final; world = new.world; names = new.table })
 
-pub turn_last_stops : {D : Type 0} (seen : D → Seen) (left left' sent sent' : Option (List ℕ)) (waiting waiting' text out : List ℕ) (s : Stop) (old new : Desk D) →
-    Comes left waiting came.Last text left' waiting' → Writes sent out sent' old.out (came.Last ≡ came.WriteFault) → PlaysText seen old text (Err s) new →
-    Turns seen (record { left = left; waiting = waiting; sent = sent; out = out; world = old.world; names = old.table }) (turn.Stops s)
-    (record { left = left'; waiting = waiting'; sent = sent'; out = new.out; world = new.world; names = new.table })
-turn_last_stops seen left left' sent sent' waiting waiting' text out s old new comes writes plays =
-    stops_with seen left left' sent sent' waiting waiting' text text out s old new comes.0 comes.1.no_end (last_taken s text left' waiting' comes.1.short comes.2 comes.3)
-    (given sent sent' out old.out (came.Last ≡ came.WriteFault) (λ e. absurd (cc)) writes) plays
+  -- what was taken, and what was put
+  both : (taken printed : List ℕ) → Moved taken [] before mid → Puts printed mid.output mid.stream output stream → Moved taken printed before final
+  both taken printed moved puts =
+      subst (λ (l : List ℕ). Moved l printed before final) (append-nil taken) (moved_on before mid final taken [] [] printed moved (puts.moved mid.input))
 
--- the line was too long
-pub turn_long : {D : Type 0} (seen : D → Seen) (left left' sent sent' : Option (List ℕ)) (waiting waiting' text out out' : List ℕ) (w : WorldValue D) (t : Names) →
-    Comes left waiting came.TooLong text left' waiting' → Writes sent out sent' out' (came.TooLong ≡ came.WriteFault) →
-    Turns seen (record { left = left; waiting = waiting; sent = sent; out = out; world = w; names = t }) (turn.Stops stop.BadLine)
-    (record { left = left'; waiting = waiting'; sent = sent'; out = out'; world = w; names = t })
-turn_long seen left left' sent sent' waiting waiting' text out out' w t comes writes = record {
-  text = text;
-  taken = text;
-  calls = [];
-  printed = [];
-  rest = out';
-  no_end = comes.1;
-  takes = comes.0;
-  gives = given sent sent' out out' (came.TooLong ≡ came.WriteFault) (λ e. absurd (cc)) writes;
-  rest_is = inr refl;
-  does = (inr (refl, comes.2), refl, record { calls = []; plays = refl; why = (refl, inl (omega (arith, comes.2))) });
-}
+  pub turn_goes : {E : Type 0} → Seeks {E = E} before (Ok came.Line) text mid → PutsText seen old mid.output mid.stream text (Ok tt) new output stream → Made turn.Goes
+  turn_goes seeks puts = record {
+    text = text;
+    taken = seeks.taken;
+    calls = puts.0;
+    printed = puts.1;
+    no_end = seeks.comes.1.no_end;
+    moved = both seeks.taken puts.1 seeks.moved puts.2.1;
+    does = (seeks.comes.0, seeks.comes.1, puts.2.0);
+    stream_is = put_reads mid.output output mid.stream stream puts.1 puts.2.1 (open_reads mid.stream.state seeks.tells);
+    written = λ e. absurd (cc);
+  }
 
--- memory was refused for what is read
-pub turn_memory : {D : Type 0} (seen : D → Seen) (left left' sent sent' : Option (List ℕ)) (waiting waiting' text out out' : List ℕ) (w : WorldValue D) (t : Names) →
-    Comes left waiting came.Memory text left' waiting' → Writes sent out sent' out' (came.Memory ≡ came.WriteFault) →
-    Turns seen (record { left = left; waiting = waiting; sent = sent; out = out; world = w; names = t }) (turn.Stops stop.Memory)
-    (record { left = left'; waiting = waiting'; sent = sent'; out = out'; world = w; names = t })
-turn_memory seen left left' sent sent' waiting waiting' text out out' w t comes writes = record {
-  text = text;
-  taken = text;
-  calls = [];
-  printed = [];
-  rest = out';
-  no_end = comes.1.no_end;
-  takes = comes.0;
-  gives = given sent sent' out out' (came.Memory ≡ came.WriteFault) (λ e. absurd (cc)) writes;
-  rest_is = inr refl;
-  does = (inl refl, refl, record { calls = []; plays = refl; why = inl refl });
-}
+  pub turn_last : {E : Type 0} → Seeks {E = E} before (Ok came.Last) text mid → PutsText seen old mid.output mid.stream text (Ok tt) new output stream → Made turn.Last
+  turn_last seeks puts = record {
+    text = text;
+    taken = seeks.taken;
+    calls = puts.0;
+    printed = puts.1;
+    no_end = seeks.comes.1.no_end;
+    moved = both seeks.taken puts.1 seeks.moved puts.2.1;
+    does = (seeks.comes.0, seeks.comes.1, seeks.comes.2, (seeks.comes.3.0, puts.2.1.waiting ∙ seeks.comes.3.1), puts.2.0);
+    stream_is = put_reads mid.output output mid.stream stream puts.1 puts.2.1 (open_reads mid.stream.state seeks.tells);
+    written = λ e. absurd (cc);
+  }
 
--- there was no line more
-pub turn_end : {D : Type 0} (seen : D → Seen) (left left' sent sent' : Option (List ℕ)) (waiting waiting' text out out' : List ℕ) (w : WorldValue D) (t : Names) →
-    Comes left waiting came.End text left' waiting' → Writes sent out sent' out' (came.End ≡ came.WriteFault) →
-    Turns seen (record { left = left; waiting = waiting; sent = sent; out = out; world = w; names = t }) turn.End
-    (record { left = left'; waiting = waiting'; sent = sent'; out = out'; world = w; names = t })
-turn_end seen left left' sent sent' waiting waiting' text out out' w t comes writes = record {
-  text = [];
-  taken = [];
-  calls = [];
-  printed = [];
-  rest = out';
-  no_end = λ k below. absurd (omega arith);
-  takes = comes.0;
-  gives = given sent sent' out out' (came.End ≡ came.WriteFault) (λ e. absurd (cc)) writes;
-  rest_is = inr refl;
-  does = (refl, comes.1, record { world = refl; names = refl; printed_is = refl });
-}
+  -- a line wasn't done to its end
+  stops_with : (s : Stop) (taken : List ℕ) → Moved taken [] before mid → mid.stream.state ≡ state.Open → HasNo 10 text →
+      IsTaken s taken text mid.input.bytes stream.waiting → PutsText seen old mid.output mid.stream text (Err s) new output stream → Made (turn.Stops s)
+  stops_with s taken moved going no_end is leaves = record {
+    text = text;
+    taken = taken;
+    calls = [];
+    printed = [];
+    no_end = no_end;
+    moved =
+        subst (λ (o : Side). Moved taken [] before (record { input = mid.input; output = o; stream = stream })) (sym leaves.1)
+        (subst (λ (b : Buffers). Moved taken [] before (record { input = mid.input; output = mid.output; stream = b })) (sym leaves.2) moved);
+    does = (is, refl, leaves.0);
+    stream_is = ap (λ (b : Buffers). b.state) leaves.2 ∙ going;
+    written = λ e. absurd (cc);
+  }
 
--- the input failed
-pub turn_read : {D : Type 0} (seen : D → Seen) (left left' sent sent' : Option (List ℕ)) (waiting waiting' text out out' : List ℕ) (w : WorldValue D) (t : Names) →
-    Comes left waiting came.ReadFault text left' waiting' → Writes sent out sent' out' (came.ReadFault ≡ came.WriteFault) →
-    Turns seen (record { left = left; waiting = waiting; sent = sent; out = out; world = w; names = t }) turn.ReadFault
-    (record { left = left'; waiting = waiting'; sent = sent'; out = out'; world = w; names = t })
-turn_read seen left left' sent sent' waiting waiting' text out out' w t comes writes = record {
-  text = text;
-  taken = text;
-  calls = [];
-  printed = [];
-  rest = out';
-  no_end = comes.1.no_end;
-  takes = comes.0;
-  gives = given sent sent' out out' (came.ReadFault ≡ came.WriteFault) (λ e. absurd (cc)) writes;
-  rest_is = inr refl;
-  does = (refl, record { world = refl; names = refl; printed_is = refl });
-}
+  line_taken : (s : Stop) (taken : List ℕ) → length text < longest → taken ≡ text ++ 10 ∷ [] → IsTaken s taken text mid.input.bytes stream.waiting
+  line_taken stop.BadLine taken short is = inl (inl is)
+  line_taken stop.NotNext taken short is = (inl is, short)
+  line_taken stop.Memory taken short is = (inl is, short)
 
--- the output failed
-pub turn_write : {D : Type 0} (seen : D → Seen) (left left' sent sent' : Option (List ℕ)) (waiting waiting' text out out' : List ℕ) (w : WorldValue D) (t : Names) →
-    Comes left waiting came.WriteFault text left' waiting' → Writes sent out sent' out' (came.WriteFault ≡ came.WriteFault) →
-    Turns seen (record { left = left; waiting = waiting; sent = sent; out = out; world = w; names = t }) turn.WriteFault
-    (record { left = left'; waiting = waiting'; sent = sent'; out = out'; world = w; names = t })
-turn_write seen left left' sent sent' waiting waiting' text out out' w t comes writes = record {
-  text = text;
-  taken = text;
-  calls = [];
-  printed = [];
-  rest = writes.0;
-  no_end = comes.1.no_end;
-  takes = comes.0;
-  gives = writes.1.0;
-  rest_is = inl refl;
-  does = (refl, record { world = refl; names = refl; printed_is = refl });
-}
+  pub turn_stops : {E : Type 0} (s : Stop) → Seeks {E = E} before (Ok came.Line) text mid → PutsText seen old mid.output mid.stream text (Err s) new output stream →
+      Made (turn.Stops s)
+  turn_stops s seeks leaves =
+      stops_with s seeks.taken seeks.moved seeks.tells seeks.comes.1.no_end (line_taken s seeks.taken seeks.comes.1.short seeks.comes.0) leaves
+
+  last_taken : (s : Stop) (taken : List ℕ) → length text < longest → taken ≡ text → text ≢ [] → IsUsedUp mid.input.bytes stream.waiting →
+      IsTaken s taken text mid.input.bytes stream.waiting
+  last_taken stop.BadLine taken short is some over = inl (inr (is, some, over))
+  last_taken stop.NotNext taken short is some over = (inr (is, some, over), short)
+  last_taken stop.Memory taken short is some over = (inr (is, some, over), short)
+
+  pub turn_last_stops : {E : Type 0} (s : Stop) → Seeks {E = E} before (Ok came.Last) text mid → PutsText seen old mid.output mid.stream text (Err s) new output stream →
+      Made (turn.Stops s)
+  turn_last_stops s seeks leaves =
+      stops_with s seeks.taken seeks.moved seeks.tells seeks.comes.1.no_end
+      (last_taken s seeks.taken seeks.comes.1.short seeks.comes.0 seeks.comes.2
+      (seeks.comes.3.0, ap (λ (b : Buffers). b.waiting) leaves.2 ∙ seeks.comes.3.1)) leaves
+
+module _ {D : Type 0} (seen : D → Seen) (before after : Flow) (w : WorldValue D) (t : Names) (text : List ℕ) where
+  abbrev Brought : Turn → Type 0
+  Brought how = Turns seen (record { flow = before; world = w; names = t }) how (record { flow = after; world = w; names = t })
+
+  -- the line was too long
+  pub turn_long : {E : Type 0} → Seeks {E = E} before (Ok came.TooLong) text after → Brought (turn.Stops stop.BadLine)
+  turn_long seeks = record {
+    text = text;
+    taken = seeks.taken;
+    calls = [];
+    printed = [];
+    no_end = seeks.comes.1;
+    moved = seeks.moved;
+    does = (inr (seeks.comes.0, seeks.comes.2), refl, record { calls = []; plays = refl; why = (refl, inl (omega (arith, seeks.comes.2))) });
+    stream_is = seeks.tells;
+    written = λ e. absurd (cc);
+  }
+
+  -- there was no line more
+  pub turn_end : {E : Type 0} → Seeks {E = E} before (Ok came.End) text after → Brought turn.End
+  turn_end seeks = record {
+    text = [];
+    taken = seeks.taken;
+    calls = [];
+    printed = [];
+    no_end = λ k below. absurd (omega arith);
+    moved = seeks.moved;
+    does = (seeks.comes.0, seeks.comes.1, record { world = refl; names = refl; printed_is = refl });
+    stream_is = seeks.tells;
+    written = λ e. absurd (cc);
+  }
+
+  -- the stream failed
+  pub turn_fault : {E : Type 0} (e : E) (how : Turn) → how ≡ fault_turn after.stream.state → Seeks {E = E} before (Err e) text after → Brought how
+  turn_fault e how is seeks = subst Brought (sym is) (by_state after.stream.state refl)
+    where
+      by_state : (s : State) → after.stream.state ≡ s → Brought (fault_turn s)
+      by_state state.Open now = absurd (seeks.tells now)
+      by_state state.ReadFault now = record {
+        text = seeks.taken;
+        taken = seeks.taken;
+        calls = [];
+        printed = [];
+        no_end = seeks.comes.no_end;
+        moved = seeks.moved;
+        does = (refl, record { world = refl; names = refl; printed_is = refl });
+        stream_is = now;
+        written = λ is reads. seeks.written reads now;
+      }
+      by_state state.WriteFault now = record {
+        text = seeks.taken;
+        taken = seeks.taken;
+        calls = [];
+        printed = [];
+        no_end = seeks.comes.no_end;
+        moved = seeks.moved;
+        does = (refl, record { world = refl; names = refl; printed_is = refl });
+        stream_is = now;
+        written = λ e. absurd (cc);
+      }

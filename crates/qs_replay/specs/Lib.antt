@@ -3,7 +3,6 @@ pub mod Calls
 pub mod Effects
 pub mod Ranks
 pub mod Readings
-pub mod Waiting
 pub mod Words
 pub mod Scripts
 pub mod Runs

@@ -13,6 +13,8 @@ use Rattle.qs_model.specs.Steps.{Runs, after}
 use Rattle.qs_model.specs.Worlds.{World}
 use Rattle.qs_part.specs.declared.graph.GraphOp.{GraphOp}
 use Rattle.qs_part.specs.declared.graph.GraphOp.TheVariants.{ExportAdd}
+use Rattle.qs_stream.specs.Buffers.{new_buffers}
+use Rattle.qs_stream.specs.Flows.{Side}
 use Rattle.qs_verdicts.specs.Judged.{Judged}
 use Rattle.qs_world.specs.Openings.{Exports, IsOpened, opening_over}
 use Rattle.qs_world.specs.Stands.{Stands}
@@ -69,16 +71,23 @@ ComesBack seen disks back (status.OpenBad bad) = (back ≡ disks) × Opens (map 
 ComesBack seen disks back status.Memory = back ≡ disks
 ComesBack seen disks back other = ⊥
 
--- The script was replayed over the disks. Where its source tells it, its lines say how far. The calls of its lines, also of one that
--- memory cut off, are a run from the opening, with all laws.
+-- What is seen before the first line: nothing was read or written yet, and no name stands for anything.
+abbrev pub first_scene : {D : Type 0} → Side → Side → WorldValue D → Scene D
+first_scene input output start = record { flow = record { input = input; output = output; stream = new_buffers }; world = start; names = no_names }
+
+-- The script was replayed over the disks, whatever faults were counted before. Where its source tells it, its lines say how far. The calls
+-- of its lines, also of one that memory cut off, are a run from the opening, with all laws.
 pub record IsReplayed {D : Type 0} (seen : D → Seen) (disks : List D) (left sent : Option (List ℕ)) (result : Status)
     (disks' : List D) (left' sent' : Option (List ℕ)) : Type 0 where
   pub start : WorldValue D
   pub begins : Begins seen disks start
+  pub read_faults : ℕ
+  pub write_faults : ℕ
   pub after_all : Scene D
-  pub replays : Replays seen (record { left = left; waiting = []; sent = sent; out = []; world = start; names = no_names }) most_lines result after_all
-  pub left_is : left' ≡ after_all.left
-  pub sent_is : sent' ≡ after_all.sent
+  pub replays : Replays seen
+      (first_scene (record { bytes = left; faults = read_faults }) (record { bytes = sent; faults = write_faults }) start) most_lines result after_all
+  pub left_is : left' ≡ after_all.flow.input.bytes
+  pub sent_is : sent' ≡ after_all.flow.output.bytes
   pub disks_are : disks' ≡ map (λ s. s.disk) after_all.world.stripes
   pub reaches : (script : List ℕ) → left ≡ Some script → ReachesLine result most_lines (lines_of script) replays.texts replays.world replays.names
   pub run : HasRun seen (map seen disks) (replays.calls ++ replays.cut) after_all.world

@@ -7,6 +7,10 @@ use Rattle.qs_script.specs.Cuts.{longest}
 use Rattle.qs_script.specs.Finds.{HasNo}
 use Rattle.qs_script.specs.Lines.{Reads}
 use Rattle.qs_script.specs.declared.line.Line.{Line}
+use Rattle.qs_stream.specs.declared.state.State.{State}
+use Rattle.qs_stream.specs.declared.state.State.TheVariants as state
+use Rattle.qs_stream.specs.Buffers.{Buffers}
+use Rattle.qs_stream.specs.Flows.{Flow, Moved, Puts, Side, flow as stream_flow}
 use Rattle.qs_world.specs.Values.{WorldValue}
 use Rattle.qs_replay.specs.declared.desk.Desk.{Desk}
 use Rattle.qs_replay.specs.declared.stop.Stop.{Stop}
@@ -15,9 +19,8 @@ use Rattle.qs_replay.specs.declared.replay.Turn.{Turn}
 use Rattle.qs_replay.specs.declared.replay.Turn.TheVariants as turn
 use Rattle.qs_replay.specs.Calls.{Call, Plays}
 use Rattle.qs_replay.specs.Effects.{CannotCome, DrivesNotLive, IsCut, IsPlayed, UsesAgain}
-use Rattle.qs_replay.specs.Readings.{IsText, IsUsedUp}
+use Rattle.qs_replay.specs.Readings.{AllSent, IsText, IsUsedUp}
 use Rattle.qs_replay.specs.Tables.{Names}
-use Rattle.qs_replay.specs.Waiting.{Gives, Takes}
 
 -- it is too long, or no line is spelled, or one that uses a cookie again
 abbrev pub IsBad : Names → List ℕ → Type 0
@@ -31,7 +34,7 @@ IsUntimely w t text = (l : Line) × (Reads text l × (UsesAgain t l → ⊥) × 
 abbrev pub Why : {D : Type 0} → WorldValue D → Names → List ℕ → Stop → List Call → Type 0
 Why w t text stop.BadLine calls = (calls ≡ []) × IsBad t text
 Why w t text stop.NotNext calls = (calls ≡ []) × IsUntimely w t text
-Why w t text stop.Memory calls = (calls ≡ []) ⊎ ((l : Line) × (Reads text l × IsCut t l calls))
+Why w t text stop.Memory calls = (l : Line) × (Reads text l × IsCut t l calls)
 
 -- The text of one line was done. Of a `write` the bytes are lost where memory was refused for them; then the request has none.
 pub record DoesText {D : Type 0} (seen : D → Seen) (w : WorldValue D) (t : Names) (text : List ℕ) (calls : List Call) (printed : List ℕ)
@@ -52,6 +55,14 @@ abbrev pub PlaysText : {D : Type 0} → (D → Seen) → Desk D → List ℕ →
 PlaysText seen old text (Ok u) new =
     (calls : List Call) × (printed : List ℕ) × (DoesText seen old.world old.table text calls printed new.world new.table × (new.out ≡ old.out ++ printed))
 PlaysText seen old text (Err s) new = LeavesText seen old.world old.table text s new.world × (new.out ≡ old.out)
+
+-- at a desk where nothing waits, and what was printed was put
+abbrev pub PutsText : {D : Type 0} → (D → Seen) → Desk D → Side → Buffers → List ℕ → Result Unit Stop → Desk D → Side → Buffers → Type 0
+PutsText seen old output stream text (Ok u) new output' stream' =
+    (calls : List Call) × (printed : List ℕ) ×
+    (DoesText seen old.world old.table text calls printed new.world new.table × Puts printed output stream output' stream')
+PutsText seen old output stream text (Err s) new output' stream' =
+    LeavesText seen old.world old.table text s new.world × (output' ≡ output) × (stream' ≡ stream)
 
 -- one line was done, and then others
 pub record DoesFirst {D : Type 0} (seen : D → Seen) (w : WorldValue D) (t : Names) (text : List ℕ) (calls : List Call) (printed : List ℕ)
@@ -86,15 +97,19 @@ abbrev pub spelled : List (List ℕ) → List ℕ
 spelled [] = []
 spelled (text ∷ texts) = text ++ 10 ∷ spelled texts
 
--- What is seen of a replay: what the source has left, the bytes that were read and wait, what the sink has, the
--- bytes that wait to be written, the core, and what names stand for.
+-- What is seen of a replay: the stream with its two sides, the core, and what names stand for.
 pub record Scene (D : Type 0) : Type 0 where
-  pub left : Option (List ℕ)
-  pub waiting : List ℕ
-  pub sent : Option (List ℕ)
-  pub out : List ℕ
+  pub flow : Flow
   pub world : WorldValue D
   pub names : Names
+
+-- by the meanings of the source and of the sink
+abbrev pub scene : {I O D : Type 0} → (I → Option (List ℕ)) → (I → ℕ) → (O → Option (List ℕ)) → (O → ℕ) → I → O → Buffers → WorldValue D → Names → Scene D
+scene left read_faults sent write_faults input output stream world names = record {
+  flow = stream_flow left read_faults sent write_faults input output stream;
+  world = world;
+  names = names;
+}
 
 -- nothing happens to the core
 pub record Idles {D : Type 0} (before : Scene D) (printed : List ℕ) (after : Scene D) : Type 0 where
@@ -106,34 +121,48 @@ pub record Idles {D : Type 0} (before : Scene D) (printed : List ℕ) (after : S
 abbrev pub IsLine : List ℕ → List ℕ → Option (List ℕ) → List ℕ → Type 0
 IsLine taken text left waiting = (taken ≡ text ++ 10 ∷ []) ⊎ ((taken ≡ text) × (text ≢ []) × IsUsedUp left waiting)
 
--- What was taken of a line that wasn't done: the line, or too many bytes, or, where memory was refused, some of it.
+-- What was taken of a line that wasn't done: the line, or too many bytes.
 abbrev pub IsTaken : Stop → List ℕ → List ℕ → Option (List ℕ) → List ℕ → Type 0
 IsTaken stop.BadLine taken text left waiting = IsLine taken text left waiting ⊎ ((taken ≡ text) × (length text ≡ longest))
 IsTaken stop.NotNext taken text left waiting = IsLine taken text left waiting × (length text < longest)
-IsTaken stop.Memory taken text left waiting = (taken ≡ text) ⊎ (taken ≡ text ++ 10 ∷ [])
+IsTaken stop.Memory taken text left waiting = IsLine taken text left waiting × (length text < longest)
 
 abbrev pub TurnDoes : {D : Type 0} → (D → Seen) → Scene D → Turn → List ℕ → List ℕ → List Call → List ℕ → Scene D → Type 0
 TurnDoes seen before turn.Goes text taken calls printed after =
     (taken ≡ text ++ 10 ∷ []) × IsText text × DoesText seen before.world before.names text calls printed after.world after.names
 TurnDoes seen before turn.Last text taken calls printed after =
-    (taken ≡ text) × IsText text × (text ≢ []) × IsUsedUp after.left after.waiting × DoesText seen before.world before.names text calls printed after.world after.names
-TurnDoes seen before turn.End text taken calls printed after = (taken ≡ []) × IsUsedUp after.left after.waiting × Idles before printed after
+    (taken ≡ text) × IsText text × (text ≢ []) × IsUsedUp after.flow.input.bytes after.flow.stream.waiting ×
+    DoesText seen before.world before.names text calls printed after.world after.names
+TurnDoes seen before turn.End text taken calls printed after =
+    (taken ≡ []) × IsUsedUp after.flow.input.bytes after.flow.stream.waiting × Idles before printed after
 TurnDoes seen before (turn.Stops s) text taken calls printed after =
-    IsTaken s taken text after.left after.waiting × (printed ≡ []) × LeavesText seen before.world before.names text s after.world
+    IsTaken s taken text after.flow.input.bytes after.flow.stream.waiting × (printed ≡ []) × LeavesText seen before.world before.names text s after.world
 TurnDoes seen before other text taken calls printed after = (taken ≡ text) × Idles before printed after
 
--- one line was read, and what came of it
+-- The stream behind a line: it goes on, or one of its sides failed; what a line printed may have failed to be written.
+abbrev pub StreamAfter : Turn → State → Type 0
+StreamAfter turn.ReadFault now = now ≡ state.ReadFault
+StreamAfter turn.WriteFault now = now ≡ state.WriteFault
+StreamAfter turn.Goes now = now ≢ state.ReadFault
+StreamAfter turn.Last now = now ≢ state.ReadFault
+StreamAfter other now = now ≡ state.Open
+
+-- what a stream that failed makes of a line
+abbrev pub fault_turn : State → Turn
+fault_turn state.ReadFault = turn.ReadFault
+fault_turn other = turn.WriteFault
+
+-- One line was read, and what came of it. Where the input failed meanwhile, all that waited had been written.
 pub record Turns {D : Type 0} (seen : D → Seen) (before : Scene D) (r : Turn) (after : Scene D) : Type 0 where
   pub text : List ℕ
   pub taken : List ℕ
   pub calls : List Call
   pub printed : List ℕ
-  pub rest : List ℕ
   pub no_end : HasNo 10 text
-  pub takes : Takes before.left before.waiting taken after.left after.waiting
-  pub gives : Gives before.sent before.out printed after.sent rest
-  pub rest_is : (r ≡ turn.WriteFault) ⊎ (rest ≡ after.out)
+  pub moved : Moved taken printed before.flow after.flow
   pub does : TurnDoes seen before r text taken calls printed after
+  pub stream_is : StreamAfter r after.flow.stream.state
+  pub written : r ≡ turn.ReadFault → before.flow.stream.state ≢ state.ReadFault → AllSent [] before.flow after.flow
 
 -- so many lines were done
 pub record SoFar {D : Type 0} (seen : D → Seen) (before : Scene D) (n : ℕ) (after : Scene D) : Type 0 where
@@ -142,8 +171,14 @@ pub record SoFar {D : Type 0} (seen : D → Seen) (before : Scene D) (n : ℕ) (
   pub printed : List ℕ
   pub count : length texts ≡ n
   pub done : AllDone seen before.world before.names texts calls printed after.world after.names
-  pub takes : Takes before.left before.waiting (spelled texts) after.left after.waiting
-  pub gives : Gives before.sent before.out printed after.sent after.out
+  pub moved : Moved (spelled texts) printed before.flow after.flow
+  pub reads : after.flow.stream.state ≢ state.ReadFault
+
+-- the side that failed, by the status of the run
+abbrev pub side_of : Status → State
+side_of status.ReadFault = state.ReadFault
+side_of status.WriteFault = state.WriteFault
+side_of other = state.Open
 
 -- the output is whole
 abbrev pub is_whole : Status → Bool
@@ -151,13 +186,18 @@ is_whole status.WriteFault = false
 is_whole status.Memory = false
 is_whole other = true
 
--- what waited was written at the end, unless the output had failed or memory was refused
-pub record Finishes (sent : Option (List ℕ)) (out : List ℕ) (before result : Status) (sent' : Option (List ℕ)) : Type 0 where
-  pub rest : List ℕ
-  pub gives : Gives sent out [] sent' rest
-  pub result_is : (result ≡ before) ⊎ ((result ≡ status.WriteFault) × (before ≡ status.Memory → ⊥))
-  pub whole : is_whole result ≡ true → rest ≡ []
-  pub kept : before ≡ status.WriteFault → sent' ≡ sent
+-- nothing is written at such an end: a side had failed, or memory was refused
+abbrev pub is_silent : Status → Bool
+is_silent status.Memory = true
+is_silent status.ReadFault = true
+is_silent status.WriteFault = true
+is_silent other = false
+
+-- What waited was written at the end, or couldn't be, unless a side had failed before or memory was refused.
+pub record Finishes (output : Side) (old : Buffers) (before result : Status) (output' : Side) (new : Buffers) : Type 0 where
+  pub puts : Puts [] output old output' new
+  pub how : ((is_silent before ≡ true) × (result ≡ before) × (output' ≡ output) × (new ≡ old)) ⊎ ((is_silent before ≡ false) ×
+      (((result ≡ before) × (new.state ≡ state.Open) × (new.held ≡ [])) ⊎ ((result ≡ status.WriteFault) × (new.state ≢ state.Open))))
 
 -- the status of a script that ends with this line
 abbrev pub status_of : Turn → ℕ → Status
@@ -206,7 +246,7 @@ Ends status.Spent budget texts taken cut w t left waiting = (length texts ≡ bu
 Ends other budget texts taken cut w t left waiting = ⊥
 
 -- A script was replayed: its lines were done in order up to its end, and what they print was written, a front
--- of it where the output failed or memory was refused.
+-- of it where the output failed or memory was refused. A side of the stream failed exactly where the status says so.
 pub record Replays {D : Type 0} (seen : D → Seen) (before : Scene D) (budget : ℕ) (result : Status) (after : Scene D) : Type 0 where
   pub texts : List (List ℕ)
   pub calls : List Call
@@ -216,13 +256,12 @@ pub record Replays {D : Type 0} (seen : D → Seen) (before : Scene D) (budget :
   pub done : AllDone seen before.world before.names texts calls printed world names
   pub few : length texts ≤ budget
   pub taken : List ℕ
-  pub takes : Takes before.left before.waiting taken after.left after.waiting
-  pub rest : List ℕ
-  pub gives : Gives before.sent before.out printed after.sent rest
-  pub whole : is_whole result ≡ true → rest ≡ []
+  pub moved : Moved taken printed before.flow after.flow
+  pub failed : after.flow.stream.state ≡ side_of result
+  pub whole : is_whole result ≡ true → AllSent printed before.flow after.flow
   pub cut : List Call
   pub cut_plays : Plays seen world cut after.world
-  pub ends : Ends result budget texts taken cut world names after.left after.waiting
+  pub ends : Ends result budget texts taken cut world names after.flow.input.bytes after.flow.stream.waiting
 
 -- The lines of a script: each ends in LF, which the last may lack where it isn't empty.
 abbrev pub lines_from : List ℕ → List ℕ → List (List ℕ)

@@ -4,9 +4,7 @@
 
 mod desk;
 mod disks;
-mod inbox;
 mod lines;
-mod outbox;
 mod play;
 mod replay;
 mod run;

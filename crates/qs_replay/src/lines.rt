@@ -1,15 +1,12 @@
-ghost use Rattle.std.specs.Prelude.{◌≡◌, ◌≤◌, [], OnErr, OnOk};
-ghost use Rattle.qs_outside.specs.Faults.{HasCause, Rose};
-ghost use Rattle.qs_replay.specs.Readings.{Comes, end_of};
-ghost use Rattle.qs_replay.specs.Waiting.{Flushes, Gives, Writes};
-ghost use Rattle.qs_replay.specs.declared.lines.Came.TheVariants.{ReadFault, WriteFault};
+ghost use Rattle.std.specs.Prelude.{◌≡◌, ◌<◌, [], length};
+ghost use Rattle.qs_script.specs.Cuts.{longest};
+ghost use Rattle.qs_stream.specs.declared.state.State.TheVariants.{Open, ReadFault};
+ghost use Rattle.qs_stream.specs.Flows.{Fills, flow};
+ghost use Rattle.qs_replay.specs.Readings.{AllSent, Feeds, Seeks, came_of as the_came, end_of};
 
-use crate::inbox::{Brought, Inbox};
-use crate::outbox::flush;
-use qs_bytes::Bytes;
 use qs_outside::{Failed, Sink, Source};
-use qs_script::Cut;
-use std::alloc::Global;
+use qs_script::{Cut, LineCutter};
+use qs_stream::Stream;
 
 /// What came of looking for the next line.
 #[derive(Clone, Copy, Debug, PartialEq, Eq)]
@@ -22,95 +19,96 @@ pub enum Came {
     End,
     /// More bytes than a line has.
     TooLong,
-    ReadFault,
-    WriteFault,
-    Memory,
 }
 
-/// How many bytes wait at most before they are written.
-const LARGE: usize = 65_536;
-
-/// Writes what waits where it is much.
-fn spill<O: Sink>(alloc: Global, out: &mut Bytes, output: &mut O) -> Result<(), Failed>
-    ensures flushes { OnErr result (Flushes (O.sent output.old) out.old result (O.sent output.new)) }
-    ensures writes { OnOk result (Gives (O.sent output.old) out.old [] (O.sent output.new) out.new) }
-    ensures cause { HasCause (O.write_faults output.old) (O.write_faults output.new) result }
+/// What a cut makes of the bytes before it.
+fn came_of(cut: Cut) -> Came
+    ensures { result ≡ the_came cut }
 {
-    if out.len() < LARGE {
-        return Ok(());
-    }
-    flush(alloc, out, output)
-}
-
-/// The next line of the input, of which no byte was taken. All that waits to be written is written
-/// before more is read, since reading may wait.
-fn find_line<I: Source, O: Sink>(
-    alloc: Global,
-    inbox: &mut Inbox,
-    out: &mut Bytes,
-    input: &mut I,
-    output: &mut O,
-) -> Came
-    requires { inbox.old.line ≡ [] }
-    ensures comes { Comes (I.left input.old) inbox.old.waiting result inbox.new.line (I.left input.new) inbox.new.waiting }
-    ensures writes { Writes (O.sent output.old) out.old (O.sent output.new) out.new (result ≡ WriteFault) }
-    ensures later { (I.read_faults input.old ≤ I.read_faults input.new) × (O.write_faults output.old ≤ O.write_faults output.new) }
-    ensures read { result ≡ ReadFault → Rose (I.read_faults input.old) (I.read_faults input.new) }
-    ensures write { result ≡ WriteFault → Rose (O.write_faults output.old) (O.write_faults output.new) }
-{
-    match inbox.feed() {
-        Some(Cut::Line) => return Came::Line,
-        Some(Cut::TooLong) => return Came::TooLong,
-        None => {}
-    }
-    'pieces: loop {
-        match flush(alloc, out, output) {
-            Ok(()) => {}
-            Err(_) => return Came::WriteFault,
-        }
-        match inbox.fill(input) {
-            Brought::Bytes => {}
-            Brought::End => return ending(inbox),
-            Brought::Failed => return Came::ReadFault,
-            Brought::Memory => return Came::Memory,
-        }
-        match inbox.feed() {
-            Some(Cut::Line) => return Came::Line,
-            Some(Cut::TooLong) => return Came::TooLong,
-            None => {}
-        }
+    match cut {
+        Cut::Line => Came::Line,
+        Cut::TooLong => Came::TooLong,
     }
 }
 
 /// What the input's end makes of the bytes that stand before it.
-fn ending(inbox: &Inbox) -> Came
-    ensures { result ≡ end_of inbox.now.line }
+fn ending(cutter: &LineCutter) -> Came
+    ensures { result ≡ end_of cutter.now }
 {
-    match inbox.line() {
+    match cutter.line() {
         [] => Came::End,
         _ => Came::Last,
     }
 }
 
-/// The next line of the input. All that waits to be written is written before more is read, and where
-/// it is much.
-pub fn next_line<I: Source, O: Sink>(
-    alloc: Global,
-    inbox: &mut Inbox,
-    out: &mut Bytes,
+/// Takes what waits into the line, up to its end.
+fn feed(cutter: &mut LineCutter, stream: &mut Stream) -> Option<Cut>
+    requires { length cutter.old < longest }
+    ensures feeds { Feeds cutter.old stream.old.waiting result cutter.new stream.new.waiting }
+    ensures others { stream.new ≡ record stream.old { waiting = stream.new.waiting } }
+{
+    let fed = cutter.feed(stream.waiting());
+    stream.take(fed.taken);
+    fed.event
+}
+
+/// Writes all that waits, and then reads more, once, where nothing waits; no bytes are the input's end.
+fn refill<I: Source, O: Sink>(
+    stream: &mut Stream,
     input: &mut I,
     output: &mut O,
-) -> Came
-    ensures comes { Comes (I.left input.old) inbox.old.waiting result inbox.new.line (I.left input.new) inbox.new.waiting }
-    ensures writes { Writes (O.sent output.old) out.old (O.sent output.new) out.new (result ≡ WriteFault) }
-    ensures later { (I.read_faults input.old ≤ I.read_faults input.new) × (O.write_faults output.old ≤ O.write_faults output.new) }
-    ensures read { result ≡ ReadFault → Rose (I.read_faults input.old) (I.read_faults input.new) }
-    ensures write { result ≡ WriteFault → Rose (O.write_faults output.old) (O.write_faults output.new) }
+) -> Result<usize, Failed>
+    requires empty { stream.old.waiting ≡ [] }
+    requires ongoing { stream.old.state ≡ Open }
+    ensures fills { Fills (flow I.left I.read_faults O.sent O.write_faults input.old output.old stream.old) result
+        (flow I.left I.read_faults O.sent O.write_faults input.new output.new stream.new) }
+    ensures written { stream.new.state ≡ ReadFault →
+        AllSent [] (flow I.left I.read_faults O.sent O.write_faults input.old output.old stream.old)
+        (flow I.left I.read_faults O.sent O.write_faults input.new output.new stream.new) }
 {
-    inbox.clear();
-    match spill(alloc, out, output) {
-        Ok(()) => {}
-        Err(_) => return Came::WriteFault,
+    stream.flush(output)?;
+    stream.fill(input, output)
+}
+
+/// The next line of an open stream, of which no byte was taken. All that waits to be written is written
+/// before more is read, since reading may wait.
+fn find_line<I: Source, O: Sink>(
+    cutter: &mut LineCutter,
+    stream: &mut Stream,
+    input: &mut I,
+    output: &mut O,
+) -> Result<Came, Failed>
+    requires fresh { cutter.old ≡ [] }
+    requires ongoing { stream.old.state ≡ Open }
+    ensures { Seeks (flow I.left I.read_faults O.sent O.write_faults input.old output.old stream.old) result cutter.new
+        (flow I.left I.read_faults O.sent O.write_faults input.new output.new stream.new) }
+{
+    match feed(cutter, stream) {
+        Some(cut) => return Ok(came_of(cut)),
+        None => {}
     }
-    find_line(alloc, inbox, out, input, output)
+    'pieces: loop {
+        if refill(stream, input, output)? == 0 {
+            return Ok(ending(cutter));
+        }
+        match feed(cutter, stream) {
+            Some(cut) => return Ok(came_of(cut)),
+            None => {}
+        }
+    }
+}
+
+/// The next line of the stream; the cutter holds it. A stream that failed does nothing more.
+pub fn next_line<I: Source, O: Sink>(
+    cutter: &mut LineCutter,
+    stream: &mut Stream,
+    input: &mut I,
+    output: &mut O,
+) -> Result<Came, Failed>
+    ensures { Seeks (flow I.left I.read_faults O.sent O.write_faults input.old output.old stream.old) result cutter.new
+        (flow I.left I.read_faults O.sent O.write_faults input.new output.new stream.new) }
+{
+    stream.check()?;
+    cutter.clear();
+    find_line(cutter, stream, input, output)
 }

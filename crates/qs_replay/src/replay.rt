@@ -1,20 +1,19 @@
-ghost use Rattle.std.specs.Prelude.{◌≡◌, ◌<◌, ◌≤◌, ◌-◌, ◌^◌, ◌⊎◌, List, ℕ};
+ghost use Rattle.std.specs.Prelude.{◌≡◌, ◌<◌, ◌-◌, ◌^◌, [], List, ℕ};
 ghost use Rattle.qs_script.specs.Lines.{IsLineFault, Reads};
-ghost use Rattle.qs_status.specs.declared.status.Status.TheVariants as S;
-ghost use Rattle.qs_outside.specs.Faults.{Rose};
-ghost use Rattle.qs_replay.specs.Scripts.{Finishes, PlaysText, Replays, Turns, status_of};
-ghost use Rattle.qs_replay.specs.declared.replay.Turn.TheVariants.{ReadFault, WriteFault};
+ghost use Rattle.qs_stream.specs.declared.state.State.TheVariants.{Open};
+ghost use Rattle.qs_stream.specs.Flows.{Puts, side};
+ghost use Rattle.qs_replay.specs.Scripts.{Finishes, PlaysText, PutsText, Replays, Turns, fault_turn, is_silent as the_silent, scene, status_of};
 
 use crate::desk::Desk;
-use crate::inbox::Inbox;
 use crate::lines::{Came, next_line};
-use crate::outbox::flush;
 use crate::stop::Stop;
 use qs_bytes::Bytes;
 use qs_outside::{RiggedDisk, Sink, Source};
-use qs_script::{LineFault, read_line};
+use qs_script::{LineCutter, LineFault, read_line};
 use qs_status::Status;
+use qs_stream::{State, Stream};
 use std::alloc::Global;
+use std::mem;
 
 /// What came of one line of a script.
 #[derive(Clone, Copy, Debug, PartialEq, Eq)]
@@ -56,50 +55,100 @@ fn play_text<D: RiggedDisk + Drop>(desk: &mut Desk<D>, text: &[u8]) -> Result<()
     }
 }
 
-/// The next line is read and done.
-fn take_turn<I: Source, O: Sink, D: RiggedDisk + Drop>(
-    desk: &mut Desk<D>,
-    inbox: &mut Inbox,
-    input: &mut I,
-    output: &mut O,
-) -> Turn
-    ensures turns { Turns D.Disk.seen
-        (record { left = I.left input.old; waiting = inbox.old.waiting; sent = O.sent output.old; out = desk.old.out; world = desk.old.world; names = desk.old.table })
-        result
-        (record { left = I.left input.new; waiting = inbox.new.waiting; sent = O.sent output.new; out = desk.new.out; world = desk.new.world; names = desk.new.table }) }
-    ensures later { (I.read_faults input.old ≤ I.read_faults input.new) × (O.write_faults output.old ≤ O.write_faults output.new) }
-    ensures read { result ≡ ReadFault → Rose (I.read_faults input.old) (I.read_faults input.new) }
-    ensures write { result ≡ WriteFault → Rose (O.write_faults output.old) (O.write_faults output.new) }
+/// Lets the bytes go, and keeps their room.
+fn clear(alloc: Global, out: &mut Bytes)
+    ensures { out.new ≡ [] }
 {
-    match next_line(desk.alloc, inbox, &mut desk.out, input, output) {
-        Came::Line => match play_text(desk, inbox.line()) {
-            Ok(()) => Turn::Goes,
-            Err(stop) => Turn::Stops(stop),
-        },
-        Came::Last => match play_text(desk, inbox.line()) {
-            Ok(()) => Turn::Last,
-            Err(stop) => Turn::Stops(stop),
-        },
-        Came::End => Turn::End,
-        Came::TooLong => Turn::Stops(Stop::BadLine),
-        Came::ReadFault => Turn::ReadFault,
-        Came::WriteFault => Turn::WriteFault,
-        Came::Memory => Turn::Stops(Stop::Memory),
+    let mut bytes = mem::replace(out, Bytes::of(Vec::new(alloc))).into_vec();
+    bytes.clear();
+    *out = Bytes::of(bytes);
+}
+
+/// Puts what was printed behind the bytes that wait to be written.
+fn print<O: Sink, D: RiggedDisk + Drop>(desk: &mut Desk<D>, stream: &mut Stream, output: &mut O)
+    ensures puts { Puts desk.old.out (side O.sent O.write_faults output.old) stream.old (side O.sent O.write_faults output.new) stream.new }
+    ensures desk { desk.new ≡ record desk.old { out = [] } }
+{
+    stream.put(output, desk.out.as_slice());
+    clear(desk.alloc, &mut desk.out);
+}
+
+/// The line that a text spells is done, and what it printed is put.
+fn do_line<O: Sink, D: RiggedDisk + Drop>(
+    desk: &mut Desk<D>,
+    stream: &mut Stream,
+    output: &mut O,
+    text: &[u8],
+) -> Result<(), Stop>
+    requires { desk.old.out ≡ [] }
+    ensures puts { PutsText D.Disk.seen desk.old (side O.sent O.write_faults output.old) stream.old text.now result
+        desk.new (side O.sent O.write_faults output.new) stream.new }
+    ensures empty { desk.new.out ≡ [] }
+{
+    play_text(desk, text)?;
+    print(desk, stream, output);
+    Ok(())
+}
+
+/// What a stream that failed makes of a line.
+fn fault(stream: &Stream) -> Turn
+    ensures { result ≡ fault_turn stream.now.state }
+{
+    match stream.state() {
+        State::ReadFault => Turn::ReadFault,
+        _ => Turn::WriteFault,
     }
 }
 
-/// Writes what waits, unless the output failed or memory was refused.
-fn finish<O: Sink>(alloc: Global, out: &mut Bytes, output: &mut O, status: Status) -> Status
-    ensures finishes { Finishes (O.sent output.old) out.old status result (O.sent output.new) }
-    ensures later { O.write_faults output.old ≤ O.write_faults output.new }
-    ensures write { result ≡ S.WriteFault → (status ≡ S.WriteFault) ⊎ Rose (O.write_faults output.old) (O.write_faults output.new) }
+/// The next line is read and done, and what it printed is put. Where that can't be written, the next
+/// turn fails.
+fn take_turn<I: Source, O: Sink, D: RiggedDisk + Drop>(
+    desk: &mut Desk<D>,
+    cutter: &mut LineCutter,
+    stream: &mut Stream,
+    input: &mut I,
+    output: &mut O,
+) -> Turn
+    requires { desk.old.out ≡ [] }
+    ensures turns { Turns D.Disk.seen
+        (scene I.left I.read_faults O.sent O.write_faults input.old output.old stream.old desk.old.world desk.old.table)
+        result
+        (scene I.left I.read_faults O.sent O.write_faults input.new output.new stream.new desk.new.world desk.new.table) }
+    ensures empty { desk.new.out ≡ [] }
 {
-    match status {
-        Status::WriteFault => return Status::WriteFault,
-        Status::Memory => return Status::Memory,
-        _ => {}
+    match next_line(cutter, stream, input, output) {
+        Ok(Came::Line) => match do_line(desk, stream, output, cutter.line()) {
+            Ok(()) => Turn::Goes,
+            Err(stop) => Turn::Stops(stop),
+        },
+        Ok(Came::Last) => match do_line(desk, stream, output, cutter.line()) {
+            Ok(()) => Turn::Last,
+            Err(stop) => Turn::Stops(stop),
+        },
+        Ok(Came::End) => Turn::End,
+        Ok(Came::TooLong) => Turn::Stops(Stop::BadLine),
+        Err(_) => fault(stream),
     }
-    match flush(alloc, out, output) {
+}
+
+/// Whether a script ends so that nothing more is written: a side failed, or memory was refused.
+fn is_silent(status: Status) -> bool
+    ensures { result ≡ the_silent status }
+{
+    matches!(
+        status,
+        Status::Memory | Status::ReadFault | Status::WriteFault
+    )
+}
+
+/// Writes what waits, unless a side failed or memory was refused.
+fn finish<O: Sink>(stream: &mut Stream, output: &mut O, status: Status) -> Status
+    ensures { Finishes (side O.sent O.write_faults output.old) stream.old status result (side O.sent O.write_faults output.new) stream.new }
+{
+    if is_silent(status) {
+        return status;
+    }
+    match stream.flush(output) {
         Ok(()) => status,
         Err(_) => Status::WriteFault,
     }
@@ -123,24 +172,25 @@ fn ending(last: Turn, line: u64) -> Status
 /// Lines are read and done, at most so many, to the end of the script.
 pub fn replay<I: Source, O: Sink, D: RiggedDisk + Drop>(
     desk: &mut Desk<D>,
-    inbox: &mut Inbox,
+    cutter: &mut LineCutter,
+    stream: &mut Stream,
     input: &mut I,
     output: &mut O,
     budget: u64,
 ) -> Status
-    requires { budget < 2 ^ 64 - 1 }
-    ensures replays { Replays D.Disk.seen
-        (record { left = I.left input.old; waiting = inbox.old.waiting; sent = O.sent output.old; out = desk.old.out; world = desk.old.world; names = desk.old.table })
+    requires budget { budget < 2 ^ 64 - 1 }
+    requires empty { desk.old.out ≡ [] }
+    requires ongoing { stream.old.state ≡ Open }
+    ensures { Replays D.Disk.seen
+        (scene I.left I.read_faults O.sent O.write_faults input.old output.old stream.old desk.old.world desk.old.table)
         budget result
-        (record { left = I.left input.new; waiting = inbox.new.waiting; sent = O.sent output.new; out = desk.new.out; world = desk.new.world; names = desk.new.table }) }
-    ensures read { result ≡ S.ReadFault → Rose (I.read_faults input.old) (I.read_faults input.new) }
-    ensures write { result ≡ S.WriteFault → Rose (O.write_faults output.old) (O.write_faults output.new) }
+        (scene I.left I.read_faults O.sent O.write_faults input.new output.new stream.new desk.new.world desk.new.table) }
 {
     for n in 0..budget {
-        match take_turn(desk, inbox, input, output) {
+        match take_turn(desk, cutter, stream, input, output) {
             Turn::Goes => {}
-            other => return finish(desk.alloc, &mut desk.out, output, ending(other, n + 1)),
+            other => return finish(stream, output, ending(other, n + 1)),
         }
     }
-    finish(desk.alloc, &mut desk.out, output, Status::Spent)
+    finish(stream, output, Status::Spent)
 }

@@ -1,16 +1,17 @@
 ghost use Rattle.std.specs.Prelude.{◌≡◌, MatchResult};
-ghost use Rattle.qs_status.specs.declared.status.Status.TheVariants as S;
-ghost use Rattle.qs_outside.specs.Faults.{Rose};
+ghost use Rattle.qs_stream.specs.Flows.{Rises};
 ghost use Rattle.qs_replay.specs.Runs.{Begins, ComesBack, Opening, Ran, fault_of};
+ghost use Rattle.qs_replay.specs.Scripts.{side_of};
 
 use crate::desk::Desk;
-use crate::inbox::Inbox;
 use crate::replay::replay;
 use crate::table::Table;
 use crate::words::replay_words;
 use qs_bytes::{Bytes, Name};
 use qs_outside::{Disk, RiggedDisk, Sink, Source};
+use qs_script::LineCutter;
 use qs_status::{OpenBad, Status};
+use qs_stream::Stream;
 use qs_world::world::World;
 use std::alloc::Global;
 use std::mem;
@@ -59,10 +60,13 @@ fn replay_disks<I: Source, O: Sink, D: RiggedDisk + Drop>(
     disks: &mut Vec<D>,
 ) -> Status
     ensures opening { Opening D.Disk.seen disks.old.items (I.left input.old) (O.sent output.old) result disks.new.items (I.left input.new) (O.sent output.new) }
-    ensures read { result ≡ S.ReadFault → Rose (I.read_faults input.old) (I.read_faults input.new) }
-    ensures write { result ≡ S.WriteFault → Rose (O.write_faults output.old) (O.write_faults output.new) }
+    ensures cause { Rises (side_of result) (I.read_faults input.old) (I.read_faults input.new)
+        (O.write_faults output.old) (O.write_faults output.new) }
 {
-    let Ok(mut inbox) = Inbox::new(alloc) else {
+    let Ok(mut cutter) = LineCutter::new(alloc) else {
+        return Status::Memory;
+    };
+    let Ok(mut stream) = Stream::new(alloc) else {
         return Status::Memory;
     };
     let taken = mem::replace(disks, Vec::new(alloc));
@@ -79,7 +83,14 @@ fn replay_disks<I: Source, O: Sink, D: RiggedDisk + Drop>(
         out: Bytes::of(Vec::new(alloc)),
         alloc,
     };
-    let status = replay(&mut desk, &mut inbox, input, output, MOST_LINES);
+    let status = replay(
+        &mut desk,
+        &mut cutter,
+        &mut stream,
+        input,
+        output,
+        MOST_LINES,
+    );
     let Desk { world, .. } = desk;
     *disks = world.into_disks();
     status
@@ -99,8 +110,9 @@ pub fn run_replay<I: Source, O: Sink, D: RiggedDisk + Drop>(
     disks: &mut Vec<D>,
 ) -> Status
     ensures ran { Ran words.now D.Disk.seen disks.old.items (I.left input.old) (O.sent output.old) result disks.new.items (I.left input.new) (O.sent output.new) }
-    ensures read { result ≡ S.ReadFault → Rose (I.read_faults input.old) (I.read_faults input.new) }
-    ensures write { result ≡ S.WriteFault → Rose (O.write_faults output.old) (O.write_faults output.new) }
+    // A fault is told only where its count rose, and every other end leaves the count.
+    ensures cause { Rises (side_of result) (I.read_faults input.old) (I.read_faults input.new)
+        (O.write_faults output.old) (O.write_faults output.new) }
 {
     if replay_words(words).is_none() {
         return Status::Usage;

@@ -165,6 +165,12 @@ fn faults_of_the_outside(rt: HostRuntime) -> Result<(), Fail> {
     let first = [0].to_vec(alloc)?;
     let read = run(alloc, 8, b"end A", 9, (first, Vec::new(alloc)))?;
     assert_eq!(rt; read.0, Status::ReadFault);
+    // What was printed before a fault of the input is written.
+    let second = [1].to_vec(alloc)?;
+    let text = b"session A disk\nend A\n";
+    let later = run(alloc, 8, text, 15, (second, Vec::new(alloc)))?;
+    assert_eq!(rt; later.0, Status::ReadFault);
+    assert_eq!(rt; later.1.as_slice(), b"A attached 4096 rw\n".as_slice());
     let first = [0].to_vec(alloc)?;
     let write = run(alloc, 8, b"session A disk", 9, (Vec::new(alloc), first))?;
     assert_eq!(rt; write.0, Status::WriteFault);

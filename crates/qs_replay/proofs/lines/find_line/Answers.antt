@@ -1,47 +1,29 @@
 -- What the pieces made of the line.
-use Rattle.std.proofs.Common.{[], refl, inl, inr, arith}
-use Rattle.qs_replay.proofs.Coming.{fed_line, fed_long, fed_none, flushed_on}
-use Rattle.qs_replay.proofs.Flows.{gives_none, gives_on}
+use Rattle.qs_replay.proofs.Coming.{seeks_end, seeks_event, seeks_fault, seeks_first, sought_first, sought_more}
 use Rattle.qs_replay.proofs.lines.find_line.Goals as goal
 
-pub returns-in-Err-clause-writes : goal.returns-in-Err-clause-writes
-returns-in-Err-clause-writes g c =
-    let f = c.flush.ensures.flushes in
-    (f.0, (gives_on _ _ _ c.args.out.now c.pieces.out f.0 [] [] c.pieces.invariant.gives f.1.0, inl refl))
+pub returns-in-Some : goal.returns-in-Some
+returns-in-Some g c =
+    rw c.came_of.ensures (seeks_first _ c.feed.new.stream c.requires.ongoing c.in-Some.ensures.others _ c.feed.new.cutter c.in-Some.cut c.requires.fresh c.in-Some.ensures.feeds)
 
-pub returns-in-Some-Line-feed-clause-comes : goal.returns-in-Some-Line-feed-clause-comes
-returns-in-Some-Line-feed-clause-comes g c =
-    fed_line _ _ _ c.args.inbox.now.waiting c.pieces.inbox.line c.pieces.inbox.waiting c.fill.new.self c.feed-in-pieces.new.self
-    c.pieces.invariant.takes c.pieces.invariant.empty c.pieces.invariant.text c.fill.ensures.line c.fill.ensures.taken (rw c.in-Some-Line-feed.field-0-is at c.in-Some-Line-feed.ensures)
+pub pieces-init : goal.pieces-init
+pieces-init g c = sought_first _ c.feed.new.stream c.requires.ongoing c.feed.ensures.others _ _ c.requires.fresh c.in-None.ensures.feeds
 
-pub returns-in-Some-TooLong-feed-clause-comes : goal.returns-in-Some-TooLong-feed-clause-comes
-returns-in-Some-TooLong-feed-clause-comes g c =
-    fed_long _ _ _ c.args.inbox.now.waiting c.pieces.inbox.line c.pieces.inbox.waiting c.fill.new.self c.feed-in-pieces.new.self
-    c.pieces.invariant.takes c.pieces.invariant.empty c.pieces.invariant.text c.fill.ensures.line c.fill.ensures.taken (rw c.in-Some-TooLong-feed.field-0-is at c.in-Some-TooLong-feed.ensures)
+pub returns-in_err-refill : goal.returns-in_err-refill
+returns-in_err-refill g c =
+    seeks_fault _ _ _ c.pieces.cutter c.pieces.invariant _ _ _ c.from_residual.ensures.1 c.in_err-refill.ensures.fills c.in_err-refill.ensures.written
 
-pub returns-in-Some-Line-clause-writes : goal.returns-in-Some-Line-clause-writes
-returns-in-Some-Line-clause-writes g c = (c.args.out.now, (gives_none _ c.args.out.now, inr refl))
+pub returns-then-branch-eq0 : goal.returns-then-branch-eq0
+returns-then-branch-eq0 g c =
+    rw c.ending.ensures (seeks_end _ _ _ c.pieces.cutter c.pieces.invariant c.in_ok-refill.field-0 c.if-branch-eq0.true c.in_ok-refill.ensures.fills)
 
-pub returns-in-Some-TooLong-clause-writes : goal.returns-in-Some-TooLong-clause-writes
-returns-in-Some-TooLong-clause-writes g c = (c.args.out.now, (gives_none _ c.args.out.now, inr refl))
-
-pub returns-in-Some-Line-feed-clause-writes : goal.returns-in-Some-Line-feed-clause-writes
-returns-in-Some-Line-feed-clause-writes g c =
-    (c.flush.new.out, (flushed_on _ _ _ c.args.out.now c.pieces.out c.flush.new.out c.pieces.invariant.gives c.in-Ok.ensures.flushes c.in-Ok.ensures.empty, inr refl))
-
-pub returns-in-Some-TooLong-feed-clause-writes : goal.returns-in-Some-TooLong-feed-clause-writes
-returns-in-Some-TooLong-feed-clause-writes g c =
-    (c.flush.new.out, (flushed_on _ _ _ c.args.out.now c.pieces.out c.flush.new.out c.pieces.invariant.gives c.in-Ok.ensures.flushes c.in-Ok.ensures.empty, inr refl))
+pub returns-in-Some-feed : goal.returns-in-Some-feed
+returns-in-Some-feed g c =
+    rw c.came_of-in-Some-feed.ensures
+    (seeks_event _ _ _ c.pieces.cutter c.pieces.invariant c.feed-in-pieces.new.stream c.in_ok-refill.field-0 c.feed-in-pieces.new.cutter c.in_ok-refill.ensures.fills
+    c.in-Some-feed.ensures.others c.in-Some-feed.cut c.in-Some-feed.ensures.feeds)
 
 pub pieces-preserved : goal.pieces-preserved
 pieces-preserved g c =
-    let fed = fed_none _ _ _ c.args.inbox.now.waiting c.pieces.inbox.line c.pieces.inbox.waiting c.fill.new.self c.feed-in-pieces.new.self
-    c.pieces.invariant.takes c.pieces.invariant.empty c.pieces.invariant.text c.fill.ensures.line c.fill.ensures.taken c.in-None-feed.ensures in
-    record {
-      takes = fed.0;
-      text = fed.1;
-      empty = c.in-None-feed.ensures.whole;
-      gives = flushed_on _ _ _ c.args.out.now c.pieces.out c.flush.new.out c.pieces.invariant.gives c.in-Ok.ensures.flushes c.in-Ok.ensures.empty;
-      read_later = omega (arith, c.fill.ensures.later, c.pieces.invariant.read_later);
-      write_later = omega (arith, c.in-Ok.ensures.cause.later, c.pieces.invariant.write_later);
-    }
+    sought_more _ _ _ _ c.pieces.invariant c.feed-in-pieces.new.stream c.in_ok-refill.field-0 _ c.in_ok-refill.ensures.fills c.in-None-feed.ensures.others
+    c.in-None-feed.ensures.feeds
