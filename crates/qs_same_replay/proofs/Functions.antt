@@ -13,7 +13,7 @@ use Rattle.qs_world.specs.Stands.{Stands}
 use Rattle.qs_world.specs.Values.{WorldValue}
 use Rattle.qs_world.proofs.Opening.{disk_of}
 use Rattle.qs_replay.specs.Calls.{AreCalls, Call, Plays}
-use Rattle.qs_replay.specs.Runs.{IsReplayed, export, most_lines, no_names, opened}
+use Rattle.qs_replay.specs.Runs.{IsReplayed, export, most_lines, no_names, opened, first_scene}
 use Rattle.qs_same_replay.specs.Same.{AreCalm, AreComparable, AreSame, IsSmooth}
 use Rattle.qs_replay.specs.Scripts.{AllDone, Ends, ReachesLine, Replays, lines_of}
 use Rattle.qs_replay.specs.Tables.{Names}
@@ -67,7 +67,7 @@ side {D} {seen} {disks} {left} {sent} {result} one script told smooth calm =
     let r = one.replays in
     let A : ℕ = align_of (map seen disks) in
     let m : World = happens A (opened (map seen disks)) (Exported export one.run.place) in
-    let none : r.cut ≡ [] = nothing_cut result most_lines r.texts r.taken r.cut r.world r.names one.after_all.left one.after_all.waiting smooth r.ends in
+    let none : r.cut ≡ [] = nothing_cut result most_lines r.texts r.taken r.cut r.world r.names one.after_all.flow.input.bytes one.after_all.flow.stream.waiting smooth r.ends in
     let whole : r.calls ++ r.cut ≡ r.calls = ap (λ (cs : List Call). r.calls ++ cs) none ∙ append-nil r.calls in
     let same : one.after_all.world ≡ r.world = subst (λ (cs : List Call). Plays seen r.world cs one.after_all.world) none r.cut_plays in
     record {
@@ -77,9 +77,9 @@ side {D} {seen} {disks} {left} {sent} {result} one script told smooth calm =
         reach = one.reaches script told;
         cut = r.cut;
         taken = r.taken;
-        left = one.after_all.left;
-        waiting = one.after_all.waiting;
-        split = splits_of script r.taken left one.after_all.left [] one.after_all.waiting told refl r.takes;
+        left = one.after_all.flow.input.bytes;
+        waiting = one.after_all.flow.stream.waiting;
+        split = splits_of script r.taken left one.after_all.flow.input.bytes [] one.after_all.flow.stream.waiting told refl r.moved.takes;
         ends = r.ends;
       };
       model = after A m one.run.elements;
@@ -101,10 +101,10 @@ front_same {D} {seen} {disks} {others} {left} {sent} {sent'} {result} {result'} 
     go rest is (twin_texts A seen one.start two.start r.world q.world m m' a.model b.model no_names no_names r.texts rest r.calls q.calls r.printed q.printed r.names q.names
     twins refl r.done (subst (λ (xs : List (List ℕ)). AllDone seen two.start no_names xs q.calls q.printed q.world q.names) is q.done) a.calm b.calm)
   where
-    r : Replays seen (record { left = left; waiting = []; sent = sent; out = []; world = one.start; names = no_names }) most_lines result one.after_all
+    r : Replays seen (first_scene (record { bytes = left; faults = one.read_faults }) (record { bytes = sent; faults = one.write_faults }) one.start) most_lines result one.after_all
     r = one.replays
 
-    q : Replays seen (record { left = left; waiting = []; sent = sent'; out = []; world = two.start; names = no_names }) most_lines result' two.after_all
+    q : Replays seen (first_scene (record { bytes = left; faults = two.read_faults }) (record { bytes = sent'; faults = two.write_faults }) two.start) most_lines result' two.after_all
     q = two.replays
 
     go : (rest : List (List ℕ)) → q.texts ≡ r.texts ++ rest → Behind seen A a.model b.model rest r.calls q.calls r.printed q.printed q.world r.names q.names → AreSame one two
