@@ -20,12 +20,12 @@ use Rattle.qs_nbd_handshake.specs.declared.wish.Wish.{Wish}
 use Rattle.qs_nbd_handshake.specs.Answers.{IsBehind, reader_behind, phase_behind, step_of}
 use Rattle.qs_nbd_handshake.specs.Phases.{Phase, InFlags, InOption, Asked, Over, Stuck, Reader, Leads, FlagsTell, OptionTells, behind_flags, data_size, event_of, flags_event, option_size, phase_of_option, wish_in, opening}
 use Rattle.qs_nbd_handshake.specs.Wishes.{fault_of}
-use Rattle.qs_nbd_handshake.specs.Sessions.{Call, Took, Answered, Makes, Runs, taken_by, told_by, IsOption, IsRefused, told_of, bytes_of, Leaves, TellsOptions, RefusesFlags, AwaitsFlags, Tells, ReadsSessions}
+use Rattle.qs_nbd_handshake.specs.Sessions.{HandshakeCall, Took, Answered, CallLeads, CallsLead, taken_by, told_by, IsOption, IsRefused, told_of, bytes_of, EndsWith, TellsOptions, RefusesFlags, AwaitsFlags, TellsEvents, ReadsSessions}
 use Rattle.qs_nbd_handshake.proofs.Sizes.{size-least, size-long}
 
 -- the same options, and more behind them
 longer : (old new : Reader) (bytes more : List ℕ) (events further : List HandEvent) → (p : TellsOptions old bytes events) →
-    new.terms.fixed ≡ p.known.fixed → Leaves p.known.fixed new.phase (p.rest ++ more) (p.last ++ further) →
+    new.terms.fixed ≡ p.known.fixed → EndsWith p.known.fixed new.phase (p.rest ++ more) (p.last ++ further) →
     TellsOptions new (bytes ++ more) (events ++ further)
 longer old new bytes more events further p fixed leaves =
     let options = flat_map bytes_of p.options in
@@ -50,7 +50,7 @@ longer old new bytes more events further p fixed leaves =
 -- one option more, and nothing behind it
 whole : (old new : Reader) (bytes more all : List ℕ) (events further : List HandEvent) → (p : TellsOptions old bytes events) →
     new.terms.fixed ≡ p.known.fixed → IsOption p.known.fixed all → p.rest ++ more ≡ all → p.last ++ further ≡ told_of all →
-    Leaves p.known.fixed new.phase [] [] → TellsOptions new (bytes ++ more) (events ++ further)
+    EndsWith p.known.fixed new.phase [] [] → TellsOptions new (bytes ++ more) (events ++ further)
 whole old new bytes more all events further p fixed is spelled tells leaves =
     let options = flat_map bytes_of p.options in
     let told = flat_map told_of p.options in
@@ -129,7 +129,7 @@ all_option terms held bytes more events told new p r =
     (ends terms held bytes more events p (fault_of p.known.fixed (option_head_of all)) refl size))
 
 -- what is behind an answer
-behind_step : (fixed : Bool) (s : HandStep) → Leaves fixed (phase_behind s) [] []
+behind_step : (fixed : Bool) (s : HandStep) → EndsWith fixed (phase_behind s) [] []
 behind_step fixed Stay = (refl, omega (arith, size-least fixed []), refl)
 behind_step fixed (Transmit mode) = (refl, refl)
 behind_step fixed (Close how) = (refl, refl)
@@ -141,8 +141,8 @@ answers terms w t bytes events new p r =
     let s = step_of terms.mode w t in
     subst (λ (q : Reader). TellsOptions q (bytes ++ []) (events ++ [])) (sym r)
     (longer (reader terms (Asked w)) (reader_behind terms w t) bytes [] events [] p p.fixed
-    (subst (λ (xs : List ℕ). Leaves p.known.fixed (phase_behind s) xs (p.last ++ [])) (sym p.leaves.0 ∙ sym (append-nil p.rest))
-    (subst (λ (xs : List HandEvent). Leaves p.known.fixed (phase_behind s) [] xs) (sym p.leaves.1 ∙ sym (append-nil p.last)) (behind_step p.known.fixed s))))
+    (subst (λ (xs : List ℕ). EndsWith p.known.fixed (phase_behind s) xs (p.last ++ [])) (sym p.leaves.0 ∙ sym (append-nil p.rest))
+    (subst (λ (xs : List HandEvent). EndsWith p.known.fixed (phase_behind s) [] xs) (sym p.leaves.1 ∙ sym (append-nil p.last)) (behind_step p.known.fixed s))))
 
 again : (terms : Terms) (bad : SessionEnd) (bytes more : List ℕ) (events : List HandEvent) (told : HandEvent) (new : Reader) → TellsOptions (reader terms (Stuck bad)) bytes events →
     more ≡ [] → told ≡ event.Bad bad → new ≡ reader terms (Stuck bad) → TellsOptions new (bytes ++ more) (events ++ told ∷ [])
@@ -158,8 +158,8 @@ again terms bad bytes more events told new p none same r =
 some_of : (told other : HandEvent) → Some told ≡ Some other → told ≡ other
 some_of told other e = cc
 
-on_options : (terms : Terms) (phase : Phase) (new : Reader) (bytes : List ℕ) (events : List HandEvent) (call : Call) → TellsOptions (reader terms phase) bytes events →
-    Makes (reader terms phase) call new → TellsOptions new (bytes ++ taken_by call) (events ++ told_by call)
+on_options : (terms : Terms) (phase : Phase) (new : Reader) (bytes : List ℕ) (events : List HandEvent) (call : HandshakeCall) → TellsOptions (reader terms phase) bytes events →
+    CallLeads (reader terms phase) call new → TellsOptions new (bytes ++ taken_by call) (events ++ told_by call)
 unfolding reader
 on_options terms (InFlags held) new bytes events call p r = absurd p.leaves
 on_options terms (InOption held) new bytes events (Took more None) p r = more_option terms held bytes more events new p r
@@ -175,7 +175,7 @@ on_options terms (Stuck bad) new bytes events (Answered t) p r = absurd r.0
 
 -- the whole flags, by what they say
 flags_end : (terms : Terms) (bytes : List ℕ) (events : List HandEvent) → events ≡ [] → (d : Option ClientFlags) → flags_of (number32 bytes 0) ≡ d → length bytes ≡ 4 →
-    Tells (behind_flags terms (number32 bytes 0) d) bytes (events ++ flags_event (number32 bytes 0) d ∷ [])
+    TellsEvents (behind_flags terms (number32 bytes 0) d) bytes (events ++ flags_event (number32 bytes 0) d ∷ [])
 flags_end terms bytes events none (Some known) e four = inr (inr (record {
   flags = bytes;
   known = known;
@@ -198,22 +198,22 @@ flags_end terms bytes events none None e four = inr (inl (record {
 }))
 
 on_flags : (terms : Terms) (bytes more : List ℕ) (events : List HandEvent) (told : Option HandEvent) (new : Reader) → length bytes < 4 → events ≡ [] →
-    FlagsTell terms (bytes ++ more) told new → Tells new (bytes ++ more) (events ++ told_by (Took more told))
+    FlagsTell terms (bytes ++ more) told new → TellsEvents new (bytes ++ more) (events ++ told_by (Took more told))
 on_flags terms bytes more events None new short none r =
-    subst (λ (q : Reader). Tells q (bytes ++ more) (events ++ [])) (sym r.1)
+    subst (λ (q : Reader). TellsEvents q (bytes ++ more) (events ++ [])) (sym r.1)
     (inl (record { short = r.0; awaits = refl; none = append-nil events ∙ none }))
 on_flags terms bytes more events (Some told) new short none r =
     let flags = number32 (bytes ++ more) 0 in
-    subst (λ (q : Reader). Tells q (bytes ++ more) (events ++ told ∷ [])) (sym r.2)
-    (subst (λ (e : HandEvent). Tells (behind_flags terms flags (flags_of flags)) (bytes ++ more) (events ++ e ∷ [])) (sym r.1)
+    subst (λ (q : Reader). TellsEvents q (bytes ++ more) (events ++ told ∷ [])) (sym r.2)
+    (subst (λ (e : HandEvent). TellsEvents (behind_flags terms flags (flags_of flags)) (bytes ++ more) (events ++ e ∷ [])) (sym r.1)
     (flags_end terms (bytes ++ more) events none (flags_of flags) refl r.0))
 
-awaiting : (old new : Reader) (bytes : List ℕ) (events : List HandEvent) (call : Call) → AwaitsFlags old bytes events → Makes old call new → Tells new (bytes ++ taken_by call) (events ++ told_by call)
+awaiting : (old new : Reader) (bytes : List ℕ) (events : List HandEvent) (call : HandshakeCall) → AwaitsFlags old bytes events → CallLeads old call new → TellsEvents new (bytes ++ taken_by call) (events ++ told_by call)
 awaiting old new bytes events (Took more told) p r =
     on_flags old.terms bytes more events told new p.short p.none (subst (λ (q : Phase). Leads old.terms q more told new) p.awaits r)
 awaiting old new bytes events (Answered t) p r = absurd (subst (λ (q : Phase). IsBehind old.terms q t new) p.awaits r.1)
 
-refusing : (old new : Reader) (bytes : List ℕ) (events : List HandEvent) (call : Call) → RefusesFlags old bytes events → Makes old call new → Tells new (bytes ++ taken_by call) (events ++ told_by call)
+refusing : (old new : Reader) (bytes : List ℕ) (events : List HandEvent) (call : HandshakeCall) → RefusesFlags old bytes events → CallLeads old call new → TellsEvents new (bytes ++ taken_by call) (events ++ told_by call)
 refusing old new bytes events (Took more None) p r =
     let s = subst (λ (q : Phase). Leads old.terms q more None new) p.stuck r in
     let e = s.1 in absurd (cc)
@@ -222,7 +222,7 @@ refusing old new bytes events (Took more (Some told)) p r =
     let n = p.told.0 in
     let bad = BadFlags (number32 bytes 0) in
     let same : bytes ++ more ≡ bytes = ap (λ xs. bytes ++ xs) s.0 ∙ append-nil bytes in
-    subst (λ (xs : List ℕ). Tells new xs (events ++ told ∷ [])) (sym same) (inr (inl (record {
+    subst (λ (xs : List ℕ). TellsEvents new xs (events ++ told ∷ [])) (sym same) (inr (inl (record {
       four = p.four;
       unknown = p.unknown;
       stuck = ap (λ (q : Reader). q.phase) s.2;
@@ -230,15 +230,15 @@ refusing old new bytes events (Took more (Some told)) p r =
     })))
 refusing old new bytes events (Answered t) p r = absurd (subst (λ (q : Phase). IsBehind old.terms q t new) p.stuck r.1)
 
-step : (old new : Reader) (bytes : List ℕ) (events : List HandEvent) (call : Call) → Tells old bytes events → Makes old call new → Tells new (bytes ++ taken_by call) (events ++ told_by call)
+step : (old new : Reader) (bytes : List ℕ) (events : List HandEvent) (call : HandshakeCall) → TellsEvents old bytes events → CallLeads old call new → TellsEvents new (bytes ++ taken_by call) (events ++ told_by call)
 unfolding reader
 step old new bytes events call (inl p) r = awaiting old new bytes events call p r
 step old new bytes events call (inr (inl p)) r = refusing old new bytes events call p r
 step old new bytes events call (inr (inr p)) r = inr (inr (on_options old.terms old.phase new bytes events call p r))
 
-run : (old new : Reader) (bytes : List ℕ) (events : List HandEvent) (calls : List Call) → Tells old bytes events → Runs old calls new → Tells new (bytes ++ flat_map taken_by calls) (events ++ flat_map told_by calls)
+run : (old new : Reader) (bytes : List ℕ) (events : List HandEvent) (calls : List HandshakeCall) → TellsEvents old bytes events → CallsLead old calls new → TellsEvents new (bytes ++ flat_map taken_by calls) (events ++ flat_map told_by calls)
 run old new bytes events [] p r =
-    rw (append-nil bytes, append-nil events) (subst (λ (q : Reader). Tells q bytes events) (sym r) p)
+    rw (append-nil bytes, append-nil events) (subst (λ (q : Reader). TellsEvents q bytes events) (sym r) p)
 run old new bytes events (call ∷ calls) p r =
     rw (← append_assoc bytes (taken_by call) (flat_map taken_by calls), ← append_assoc events (told_by call) (flat_map told_by calls))
     (run r.0 new (bytes ++ taken_by call) (events ++ told_by call) calls (step old r.0 bytes events call p r.1.0) r.1.1)

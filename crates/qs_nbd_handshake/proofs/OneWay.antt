@@ -10,7 +10,7 @@ use Rattle.qs_nbd_wire.specs.Greetings.{flags_of}
 use Rattle.qs_nbd_wire.specs.Options.{option_head_of}
 use Rattle.qs_nbd_handshake.specs.declared.event.HandEvent.{HandEvent}
 use Rattle.qs_nbd_handshake.specs.Phases.{Phase, InFlags, InOption, Asked, Over, Stuck, option_size}
-use Rattle.qs_nbd_handshake.specs.Sessions.{IsOption, Leaves, ReadsOneWay, bytes_of}
+use Rattle.qs_nbd_handshake.specs.Sessions.{IsOption, EndsWith, ReadsOneWay, bytes_of}
 use Rattle.qs_nbd_handshake.specs.Wishes.{fault_of}
 use Rattle.qs_nbd_handshake.proofs.Reading.{same_front, same_option}
 use Rattle.qs_nbd_handshake.proofs.Sizes.{head-append, size-append, size-least}
@@ -22,7 +22,7 @@ BeginsNone fixed bytes = (o more : List ℕ) → IsOption fixed o → bytes ≡ 
 long : (fixed : Bool) (o : List ℕ) → IsOption fixed o → 16 ≤ length o
 long fixed o is = omega (arith, is.whole, size-least fixed o)
 
-begins_none : (fixed : Bool) (phase : Phase) (rest : List ℕ) (last : List HandEvent) → Leaves fixed phase rest last → BeginsNone fixed rest
+begins_none : (fixed : Bool) (phase : Phase) (rest : List ℕ) (last : List HandEvent) → EndsWith fixed phase rest last → BeginsNone fixed rest
 begins_none fixed (InFlags held) rest last l o more is e = l
 begins_none fixed (InOption held) rest last l o more is e =
     let f : held ≡ o ++ more = sym l.0 ∙ e in
@@ -84,6 +84,6 @@ reads_one_way new other bytes events further p q =
     let both = options_once p.known.fixed p.options q.options p.rest q.rest p.each
     (subst (λ (b : Bool). All (IsOption b) q.options) fixed q.each)
     (begins_none p.known.fixed new.phase p.rest p.last p.leaves)
-    (begins_none p.known.fixed other.phase q.rest q.last (subst (λ (b : Bool). Leaves b other.phase q.rest q.last) fixed q.leaves))
+    (begins_none p.known.fixed other.phase q.rest q.last (subst (λ (b : Bool). EndsWith b other.phase q.rest q.last) fixed q.leaves))
     behind in
     (flags, both.0, both.1)

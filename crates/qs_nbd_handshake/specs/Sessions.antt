@@ -16,27 +16,27 @@ use Rattle.qs_nbd_handshake.specs.Phases.{Phase, InFlags, InOption, Asked, Over,
 use Rattle.qs_nbd_handshake.specs.Wishes.{fault_of, want_of, wish_of}
 
 -- Took: a feed took these bytes, with what it told at their end. Answered: this was told for an answer.
-pub data Call : Type 0 where
-  Took : (bytes : List ℕ) (told : Option HandEvent) → Call
-  Answered : (t : Told) → Call
+pub data HandshakeCall : Type 0 where
+  Took : (bytes : List ℕ) (told : Option HandEvent) → HandshakeCall
+  Answered : (t : Told) → HandshakeCall
 
 -- a call leads from one handshake to another
-abbrev pub Makes : Reader → Call → Reader → Type 0
-Makes old (Took bytes told) new = Reaches old bytes told new
-Makes old (Answered t) new = CanAnswer old.phase t × IsBehind old.terms old.phase t new
+abbrev pub CallLeads : Reader → HandshakeCall → Reader → Type 0
+CallLeads old (Took bytes told) new = Reaches old bytes told new
+CallLeads old (Answered t) new = CanAnswer old.phase t × IsBehind old.terms old.phase t new
 
 -- the calls lead, one after the other, from one handshake to another
-abbrev pub Runs : Reader → List Call → Reader → Type 0
-Runs old [] new = new ≡ old
-Runs old (call ∷ calls) new = (middle : Reader) × (Makes old call middle × Runs middle calls new)
+abbrev pub CallsLead : Reader → List HandshakeCall → Reader → Type 0
+CallsLead old [] new = new ≡ old
+CallsLead old (call ∷ calls) new = (middle : Reader) × (CallLeads old call middle × CallsLead middle calls new)
 
 -- the bytes that a call took
-abbrev pub taken_by : Call → List ℕ
+abbrev pub taken_by : HandshakeCall → List ℕ
 taken_by (Took bytes told) = bytes
 taken_by (Answered t) = []
 
 -- what a call told
-abbrev pub told_by : Call → List HandEvent
+abbrev pub told_by : HandshakeCall → List HandEvent
 told_by (Took bytes None) = []
 told_by (Took bytes (Some event)) = event ∷ []
 told_by (Answered t) = []
@@ -61,12 +61,12 @@ bytes_of bytes = bytes
 
 -- What was taken behind the last whole option, and what was told of it: less than an option, nothing,
 -- or a head that is refused, which is told once or more often.
-abbrev pub Leaves : Bool → Phase → List ℕ → List HandEvent → Type 0
-Leaves fixed (InFlags held) rest last = ⊥
-Leaves fixed (InOption held) rest last = (rest ≡ held) × (length held < option_size fixed held) × (last ≡ [])
-Leaves fixed (Asked w) rest last = (rest ≡ []) × (last ≡ [])
-Leaves fixed (Over how) rest last = (rest ≡ []) × (last ≡ [])
-Leaves fixed (Stuck bad) rest last = IsRefused fixed rest bad × ((again : ℕ) × (last ≡ replicate (again + 1) (event.Bad bad)))
+abbrev pub EndsWith : Bool → Phase → List ℕ → List HandEvent → Type 0
+EndsWith fixed (InFlags held) rest last = ⊥
+EndsWith fixed (InOption held) rest last = (rest ≡ held) × (length held < option_size fixed held) × (last ≡ [])
+EndsWith fixed (Asked w) rest last = (rest ≡ []) × (last ≡ [])
+EndsWith fixed (Over how) rest last = (rest ≡ []) × (last ≡ [])
+EndsWith fixed (Stuck bad) rest last = IsRefused fixed rest bad × ((again : ℕ) × (last ≡ replicate (again + 1) (event.Bad bad)))
 
 -- The bytes that were taken are the client's flags, whole options and a rest; what was told is told of
 -- the flags, of these options, each once and in order, and of the rest.
@@ -82,7 +82,7 @@ pub record TellsOptions (new : Reader) (bytes : List ℕ) (events : List HandEve
   pub each : All (IsOption known.fixed) options
   pub taken : bytes ≡ flags ++ (flat_map bytes_of options ++ rest)
   pub told : events ≡ event.Flags (number32 flags 0) ∷ (flat_map told_of options ++ last)
-  pub leaves : Leaves known.fixed new.phase rest last
+  pub leaves : EndsWith known.fixed new.phase rest last
 
 -- The bytes that were taken are flags of which one is unknown, and this is told once or more often.
 pub record RefusesFlags (new : Reader) (bytes : List ℕ) (events : List HandEvent) : Type 0 where
@@ -97,14 +97,14 @@ pub record AwaitsFlags (new : Reader) (bytes : List ℕ) (events : List HandEven
   pub awaits : new.phase ≡ InFlags bytes
   pub none : events ≡ []
 
-abbrev pub Tells : Reader → List ℕ → List HandEvent → Type 0
-Tells new bytes events = AwaitsFlags new bytes events ⊎ (RefusesFlags new bytes events ⊎ TellsOptions new bytes events)
+abbrev pub TellsEvents : Reader → List ℕ → List HandEvent → Type 0
+TellsEvents new bytes events = AwaitsFlags new bytes events ⊎ (RefusesFlags new bytes events ⊎ TellsOptions new bytes events)
 
 -- however a stream is cut, its flags and options are told, and nothing else
 abbrev pub ReadsSessions : Type 0
 ReadsSessions =
-    (calls : List Call) → (new : Reader) → Runs opening calls new →
-    Tells new (flat_map taken_by calls) (flat_map told_by calls)
+    (calls : List HandshakeCall) → (new : Reader) → CallsLead opening calls new →
+    TellsEvents new (flat_map taken_by calls) (flat_map told_by calls)
 
 -- the head of an option's spelling
 abbrev pub head_for : ClientOption → OptionHead

@@ -5,7 +5,7 @@ use Rattle.std.specs.List.{flat_map}
 use Rattle.std.proofs.lemmas.List.{append-nil, length-take-le}
 use Rattle.qs_qmp_frame.specs.declared.stage.FrameEvent.{FrameEvent}
 use Rattle.qs_qmp_frame.specs.Phases.{Phase, Gap, Part, Whole, Wrong, Long, after, event_of, refusal_of, IsFed, objects, run, whole}
-use Rattle.qs_qmp_frame.specs.Streams.{Call, AreCalls, bytes_of, told, told_by, reached, JoinsPieces}
+use Rattle.qs_qmp_frame.specs.Streams.{FramerCall, AreCalls, bytes_of, told, told_by, reached, JoinsPieces}
 use Rattle.qs_qmp_frame.proofs.Runs.{objects-append, run-append}
 
 -- what an event tells is the object of its phase
@@ -63,7 +63,7 @@ one_call old new piece (x ∷ bytes) taken event fed is =
     sym (quiet_objects bytes x old (λ k some short.
     rw is (rw (front_of k taken piece (omega (arith, short, long))) (fed.quiet k some (omega (arith, short, long))))))
 
-calls_objects : (old : Phase) (calls : List Call) → AreCalls old calls → flat_map told_by calls ≡ objects old (flat_map bytes_of calls)
+calls_objects : (old : Phase) (calls : List FramerCall) → AreCalls old calls → flat_map told_by calls ≡ objects old (flat_map bytes_of calls)
 calls_objects old [] are = refl
 calls_objects old (call ∷ calls) are =
     ap (λ os. told_by call ++ os) (calls_objects call.new calls are.1) ∙
@@ -71,7 +71,7 @@ calls_objects old (call ∷ calls) are =
     ap (λ os. os ++ objects (run old (bytes_of call)) (flat_map bytes_of calls)) (one_call old call.new call.piece (bytes_of call) call.taken call.event are.0 refl) ∙
     sym (objects-append old (bytes_of call) (flat_map bytes_of calls))
 
-calls_phase : (old : Phase) (calls : List Call) → AreCalls old calls → reached old calls ≡ run old (flat_map bytes_of calls)
+calls_phase : (old : Phase) (calls : List FramerCall) → AreCalls old calls → reached old calls ≡ run old (flat_map bytes_of calls)
 calls_phase old [] are = refl
 calls_phase old (call ∷ calls) are =
     calls_phase call.new calls are.1 ∙ ap (λ (p : Phase). run p (flat_map bytes_of calls)) are.0.now ∙

@@ -85,19 +85,19 @@ pub record CutsStreams : Type 0 where
   pub what_is_spelled : (s : Stream) → IsStream s → IsCut s (stream_bytes s)
 
 -- a call of `feed`
-pub record Call : Type 0 where
+pub record FramerCall : Type 0 where
   pub piece : List ℕ
   pub taken : ℕ
   pub event : Option FrameEvent
   pub new : Phase
 
 -- calls one after the other, the first at this phase
-abbrev pub AreCalls : Phase → List Call → Type 0
+abbrev pub AreCalls : Phase → List FramerCall → Type 0
 AreCalls old [] = Unit {0}
 AreCalls old (call ∷ calls) = IsFed old call.piece call.taken call.event call.new × AreCalls call.new calls
 
 -- the bytes that a call took
-abbrev pub bytes_of : Call → List ℕ
+abbrev pub bytes_of : FramerCall → List ℕ
 bytes_of call = take call.taken call.piece
 
 -- the object that a call told
@@ -105,18 +105,18 @@ abbrev pub told : Option FrameEvent → Phase → List (List ℕ)
 told (Some Object) new = object_of new ∷ []
 told other new = []
 
-abbrev pub told_by : Call → List (List ℕ)
+abbrev pub told_by : FramerCall → List (List ℕ)
 told_by call = told call.event call.new
 
 -- the phase behind the calls
-abbrev pub reached : Phase → List Call → Phase
+abbrev pub reached : Phase → List FramerCall → Phase
 reached old [] = old
 reached old (call ∷ calls) = reached call.new calls
 
 -- However the bytes are cut into pieces, the objects told and the phase reached are those of the bytes.
 pub record JoinsPieces : Type 0 where
-  pub objects : (old : Phase) → (calls : List Call) → AreCalls old calls → flat_map told_by calls ≡ objects old (flat_map bytes_of calls)
-  pub phase : (old : Phase) → (calls : List Call) → AreCalls old calls → reached old calls ≡ run old (flat_map bytes_of calls)
+  pub objects : (old : Phase) → (calls : List FramerCall) → AreCalls old calls → flat_map told_by calls ≡ objects old (flat_map bytes_of calls)
+  pub phase : (old : Phase) → (calls : List FramerCall) → AreCalls old calls → reached old calls ≡ run old (flat_map bytes_of calls)
 
 -- a call that takes bytes takes none behind a refused one
 abbrev pub RefusesAtOnce : Type 0
