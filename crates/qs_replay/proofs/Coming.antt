@@ -66,6 +66,7 @@ fills_fault input out out' old new (Err e) P is empty puts failed = record {
   at_end = tt;
   nothing = puts.waiting ∙ empty;
   written = inl refl;
+  emptied = tt;
 }
 
 -- then the input didn't fail
@@ -73,7 +74,7 @@ pub never_read : {X : Type 0} (out out' : Side) (old new : Buffers) → old.stat
     new.state ≡ ReadFault → X
 never_read out out' old new is puts failed read =
     let wrote : new.state ≡ WriteFault = write_failed out out' old new [] puts is failed in
-    let no : ReadFault ≡ WriteFault = sym read ∙ wrote in
+    let both : ReadFault ≡ WriteFault = sym read ∙ wrote in
     absurd (cc)
 
 -- what waited was written, and then the source was called
@@ -88,6 +89,7 @@ fills_on input out mid old flushed result read puts fills = record {
   at_end = fills.at_end;
   nothing = fills.nothing;
   written = fills.written;
+  emptied = fills.emptied;
 }
 
 pub written_on : {E : Type 0} (input out mid : Side) (old flushed : Buffers) (result : Result ℕ E) (read : Flow) → Puts [] out old mid flushed →
@@ -101,7 +103,7 @@ written_on input out mid old flushed result read puts is empty fills =
 pub seeks_none : {E : Type 0} (f : Flow) (text : List ℕ) (result : Result Came E) (P : E → Type 0) → IsErrAnd result P → f.stream.state ≢ Open → Seeks f result text f
 seeks_none f text (Ok came) P is failed = absurd is
 seeks_none f text (Err e) P is failed =
-    record { taken = []; moved = moved_none f; tells = failed; comes = no_text; written = λ no read. absurd (no read) }
+    record { taken = []; moved = moved_none f; tells = failed; comes = no_text; written = λ never read. absurd (never read) }
 
 -- all that waited was taken, and no line ended in it
 pub record Sought (before : Flow) (line : List ℕ) (now : Flow) : Type 0 where
@@ -129,7 +131,7 @@ comes_of E line taken line' cut.TooLong after text cuts = (
 )
 
 still_reads : (f : Flow) {X : Type 0} → f.stream.state ≡ Open → f.stream.state ≡ ReadFault → X
-still_reads f is read = let no : Open ≡ ReadFault = sym is ∙ read in absurd (cc)
+still_reads f is read = let both : Open ≡ ReadFault = sym is ∙ read in absurd (cc)
 
 module _ (f : Flow) (stream : Buffers) (going : f.stream.state ≡ Open) (same : stream ≡ record f.stream { waiting = stream.waiting }) where
   still_going : stream.state ≡ Open
@@ -143,7 +145,7 @@ module _ (f : Flow) (stream : Buffers) (going : f.stream.state ≡ Open) (same :
     tells = still_going;
     comes = comes_of E [] feeds.taken line' event (record f { stream = stream }) no_text
         (subst (λ (l : List ℕ). Cuts l feeds.taken (Some event) line') fresh feeds.cuts);
-    written = λ no read. still_reads (record f { stream = stream }) still_going read;
+    written = λ going read. still_reads (record f { stream = stream }) still_going read;
   }
 
   pub sought_first : (line line' : List ℕ) → line ≡ [] → Feeds line f.stream.waiting None line' stream.waiting → Sought f line' (record f { stream = stream })
@@ -171,7 +173,7 @@ module _ {E : Type 0} (before now read : Flow) (line : List ℕ) (sought : Sough
     moved = all_read before now read line sought fills.moved;
     tells = fills.tells;
     comes = sought.text;
-    written = λ no failing. all_sent_on before now read line [] [] sought.moved sought.going (sent failing);
+    written = λ going failing. all_sent_on before now read line [] [] sought.moved sought.going (sent failing);
   }
 
   -- the input ended
@@ -181,7 +183,7 @@ module _ {E : Type 0} (before now read : Flow) (line : List ℕ) (sought : Sough
     moved = all_read before now read line sought fills.moved;
     tells = fills.tells;
     comes = at_end line sought.text;
-    written = λ no failing. still_reads read fills.tells failing;
+    written = λ going failing. still_reads read fills.tells failing;
   }
     where
       nothing : (xs : List ℕ) → length xs ≡ 0 → xs ≡ []
@@ -210,7 +212,7 @@ module _ {E : Type 0} (before now read : Flow) (line : List ℕ) (sought : Sough
       moved = more_taken (Some event) feeds;
       tells = on_going;
       comes = comes_of E line feeds.taken line' event (record read { stream = stream }) sought.text feeds.cuts;
-      written = λ no failing. still_reads (record read { stream = stream }) on_going failing;
+      written = λ going failing. still_reads (record read { stream = stream }) on_going failing;
     }
 
     -- and there was none

@@ -254,7 +254,7 @@ whole_at status.WriteFault quiet whole = absurd (cc)
 whole_at _ quiet whole = absurd (cc)
 
 lost_whole : {X : Type 0} (result : Status) → result ≡ status.WriteFault → is_whole result ≡ true → X
-lost_whole result is whole = let no : false ≡ true = sym (ap is_whole is) ∙ whole in absurd (cc)
+lost_whole result is whole = let both : false ≡ true = sym (ap is_whole is) ∙ whole in absurd (cc)
 
 -- a put failed by the sink
 put_fails : (o p : Side) (x y : Buffers) → Puts [] o x p y → x.state ≢ state.ReadFault → y.state ≢ state.Open → y.state ≡ state.WriteFault

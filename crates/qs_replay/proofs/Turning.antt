@@ -38,7 +38,7 @@ put_reads o p a b given puts reads = by_state a.state b.state reads (puts.moved 
 
 -- an open stream is no fault of the input
 pub open_reads : (s : State) → s ≡ state.Open → s ≢ state.ReadFault
-open_reads s is = λ e. let no : state.Open ≡ state.ReadFault = sym is ∙ e in absurd (cc)
+open_reads s is = λ e. let both : state.Open ≡ state.ReadFault = sym is ∙ e in absurd (cc)
 
 -- nothing was put
 pub puts_none : (o : Side) (a : Buffers) → Puts [] o a o a
