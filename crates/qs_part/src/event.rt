@@ -45,6 +45,7 @@ pub enum OpKind {
     Hold,
     Store,
     Free,
+    Sync,
     Detach,
     Route,
 }
@@ -59,6 +60,8 @@ pub enum StripeNote {
     Done,
     Freed,
     NotHeld,
+    Clean,
+    Synced,
 }
 
 /// What the graph answers to a request or to a session that has left.
@@ -78,7 +81,7 @@ pub enum NoteReply {
     Stripe(StripeNote),
 }
 
-/// One operation and its answer; `at` is the block of Load, Hold, Store and Free.
+/// One operation and its answer; `at` is the block of Load, Hold, Store and Free, and the stripe of Sync.
 #[derive(Debug, PartialEq, Eq, Drop)]
 pub struct Note {
     pub kind: OpKind,

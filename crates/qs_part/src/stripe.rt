@@ -7,8 +7,8 @@ pub enum Side {
     Tail,
 }
 
-/// An operation of a stripe on block `b`, for the request at place `k`. The buffer is one block,
-/// and comes back with the answer.
+/// An operation of a stripe: on block `b`, for the request at place `k`, or on the whole stripe. The
+/// buffer is one block, and comes back with the answer.
 #[derive(Debug, Drop)]
 pub enum StripeOp {
     /// Reads the block.
@@ -35,6 +35,8 @@ pub enum StripeOp {
         b: u64,
         k: u8,
     },
+    /// Syncs the stripe's disk, where a store reached it since the last sync.
+    Sync,
 }
 
 /// What a stripe answers.
@@ -42,7 +44,7 @@ pub enum StripeOp {
 pub enum StripeReply {
     /// Load and Hold: the block's bytes.
     Filled(Bytes),
-    /// The disk refused.
+    /// The disk refused. A Sync has no buffer to give back.
     Fault(Option<Bytes>),
     /// Hold and Store: this place holds the block.
     HeldBy(u8, Bytes),
@@ -54,4 +56,8 @@ pub enum StripeReply {
     Freed,
     /// Free: the place doesn't hold the block.
     NotHeld,
+    /// Sync: no store reached the disk since the last sync; the disk wasn't called.
+    Clean,
+    /// Sync: the disk is synced.
+    Synced,
 }
