@@ -6,9 +6,9 @@ use Rattle.std.proofs.lemmas.Bool.Decides.{eqb_tells}
 use Rattle.qs_part.specs.declared.stripe.Side.{Side}
 use Rattle.qs_part.specs.declared.stripe.Side.TheVariants.{Head, Tail}
 use Rattle.qs_part.specs.declared.stripe.StripeOp.{StripeOp}
-use Rattle.qs_part.specs.declared.stripe.StripeOp.TheVariants.{Load, Hold, Store, Free}
+use Rattle.qs_part.specs.declared.stripe.StripeOp.TheVariants.{Load, Hold, Store, Free, Sync}
 use Rattle.qs_part.specs.declared.stripe.StripeReply.{StripeReply}
-use Rattle.qs_part.specs.declared.stripe.StripeReply.TheVariants.{Filled, Fault, HeldBy, Taken, Done, Freed, NotHeld}
+use Rattle.qs_part.specs.declared.stripe.StripeReply.TheVariants.{Filled, Fault, HeldBy, Taken, Done, Freed, NotHeld, Clean, Synced}
 use Rattle.qs_part.specs.Histories.{Call, lawful, StandsFor}
 use Rattle.qs_part.proofs.Histories.{stands_split}
 use Rattle.qs_stripe.specs.Holds.{IsHeld, Takes, LetsGo}
@@ -85,6 +85,9 @@ step-keeps k b old (Store c j buf) (Done back) new row not held = goes-keeps k b
 step-keeps k b old (Store c j buf) (Fault (Some back)) new row not held = goes-keeps k b j c old.hold new.hold row.4 not held
 step-keeps k b old (Free c j) Freed new row not held = goes-keeps k b j c old.hold new.hold row.2 not held
 step-keeps k b old (Free c j) NotHeld new row not held = still-keeps k b old new row.1 held
+step-keeps k b old Sync Clean new row not held = still-keeps k b old new row.1 held
+step-keeps k b old Sync Synced new row not held = same-keeps k b old new row.3 held
+step-keeps k b old Sync (Fault None) new row not held = same-keeps k b old new row.3 held
 step-keeps k b old _ _ new row not held = absurd row
 
 takes-holds : (k b j : ℕ) (side : Side) (c : ℕ) (old new : ℕ → Side → Option ℕ) → Takes j side c old new → c ≡ b → j ≡ k → IsHeld new k b

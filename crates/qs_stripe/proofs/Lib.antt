@@ -1,2 +1,3 @@
+mod Cleaned
 mod HoldLists
 mod HeldThrough

@@ -1,10 +1,10 @@
 -- Histories of a stripe, and the holds in them.
-use Rattle.std.specs.Prelude.{◌≡◌, ◌≢◌, ℕ, List, ◌∷◌, ◌++◌}
+use Rattle.std.specs.Prelude.{◌≡◌, ◌≢◌, ℕ, Bool, true, false, List, [], ◌∷◌, ◌++◌}
 use Rattle.std.specs.List.{AllByRecursion}
 use Rattle.qs_part.specs.declared.stripe.StripeOp.{StripeOp}
-use Rattle.qs_part.specs.declared.stripe.StripeOp.TheVariants.{Hold, Store, Free}
+use Rattle.qs_part.specs.declared.stripe.StripeOp.TheVariants.{Hold, Store, Free, Sync}
 use Rattle.qs_part.specs.declared.stripe.StripeReply.{StripeReply}
-use Rattle.qs_part.specs.declared.stripe.StripeReply.TheVariants.{Filled, Fault, Done, Freed}
+use Rattle.qs_part.specs.declared.stripe.StripeReply.TheVariants.{Filled, Fault, Done, Freed, Synced}
 use Rattle.qs_part.specs.Histories.{Call}
 
 -- k gets a hold of b
@@ -31,3 +31,15 @@ HeldIn cs = (before between after : List (Call StripeOp StripeReply)) (first las
     → BeginsHold k b first.op first.reply
     → AllByRecursion (λ c. EndsHold k b c.op c.reply → ⊥) between
     → j ≢ k → WritesBlock j b last.op last.reply → ⊥
+
+-- whether a stripe is clean behind a call: a store that was done or refused by the disk dirties it, a sync cleans it
+abbrev pub clean_behind : Bool → StripeOp → StripeReply → Bool
+clean_behind clean (Store c j buf) (Done back) = false
+clean_behind clean (Store c j buf) (Fault back) = false
+clean_behind clean Sync Synced = true
+clean_behind clean _ _ = clean
+
+-- and behind a history
+abbrev pub clean_after : Bool → List (Call StripeOp StripeReply) → Bool
+clean_after clean [] = clean
+clean_after clean (c ∷ cs) = clean_after (clean_behind clean c.op c.reply) cs

@@ -30,7 +30,8 @@ impl Geometry {
         self.has_block(b) && buf.len() == self.align as usize
     }
 
-    /// Whether an operation is on a block of the stripe inside the image, with a buffer of one block.
+    /// Whether an operation is on a block of the stripe inside the image, with a buffer of one block, or
+    /// is on the whole stripe.
     pub fn fits(&self, op: &StripeOp) -> bool
         ensures { IsTrue result ↔ Fits self.now op.now }
     {
@@ -39,6 +40,7 @@ impl Geometry {
             StripeOp::Hold { b, buf, .. } => self.has_whole(*b, buf),
             StripeOp::Store { b, buf, .. } => self.has_whole(*b, buf),
             StripeOp::Free { b, .. } => self.has_block(*b),
+            StripeOp::Sync => true,
         }
     }
 }

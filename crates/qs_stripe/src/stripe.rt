@@ -1,7 +1,7 @@
 ghost use Rattle.std.specs.Prelude.{◌≡◌, length, MatchResult};
 ghost use Rattle.qs_outside.specs.Blocks.{IsBlock};
 ghost use Rattle.qs_outside.specs.Rigged.{planned_too, plans_of};
-ghost use Rattle.qs_stripe.specs.Table.{Fits, IsContent, IsStored, IsWhole, MayBeStored, Opened, Reads, Refuses, Writes, answers, geometry, value_of};
+ghost use Rattle.qs_stripe.specs.Table.{Fits, IsContent, IsSettled, IsStored, IsUnsettled, IsWhole, MayBeStored, Opened, Reads, Refuses, Syncs, Writes, answers, geometry, value_of};
 
 use crate::geometry::Geometry;
 use crate::holds::Holds;
@@ -41,6 +41,14 @@ fn write<D: Disk>(disk: &mut D, b: u64, buf: Bytes) -> Result<Bytes, Bytes>
     }
 }
 
+/// Syncs the disk.
+fn settle<D: Disk>(disk: &mut D) -> Result<(), Failed>
+    ensures syncs { Syncs (D.seen disk.old) (D.seen disk.new) }
+    ensures settled { MatchResult result (λ done. IsSettled (D.seen disk.old) (D.seen disk.new)) (λ failed. IsUnsettled (D.seen disk.old) (D.seen disk.new)) }
+{
+    disk.sync()
+}
+
 /// A stripe of the image: every eighth run of sixteen blocks, on a disk of its own.
 ///
 /// A request that writes a part of a block holds the block, so that nobody else writes it between
@@ -50,6 +58,8 @@ fn write<D: Disk>(disk: &mut D, b: u64, buf: Bytes) -> Result<Bytes, Bytes>
 pub struct Stripe<D> {
     disk: D,
     holds: Holds,
+    /// No store reached the disk since the last sync.
+    clean: bool,
 }
 
 impl<D> Model for Stripe<D> {
@@ -57,17 +67,21 @@ impl<D> Model for Stripe<D> {
 
     ghost Value = { StripeState D };
 
-    ghost view = { λ s. record { disk = s.disk; places = s.holds } };
+    ghost view = { λ s. record { disk = s.disk; places = s.holds; clean = s.clean } };
 }
 
 impl<D: Disk + Drop> Stripe<D> {
-    /// The stripe of this disk, with no block held. It takes all the memory that it ever needs; for
+    /// The stripe of this disk, clean and with no block held. It takes all the memory that it ever needs; for
     /// want of it the disk comes back.
     pub fn new(alloc: Global, disk: D) -> Result<Stripe<D>, D>
         ensures { MatchResult result (λ s. (s.disk ≡ disk) × Opened (value_of D.seen s)) (λ back. back ≡ disk) }
     {
         match Holds::new(alloc) {
-            Ok(holds) => Ok(Stripe { disk, holds }),
+            Ok(holds) => Ok(Stripe {
+                disk,
+                holds,
+                clean: true,
+            }),
             Err(_) => Err(disk),
         }
     }
@@ -119,6 +133,7 @@ impl<D: Disk + Drop> Stripe<D> {
             return StripeReply::HeldBy(j, buf);
         }
         self.holds.let_go(k, b);
+        self.clean = false;
         match write(&mut self.disk, b, buf) {
             Ok(back) => StripeReply::Done(back),
             Err(back) => StripeReply::Fault(Some(back)),
@@ -136,12 +151,29 @@ impl<D: Disk + Drop> Stripe<D> {
             StripeReply::NotHeld
         }
     }
+
+    fn sync(&mut self) -> StripeReply
+        ensures row { answers (value_of D.seen self.old) StripeOp.Sync result (value_of D.seen self.new) }
+        ensures same { geometry (value_of D.seen self.new) ≡ geometry (value_of D.seen self.old) }
+    {
+        if self.clean {
+            return StripeReply::Clean;
+        }
+        match settle(&mut self.disk) {
+            Ok(()) => {
+                self.clean = true;
+                StripeReply::Synced
+            }
+            Err(Failed) => StripeReply::Fault(None),
+        }
+    }
 }
 
 impl<D: RiggedDisk + Drop> Stripe<D> {
     /// Plans a failure of the disk, once. Nothing else changes.
     pub fn plan(&mut self, fail: Fail)
         ensures holds { self.new.places ≡ self.old.places }
+        ensures clean { self.new.clean ≡ self.old.clean }
         ensures disk { D.Disk.seen self.new.disk ≡ record (D.Disk.seen self.old.disk) {
           planned = Some (planned_too fail (plans_of (D.Disk.seen self.old.disk).planned));
         } }
@@ -181,6 +213,7 @@ impl<D: Disk + Drop> Part for Stripe<D> {
             StripeOp::Hold { b, k, end, buf } => self.hold(b, k, end, buf),
             StripeOp::Store { b, k, buf } => self.store(b, k, buf),
             StripeOp::Free { b, k } => self.free(b, k),
+            StripeOp::Sync => self.sync(),
         }
     }
 }

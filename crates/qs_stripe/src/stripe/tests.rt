@@ -11,6 +11,7 @@ enum Ask {
     Hold(u64, u8, Side),
     Store(u64, u8, u8),
     Free(u64, u8),
+    Sync,
     Plan(Fail),
 }
 
@@ -24,6 +25,8 @@ enum Told {
     Done,
     Freed,
     NotHeld,
+    Clean,
+    Synced,
     Planned,
 }
 
@@ -43,6 +46,8 @@ fn told_of(reply: StripeReply) -> Told {
         StripeReply::Done(_) => Told::Done,
         StripeReply::Freed => Told::Freed,
         StripeReply::NotHeld => Told::NotHeld,
+        StripeReply::Clean => Told::Clean,
+        StripeReply::Synced => Told::Synced,
     }
 }
 
@@ -76,6 +81,7 @@ fn answer(
             buf: block(alloc, byte)?,
         },
         Ask::Free(b, k) => StripeOp::Free { b, k },
+        Ask::Sync => StripeOp::Sync,
         Ask::Plan(fail) => {
             stripe.plan(fail);
             return Ok(Told::Planned);
@@ -145,12 +151,35 @@ fn each_planned_failure_is_a_fault_once(rt: HostRuntime) -> Result<(), Failure> 
         (Ask::Plan(Fail::StoreNew), Told::Planned),
         (Ask::Store(3, 1, 8), Told::Fault),
         (Ask::Load(3, 0), Told::Filled(8)),
-        (Ask::Plan(Fail::Sync), Told::Planned),
     ];
     run(&rt, rt.alloc(), &mut stripe, &script)?;
-    let mut disk = stripe.into_disk();
-    assert_eq!(rt; disk.sync(), Err(Failed));
-    assert_eq!(rt; disk.sync(), Ok(()));
+    Ok(())
+}
+
+#[test]
+fn a_sync_calls_the_disk_where_a_store_reached_it(rt: HostRuntime) -> Result<(), Failure> {
+    let disk = MemDisk::new(rt.alloc(), 0, 2, 256, 8)?;
+    let Ok(mut stripe) = Stripe::new(rt.alloc(), disk) else {
+        return Err(Failure::new("no memory"));
+    };
+    let script = [
+        (Ask::Plan(Fail::Sync), Told::Planned),
+        (Ask::Sync, Told::Clean),
+        (Ask::Load(3, 0), Told::Filled(0)),
+        (Ask::Hold(3, 1, Side::Head), Told::Filled(0)),
+        (Ask::Store(3, 2, 9), Told::HeldBy(1)),
+        (Ask::Free(3, 1), Told::Freed),
+        (Ask::Sync, Told::Clean),
+        (Ask::Store(3, 1, 7), Told::Done),
+        (Ask::Sync, Told::Fault),
+        (Ask::Sync, Told::Synced),
+        (Ask::Sync, Told::Clean),
+        (Ask::Plan(Fail::StoreOld), Told::Planned),
+        (Ask::Store(3, 1, 8), Told::Fault),
+        (Ask::Sync, Told::Synced),
+        (Ask::Sync, Told::Clean),
+    ];
+    run(&rt, rt.alloc(), &mut stripe, &script)?;
     Ok(())
 }
 
