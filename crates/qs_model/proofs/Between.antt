@@ -2,14 +2,14 @@
 use Rattle.std.proofs.Common.{◌≡◌, ◌≢◌, ℕ, ◌<◌, ◌≤◌, ◌⊎◌, inl, inr, Bool, true, List, [], ◌∷◌, Option, Some, None, refl, sym, ap, ◌∙◌, subst, arith}
 use Rattle.qs_bytes.specs.declared.ask.Verdict.{Verdict}
 use Rattle.qs_part.specs.declared.graph.Route.{Route}
-use Rattle.qs_model.specs.Requests.{Step, Client, Pads, Req, Stage, ToRoute, ToList, ToStart, ToLoad, ToHold, ToStore, ToFree, ToEnd, Ready, Entering, In, asked, form_error, abandoned}
+use Rattle.qs_model.specs.Requests.{Step, Client, Pads, Req, Stage, ToRoute, ToList, ToStart, ToLoad, ToHold, ToStore, ToSync, ToFree, ToEnd, Ready, Entering, In, asked, form_error, abandoned}
 use Rattle.qs_tracker.specs.declared.seat.Seat.{Seat}
 use Rattle.qs_tracker.specs.declared.seat.Seat.TheVariants.{Vacant, Present, Has}
 use Rattle.qs_tracker.specs.Seats.{seat_at}
 use Rattle.qs_tracker.specs.Table.{TrackerValue}
 use Rattle.qs_tracker.proofs.Sound.{Sound as TrackerSound, goes_apart, lowest_starts}
 use Rattle.qs_model.specs.Worlds.{World}
-use Rattle.qs_model.specs.Acts.{Act, Answers, Waits, Enters, Routes, Shuts, Lists, Starts, Loads, LoadFails, Holds, HoldFails, Stores, StoreFails, Frees, Ends, Element, Attached, NoExport, Crowded, Left, Detached, NotAttached, Asked, Did, Exported, Planned, Crashed}
+use Rattle.qs_model.specs.Acts.{Act, Answers, Waits, Enters, Routes, Shuts, Lists, Starts, Loads, LoadFails, Holds, HoldFails, Stores, StoreFails, Syncs, Cleans, SyncFails, Frees, Ends, Element, Attached, NoExport, Crowded, Left, Detached, NotAttached, Asked, Did, Exported, Planned, Crashed}
 use Rattle.qs_model.specs.Guards.{May}
 use Rattle.qs_model.specs.Steps.{moved, leaves, happens, after, Runs}
 use Rattle.qs_model.specs.Histories.{answer_of, Acts, IsAnswer, IsAsk, IsStore, IsStoreRow, IsRouted, IsRouteRow}
@@ -117,20 +117,24 @@ back_route A c d p (Holds bytes) = λ going. inl (tt, refl)
 back_route A c d p HoldFails = λ going. inl (tt, refl)
 back_route A c d p (Stores bytes past) = λ going. inl (tt, refl)
 back_route A c d p (StoreFails bytes took past) = λ going. inl (tt, refl)
+back_route A c d p Syncs = λ going. inl (tt, refl)
+back_route A c d p Cleans = λ going. inl (tt, refl)
+back_route A c d p SyncFails = λ going. absurd going
 back_route A c d p Frees = λ going. absurd going
 back_route A c d p Ends = tt
 
-pub abandoned_going : (g : Stage) → IsGoing (abandoned g) → IsGoing g
-abandoned_going (Ready v) going = going
-abandoned_going Entering going = going
-abandoned_going (In k ToRoute) going = going
-abandoned_going (In k ToList) going = absurd going
-abandoned_going (In k ToStart) going = going
-abandoned_going (In k (ToLoad b got)) going = going
-abandoned_going (In k (ToHold side)) going = going
-abandoned_going (In k (ToStore b)) going = going
-abandoned_going (In k (ToFree side)) going = going
-abandoned_going (In k (ToEnd v)) going = going
+pub abandoned_going : (c : Client) (g : Stage) → IsGoing (abandoned c g) → IsGoing g
+abandoned_going c (Ready v) going = going
+abandoned_going c Entering going = going
+abandoned_going c (In k ToRoute) going = going
+abandoned_going c (In k ToList) going = absurd going
+abandoned_going c (In k ToStart) going = going
+abandoned_going c (In k (ToLoad b got)) going = going
+abandoned_going c (In k (ToHold side)) going = going
+abandoned_going c (In k (ToStore b)) going = going
+abandoned_going c (In k (ToSync s)) going = tt
+abandoned_going c (In k (ToFree side)) going = going
+abandoned_going c (In k (ToEnd v)) going = going
 
 pub asked_going : (c : Client) → IsGoing (asked c).stage → ⊥
 asked_going c =
@@ -155,7 +159,7 @@ goer_before A w (Left s e) r route may g =
       | inr f ↦ record {
         request = q;
         is = there;
-        going = abandoned_going q.stage (subst (λ (x : Req). IsGoing x.stage) f g.going);
+        going = abandoned_going q.client q.stage (subst (λ (x : Req). IsGoing x.stage) f g.going);
         way = ap (λ (x : Req). x.client.route) (sym f) ∙ g.way;
       }
     ])

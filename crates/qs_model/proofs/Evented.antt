@@ -6,9 +6,9 @@ use Rattle.qs_part.specs.declared.event.Actor.TheVariants.{Session as ASession, 
 use Rattle.qs_part.specs.declared.event.Event.{Event}
 use Rattle.qs_part.specs.declared.event.Event.TheVariants.{Attach, Leave, Ask as AskEvent, Step as StepEvent}
 use Rattle.qs_part.specs.declared.event.Outcome.{Outcome}
-use Rattle.qs_model.specs.Requests.{writes, Client, Pads, Stage, ToList, ToStart, ToHold, ToStore, ToFree, ToEnd, Entering, In}
+use Rattle.qs_model.specs.Requests.{brings_bytes, Client, Pads, Stage, ToList, ToStart, ToHold, ToStore, ToFree, ToEnd, Entering, In}
 use Rattle.qs_model.specs.Worlds.{World}
-use Rattle.qs_model.specs.Acts.{Act, Answers, Waits, Enters, Routes, Shuts, Lists, Starts, Loads, LoadFails, Holds, HoldFails, Stores, StoreFails, Frees, Ends, Wait, Quiesced, Full, NotYet, HeldBy, Taken, Strange, NotHeld, Element, Attached, NoExport, Crowded, Left, Detached, NotAttached, Asked, Did, Exported, Planned, Crashed}
+use Rattle.qs_model.specs.Acts.{Act, Answers, Waits, Enters, Routes, Shuts, Lists, Starts, Loads, LoadFails, Holds, HoldFails, Stores, StoreFails, Syncs, Cleans, SyncFails, Frees, Ends, Wait, Quiesced, Full, NotYet, HeldBy, Taken, Strange, NotHeld, Element, Attached, NoExport, Crowded, Left, Detached, NotAttached, Asked, Did, Exported, Planned, Crashed}
 use Rattle.qs_model.specs.Guards.{CanAsk, MayWait, MayDo, May}
 use Rattle.qs_model.specs.Steps.{after, Runs}
 use Rattle.qs_model.specs.Events.{Brings, row_outcome, moved_out, wait_note, outcome_of, IsEvent}
@@ -44,12 +44,15 @@ act_outcome A w c d p (Holds bytes) may = (_, refl)
 act_outcome A w c d p HoldFails may = (_, refl)
 act_outcome A w c d p (Stores bytes past) may = (_, refl)
 act_outcome A w c d p (StoreFails bytes took past) may = (_, refl)
+act_outcome A w c d p Syncs may = (_, refl)
+act_outcome A w c d p Cleans may = (_, refl)
+act_outcome A w c d p SyncFails may = (_, refl)
 act_outcome A w c d p Frees may = (_, refl)
 act_outcome A w c d p Ends may = (_, refl)
 
 -- the body that came with a request
 asked_brings : (w : World) (r : ℕ) (c : Client) → CanAsk w r c → (body : Option (List ℕ)) × Brings body c
-asked_brings w r c can = elim (either (writes c)) [
+asked_brings w r c can = elim (either (brings_bytes c.ask.kind)) [
   | inl writing ↦ elim (either c.buffered) [
     | inl given ↦ whole (can.body writing given)
     | inr refused ↦ elim (can.refused writing refused) [

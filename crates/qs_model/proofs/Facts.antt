@@ -5,7 +5,7 @@ use Rattle.qs_bytes.specs.declared.ask.Verdict.{Verdict}
 use Rattle.qs_bytes.specs.declared.ask.Verdict.TheVariants.{Got, Fine, Refused, Dropped}
 use Rattle.qs_part.specs.declared.stripe.Side.{Side}
 use Rattle.qs_part.specs.declared.stripe.Side.TheVariants.{Head, Tail}
-use Rattle.qs_model.specs.Requests.{Client, Pads, Req, Step, Stage, ToRoute, ToList, ToStart, ToLoad, ToHold, ToStore, ToFree, ToEnd, Ready, Entering, In, edge, has, span_of, serial, reads, writes, pad}
+use Rattle.qs_model.specs.Requests.{Client, Pads, Req, Step, Stage, ToRoute, ToList, ToStart, ToLoad, ToHold, ToStore, ToSync, ToFree, ToEnd, Ready, Entering, In, edge, has, span_of, serial, reads, writes, pad, is_known, is_flush}
 use Rattle.qs_graph.specs.Exports.{clients_of, export_at}
 use Rattle.qs_tracker.specs.declared.seat.Listing.{Listing}
 use Rattle.qs_tracker.specs.declared.seat.Seat.TheVariants.{Vacant, Present, Has}
@@ -15,13 +15,13 @@ use Rattle.qs_tracker.proofs.Sound.{Sound as TrackerSound}
 use Rattle.qs_model.specs.Worlds.{Hold, Image, Session, Away, Live, Leaving, World}
 use Rattle.qs_model.proofs.Geometry.{Reaches}
 
--- a READ or a WRITE
+-- a kind of request that there is
 abbrev pub IsKind : Client → Type 0
-IsKind c = reads c ≡ false → writes c ≡ true
+IsKind c = is_known c.ask.kind ≡ true
 
--- a request that has its way and something to do
+-- a request that has its way and some block to read or to store
 pub record Sound (c : Client) : Type 0 where
-  pub kind : IsKind c
+  pub kind : reads c ≡ false → writes c ≡ true
   pub some : (span_of c).lo < (span_of c).hi
   pub writable : writes c ≡ true → c.route.writable ≡ true
 
@@ -48,6 +48,12 @@ pub record Storing (A : ℕ) (c : Client) (b : ℕ) : Type 0 where
   pub writing : writes c ≡ true
   pub reach : Reaches A c b
 
+-- a request that syncs a stripe: a FLUSH, or a write that has stored its blocks
+pub record Syncing (c : Client) (s : ℕ) : Type 0 where
+  pub inside : s < 8
+  pub sound : is_flush c.ask.kind ≡ false → Sound c
+  pub writing : is_flush c.ask.kind ≡ false → writes c ≡ true
+
 -- a READ that is Got has as many bytes as were asked for
 abbrev pub IsWhole : Client → Verdict → Type 0
 IsWhole c (Got bytes) = length bytes ≡ c.ask.length
@@ -61,6 +67,7 @@ Fit A c ToStart = Sound c
 Fit A c (ToLoad b got) = Loading A c b got
 Fit A c (ToHold side) = Holding A c side
 Fit A c (ToStore b) = Storing A c b
+Fit A c (ToSync s) = Syncing c s
 Fit A c (ToFree side) = Holding A c side
 Fit A c (ToEnd v) = IsWhole c v
 
@@ -81,6 +88,11 @@ pub record Goes (A : ℕ) (t : TrackerValue) (c : Client) (k : ℕ) : Type 0 whe
   pub sits : Sits A t c k
   pub started : sits.own.started ≡ true
 
+-- a FLUSH that syncs has no span, and a write that syncs goes
+pub record SyncSeat (A : ℕ) (t : TrackerValue) (c : Client) (k : ℕ) : Type 0 where
+  pub spanless : is_flush c.ask.kind ≡ true → seat_at t.seats k ≡ Present
+  pub goes : is_flush c.ask.kind ≡ false → Goes A t c k
+
 abbrev pub Seated : ℕ → TrackerValue → Client → ℕ → Step → Type 0
 Seated A t c k ToRoute = seat_at t.seats k ≡ Present
 Seated A t c k ToList = seat_at t.seats k ≡ Present
@@ -88,6 +100,7 @@ Seated A t c k ToStart = Sits A t c k
 Seated A t c k (ToLoad b got) = Goes A t c k
 Seated A t c k (ToHold side) = Goes A t c k
 Seated A t c k (ToStore b) = Goes A t c k
+Seated A t c k (ToSync s) = SyncSeat A t c k
 Seated A t c k (ToFree side) = Goes A t c k
 Seated A t c k (ToEnd v) = seat_at t.seats k ≢ Vacant
 

@@ -1,16 +1,17 @@
 -- What a step leaves of the request's own holds, and of who holds what.
-use Rattle.std.proofs.Common.{◌≡◌, ◌≢◌, ℕ, ◌+◌, ◌≤◌, Bool, true, false, not, ◌&&◌, ◌==◌, nat_lt, List, [], Some, None, refl, sym, ◌∙◌, arith, true≢false}
+use Rattle.std.proofs.Common.{◌≡◌, ◌≢◌, ℕ, ◌+◌, ◌≤◌, Bool, true, false, not, ◌&&◌, ◌||◌, ◌==◌, nat_lt, List, [], Some, None, refl, sym, ◌∙◌, arith, true≢false}
 use Rattle.qs_bytes.specs.declared.ask.Verdict.TheVariants.{Refused, Fine}
 use Rattle.qs_bytes.specs.declared.ask.Errno.TheVariants.{Io}
 use Rattle.qs_part.specs.declared.stripe.Side.{Side}
 use Rattle.qs_part.specs.declared.stripe.Side.TheVariants.{Head, Tail}
 use Rattle.qs_model.specs.Puts.{put}
-use Rattle.qs_model.specs.Requests.{Client, Pads, Step, Stage, ToRoute, ToList, ToStart, ToLoad, ToHold, ToStore, ToFree, ToEnd, In, edge, has, keep, reads, writes, routed, held, started, loaded, stored, hold_failed, store_failed}
+use Rattle.qs_model.specs.Requests.{Client, Pads, Step, Stage, ToRoute, ToList, ToStart, ToLoad, ToHold, ToStore, ToSync, ToFree, ToEnd, In, edge, has, keep, reads, wants_writable, is_flush, is_trim, routed, held, started, loaded, stored, hold_failed, store_failed, synced}
 use Rattle.qs_model.specs.Worlds.{Image, World}
-use Rattle.qs_model.specs.Acts.{Act, Answers, Waits, Enters, Routes, Shuts, Lists, Starts, Loads, LoadFails, Holds, HoldFails, Stores, StoreFails, Frees, Ends}
+use Rattle.qs_model.specs.Acts.{Act, Answers, Waits, Enters, Routes, Shuts, Lists, Starts, Loads, LoadFails, Holds, HoldFails, Stores, StoreFails, Syncs, Cleans, SyncFails, Frees, Ends}
 use Rattle.qs_model.specs.Guards.{MayDo, CanRead}
-use Rattle.qs_model.specs.Steps.{moved, imaged}
+use Rattle.qs_model.specs.Steps.{moved, imaged, settled}
 use Rattle.qs_model.proofs.Basics.{choose, put_here, put_other}
+use Rattle.qs_model.proofs.Syncing.{stored_is, synced_is}
 use Rattle.qs_model.proofs.Geometry.{Reaches, tail_other}
 use Rattle.qs_model.proofs.Facts.{Shaped, Held, Keeps, IsOpen}
 use Rattle.qs_model.proofs.Machine.{ForMoved, other_block, both}
@@ -30,6 +31,7 @@ bare_open A c (ToLoad b got) side bare open_ = open_
 bare_open A c (ToHold Head) side bare open_ = open_
 bare_open A c (ToHold Tail) side bare open_ = bare
 bare_open A c (ToStore b) side bare open_ = bare
+bare_open A c (ToSync s) side bare open_ = open_
 bare_open A c (ToFree side) other bare open_ = bare
 bare_open A c (ToEnd v) side bare open_ = open_
 
@@ -40,9 +42,13 @@ pub routed_bare : (c : Client) → IsBare (routed c)
 unfolding routed
 routed_bare c =
     let P : Step → Type 0 = λ g. IsBare g in
-    choose P (writes c && not c.route.writable) _ _ (λ e. tt)
-    (λ may. choose P (nat_lt c.route.size (c.ask.offset + c.ask.length)) _ _ (λ e. tt)
-    (λ inside. choose P (c.ask.length == 0) _ _ (λ e. tt) (λ some. tt)))
+    choose P (wants_writable c.ask.kind && not c.route.writable) _ _ (λ e. tt)
+    (λ may. choose P (is_flush c.ask.kind) _ _ (λ e. tt)
+    (λ sync. choose P (nat_lt c.route.size (c.ask.offset + c.ask.length)) _ _ (λ e. tt)
+    (λ inside. choose P (c.ask.length == 0 || is_trim c.ask.kind) _ _ (λ e. tt) (λ some. tt))))
+
+pub synced_bare : (A : ℕ) (c : Client) (s : ℕ) → IsBare (synced A c s)
+synced_bare A c s = synced_is (λ g. IsBare g) A c s tt (λ t lt. tt)
 
 pub loaded_bare : (A : ℕ) (c : Client) (b : ℕ) (got bytes : List ℕ) → IsBare (loaded A c b got bytes)
 unfolding loaded
@@ -97,10 +103,9 @@ still_held A tells i c p k b side j others other h = record {
 
 pub stored_keeps : (A : ℕ) (tells : Bool) (i j : Image) (c : Client) (p : Pads) (k b : ℕ) → ((d : ℕ) → d ≢ b → (j.holder d ≡ i.holder d) × (j.now d ≡ i.now d)) →
     Reaches A c b → Keeps A tells i c p (In k (ToStore b)) → Keeps A tells j c p (In k (stored A c b))
-unfolding stored
 stored_keeps A tells i j c p k b others reach kept =
-    let P : Step → Type 0 = λ g. Keeps A tells j c p (In k g) in
-    choose P (b == edge A c Tail) _ _ (λ e. bare_keeps A tells j c p k (ToEnd Fine) tt)
+    stored_is (λ g. Keeps A tells j c p (In k g)) A c b (λ e. bare_keeps A tells j c p k (ToEnd Fine) tt)
+    (λ e s lt. bare_keeps A tells j c p k (ToSync s) tt)
     (λ e. elim [
       | Head ↦ λ open_. let past : b + 1 ≡ edge A c Head = open_.1 in let first : edge A c Head ≤ b = reach.first in absurd (omega arith)
       | Tail ↦ λ open_. still_held A tells i c p k b Tail j others (λ f. other_block b (edge A c Tail) e (sym f)) (kept Tail open_)
@@ -149,6 +154,9 @@ own_kept A w c d p (Stores {k = k} {b = b} bytes past) fit kept may =
     stored_keeps A w.tells w.image _ c p k b (λ n other. (put_other w.image.holder b None n other, put_other w.image.now b bytes n other)) fit.reach kept
 own_kept A w c d p (StoreFails {k = k} {b = b} bytes took past) fit kept may =
     store_failed_keeps A w.tells w.image _ c p k b (λ n other. (put_other w.image.holder b None n other, put_other w.image.now b _ n other)) kept
+own_kept A w c d p (Syncs {k = k} {s = s}) fit kept may = bare_keeps A w.tells (settled w.image s) c p k (synced A c s) (synced_bare A c s)
+own_kept A w c d p (Cleans {k = k} {s = s}) fit kept may = bare_keeps A w.tells w.image c p k (synced A c s) (synced_bare A c s)
+own_kept A w c d p (SyncFails {k = k}) fit kept may = bare_keeps A w.tells w.image c p k (ToEnd (Refused Io)) tt
 own_kept A w c d p (Frees {k = k} {side = side}) fit kept may =
     bare_keeps A w.tells (record w.image { holder = put w.image.holder (edge A c side) None }) c p k (ToEnd (Refused Io)) tt
 own_kept A w c d p Ends fit kept may = tt

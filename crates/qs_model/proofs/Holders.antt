@@ -5,9 +5,10 @@ use Rattle.qs_part.specs.declared.stripe.Side.TheVariants.{Head, Tail}
 use Rattle.qs_model.specs.Puts.{put}
 use Rattle.qs_model.specs.Requests.{Client, Pads, Req, Stage, In, edge, has, held, stored, hold_failed, store_failed}
 use Rattle.qs_model.specs.Worlds.{Hold, Image, World}
-use Rattle.qs_model.specs.Acts.{Act, Answers, Waits, Enters, Routes, Shuts, Lists, Starts, Loads, LoadFails, Holds, HoldFails, Stores, StoreFails, Frees, Ends}
+use Rattle.qs_model.specs.Acts.{Act, Answers, Waits, Enters, Routes, Shuts, Lists, Starts, Loads, LoadFails, Holds, HoldFails, Stores, StoreFails, Syncs, Cleans, SyncFails, Frees, Ends}
 use Rattle.qs_model.specs.Steps.{moved, imaged}
 use Rattle.qs_model.proofs.Basics.{choose, put_here, put_tells}
+use Rattle.qs_model.proofs.Syncing.{stored_is}
 use Rattle.qs_model.proofs.Facts.{Shaped, IsOpen, IsHolder}
 
 -- there still is a request, and this holds of it
@@ -16,9 +17,9 @@ HasMoved P None = ⊥
 HasMoved P (Some q) = P q
 
 pub stored_open : (A : ℕ) (c : Client) (b : ℕ) → has A c Tail ≡ true → edge A c Tail ≢ b → IsOpen A c (stored A c b) Tail
-unfolding stored
 stored_open A c b wanted other =
-    choose (λ g. IsOpen A c g Tail) (b == edge A c Tail) _ _ (λ e. absurd (other_block_true b (edge A c Tail) e other)) (λ e. wanted)
+    stored_is (λ g. IsOpen A c g Tail) A c b (λ e. absurd (other_block_true b (edge A c Tail) e other))
+    (λ e s lt. absurd (other_block_true b (edge A c Tail) e other)) (λ e. wanted)
   where
     other_block_true : (a d : ℕ) → (a == d) ≡ true → d ≢ a → ⊥
     other_block_true a d e n = grind (arith, e, n)
@@ -80,6 +81,9 @@ own_holder A w c d p (StoreFails {b = n} bytes took past) j Head b fit holds is 
     absurd (some_none (lost w.image n b (sym holds.2 ∙ sym holds.1.1) _ is))
 own_holder A w c d p (StoreFails {b = n} bytes took past) j Tail b fit holds is =
     (holds.0, store_failed_open A c n holds.1 (λ e. some_none (lost w.image n b (sym holds.2 ∙ e) _ is)), holds.2)
+own_holder A w c d p Syncs j side b fit holds is = absurd holds.1
+own_holder A w c d p Cleans j side b fit holds is = absurd holds.1
+own_holder A w c d p SyncFails j side b fit holds is = absurd holds.1
 own_holder A w c d p (Frees {side = Head}) j Head b fit holds is = absurd (some_none (lost w.image (edge A c Head) b (sym holds.2) _ is))
 own_holder A w c d p (Frees {side = Head}) j Tail b fit holds is = absurd holds.1
 own_holder A w c d p (Frees {side = Tail}) j Head b fit holds is = absurd holds.1

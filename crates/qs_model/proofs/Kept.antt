@@ -18,16 +18,16 @@ use Rattle.qs_tracker.proofs.Rows.{free_place}
 use Rattle.qs_tracker.proofs.Seats.{nobody}
 use Rattle.qs_tracker.proofs.Sound.{fresh_sound}
 use Rattle.qs_model.specs.Puts.{put, without}
-use Rattle.qs_model.specs.Requests.{Client, Pads, Req, Step, Stage, ToRoute, ToList, ToStart, ToLoad, ToHold, ToStore, ToFree, ToEnd, Ready, Entering, In, edge, is_read, is_write, form_error, asked, abandoned, abandon}
+use Rattle.qs_model.specs.Requests.{Client, Pads, Req, Step, Stage, ToRoute, ToList, ToStart, ToLoad, ToHold, ToStore, ToSync, ToFree, ToEnd, Ready, Entering, In, edge, is_known, is_read, is_flush, form_error, asked, abandoned, abandon}
 use Rattle.qs_model.specs.Worlds.{Hold, Image, Session, Away, Live, Leaving, World, Opening, new_world}
-use Rattle.qs_model.specs.Acts.{Act, Answers, Waits, Enters, Routes, Shuts, Lists, Starts, Loads, LoadFails, Holds, HoldFails, Stores, StoreFails, Frees, Ends, Element, Attached, NoExport, Crowded, Left, Detached, NotAttached, Asked, Did, Exported, Planned, Crashed}
+use Rattle.qs_model.specs.Acts.{Act, Answers, Waits, Enters, Routes, Shuts, Lists, Starts, Loads, LoadFails, Holds, HoldFails, Stores, StoreFails, Syncs, Cleans, SyncFails, Frees, Ends, Element, Attached, NoExport, Crowded, Left, Detached, NotAttached, Asked, Did, Exported, Planned, Crashed}
 use Rattle.qs_model.specs.Guards.{MayDo, May, CanAsk}
 use Rattle.qs_model.specs.Steps.{moved, tracked, imaged, leaves, happens, crashed, after, Runs}
 use Rattle.qs_model.specs.Laws.{ComesBehind, Begins}
 use Rattle.qs_model.proofs.Basics.{choose, put_here, put_other, put_tells, put_cases, same_or}
-use Rattle.qs_model.proofs.Facts.{Shaped, Seated, Seats, Held, Keeps, Well, IsHolder, Owner, Manned, IsAt, IsClient, Among, Ok}
+use Rattle.qs_model.proofs.Facts.{Fit, Shaped, Seated, Seats, Held, Keeps, Well, IsHolder, Owner, Manned, IsAt, IsClient, Among, Ok}
 use Rattle.qs_model.proofs.Machine.{ForMoved, own_shaped}
-use Rattle.qs_model.proofs.Places.{own_seated, stays_sound, present_taken}
+use Rattle.qs_model.proofs.Places.{own_seated, stays_sound, present_taken, sync_taken}
 use Rattle.qs_model.proofs.Held.{own_kept}
 use Rattle.qs_model.proofs.Holders.{HasMoved, own_holder, holder_before, new_holder, some_none}
 use Rattle.qs_model.proofs.Manned.{taken_before, own_stays, own_takes}
@@ -46,6 +46,7 @@ seated_taken A t c (In k step) j seats at = subst (λ (i : ℕ). seat_at t.seats
     go (ToLoad b got) h = λ e. let f : seat_at t.seats k ≡ Has h.sits.own = h.sits.is in cc
     go (ToHold side) h = λ e. let f : seat_at t.seats k ≡ Has h.sits.own = h.sits.is in cc
     go (ToStore b) h = λ e. let f : seat_at t.seats k ≡ Has h.sits.own = h.sits.is in cc
+    go (ToSync s) h = sync_taken A t c k h
     go (ToFree side) h = λ e. let f : seat_at t.seats k ≡ Has h.sits.own = h.sits.is in cc
     go (ToEnd v) h = h
 
@@ -65,6 +66,9 @@ elsewhere A w c p (Holds bytes) j may taken other = λ e. other (sym e)
 elsewhere A w c p HoldFails j may taken other = λ e. other (sym e)
 elsewhere A w c p (Stores bytes past) j may taken other = λ e. other (sym e)
 elsewhere A w c p (StoreFails bytes took past) j may taken other = λ e. other (sym e)
+elsewhere A w c p Syncs j may taken other = λ e. other (sym e)
+elsewhere A w c p Cleans j may taken other = λ e. other (sym e)
+elsewhere A w c p SyncFails j may taken other = λ e. other (sym e)
 elsewhere A w c p Frees j may taken other = λ e. other (sym e)
 elsewhere A w c p Ends j may taken other = λ e. other (sym e)
 
@@ -84,6 +88,9 @@ own_at A c d p (Holds bytes) j other = λ e. other (sym e)
 own_at A c d p HoldFails j other = λ e. other (sym e)
 own_at A c d p (Stores bytes past) j other = λ e. other (sym e)
 own_at A c d p (StoreFails bytes took past) j other = λ e. other (sym e)
+own_at A c d p Syncs j other = λ e. other (sym e)
+own_at A c d p Cleans j other = λ e. other (sym e)
+own_at A c d p SyncFails j other = λ e. other (sym e)
 own_at A c d p Frees j other = λ e. other (sym e)
 own_at A c d p Ends j other = tt
 
@@ -139,7 +146,7 @@ own_well A w r q p act pos ok here may is =
     let old : Well A w.tells w.tracker w.image q = ok.well r q here in
     record {
       shaped = for_moved (λ x. Shaped A x.client x.stage) _ p (own_shaped A w q.client q.dropped q.pads act pos old.shaped may) is;
-      seated = for_moved (λ x. Seats A (tracked A w.tracker q.client act) x.client x.stage) _ p (own_seated A w q.client q.dropped q.pads act old.seated may) is;
+      seated = for_moved (λ x. Seats A (tracked A w.tracker q.client act) x.client x.stage) _ p (own_seated A w q.client q.dropped q.pads act old.shaped old.seated may) is;
       kept = for_moved (λ x. Keeps A w.tells (imaged A w.image q.client act) x.client x.pads x.stage) _ p (own_kept A w q.client q.dropped q.pads act old.shaped old.kept may) is;
     }
 
@@ -222,13 +229,12 @@ did_ok A w r q act pos ok may = record {
 }
 
 -- a request that was made
-pub kind_of : (a : Ask) → form_error a ≡ false → is_read a.kind ≡ false → is_write a.kind ≡ true
-kind_of a none read = go (is_read a.kind) (is_write a.kind) (not a.flags_fit) a.fua (is_read a.kind && nat_lt max_payload a.length) none read
+pub kind_of : (a : Ask) → form_error a ≡ false → is_known a.kind ≡ true
+kind_of a none = go (is_known a.kind) (not a.flags_fit) (is_read a.kind && nat_lt max_payload a.length) none
   where
-    go : (r w x y z : Bool) → not (r || w) || x || y || z ≡ false → r ≡ false → w ≡ true
-    go true w x y z e f = absurd (true≢false f)
-    go false true x y z e f = refl
-    go false false x y z e f = absurd (true≢false e)
+    go : (k x y : Bool) → not k || x || y ≡ false → k ≡ true
+    go true x y e = refl
+    go false x y e = absurd (true≢false e)
 
 pub asked_well : (A : ℕ) (w : World) (c : Client) → Well A w.tells w.tracker w.image (asked c)
 asked_well A w c =
@@ -276,7 +282,7 @@ asked_ok A w r c ok can = record {
 pub abandoned_well : (A : ℕ) (tells : Bool) (t : TrackerValue) (i : Image) (q : Req) → Well A tells t i q → Well A tells t i (abandon q)
 abandoned_well A tells t i q well = record { shaped = shape q.stage well.shaped; seated = seat q.stage well.seated; kept = keeps q.stage well.kept }
   where
-    shape : (g : Stage) → Shaped A q.client g → Shaped A q.client (abandoned g)
+    shape : (g : Stage) → Shaped A q.client g → Shaped A q.client (abandoned q.client g)
     shape (Ready v) h = tt
     shape Entering h = tt
     shape (In k ToRoute) h = tt
@@ -285,10 +291,11 @@ abandoned_well A tells t i q well = record { shaped = shape q.stage well.shaped;
     shape (In k (ToLoad b got)) h = h
     shape (In k (ToHold side)) h = h
     shape (In k (ToStore b)) h = h
+    shape (In k (ToSync s)) h = choose (λ g. Fit A q.client g) (is_flush q.client.ask.kind) _ _ (λ e. tt) (λ e. h)
     shape (In k (ToFree side)) h = h
     shape (In k (ToEnd v)) h = h
 
-    seat : (g : Stage) → Seats A t q.client g → Seats A t q.client (abandoned g)
+    seat : (g : Stage) → Seats A t q.client g → Seats A t q.client (abandoned q.client g)
     seat (Ready v) h = tt
     seat Entering h = tt
     seat (In k ToRoute) h = present_taken t k h
@@ -297,10 +304,11 @@ abandoned_well A tells t i q well = record { shaped = shape q.stage well.shaped;
     seat (In k (ToLoad b got)) h = h
     seat (In k (ToHold side)) h = h
     seat (In k (ToStore b)) h = h
+    seat (In k (ToSync s)) h = choose (λ g. Seated A t q.client k g) (is_flush q.client.ask.kind) _ _ (λ e. sync_taken A t q.client k h) (λ e. h)
     seat (In k (ToFree side)) h = h
     seat (In k (ToEnd v)) h = h
 
-    keeps : (g : Stage) → Keeps A tells i q.client q.pads g → Keeps A tells i q.client q.pads (abandoned g)
+    keeps : (g : Stage) → Keeps A tells i q.client q.pads g → Keeps A tells i q.client q.pads (abandoned q.client g)
     keeps (Ready v) h = tt
     keeps Entering h = tt
     keeps (In k ToRoute) h = λ side open_. absurd open_
@@ -309,20 +317,21 @@ abandoned_well A tells t i q well = record { shaped = shape q.stage well.shaped;
     keeps (In k (ToLoad b got)) h = h
     keeps (In k (ToHold side)) h = h
     keeps (In k (ToStore b)) h = h
+    keeps (In k (ToSync s)) h = choose (λ g. Keeps A tells i q.client q.pads (In k g)) (is_flush q.client.ask.kind) _ _ (λ e side open_. absurd open_) (λ e. h)
     keeps (In k (ToFree side)) h = h
     keeps (In k (ToEnd v)) h = h
 
-pub abandoned_at : (g : Stage) (k : ℕ) → IsAt (abandoned g) k → IsAt g k
-abandoned_at (Ready v) k at = at
-abandoned_at Entering k at = at
-abandoned_at (In j step) k at = at
+pub abandoned_at : (c : Client) (g : Stage) (k : ℕ) → IsAt (abandoned c g) k → IsAt g k
+abandoned_at c (Ready v) k at = at
+abandoned_at c Entering k at = at
+abandoned_at c (In j step) k at = at
 
-pub at_abandoned : (g : Stage) (k : ℕ) → IsAt g k → IsAt (abandoned g) k
-at_abandoned (Ready v) k at = at
-at_abandoned Entering k at = at
-at_abandoned (In j step) k at = at
+pub at_abandoned : (c : Client) (g : Stage) (k : ℕ) → IsAt g k → IsAt (abandoned c g) k
+at_abandoned c (Ready v) k at = at
+at_abandoned c Entering k at = at
+at_abandoned c (In j step) k at = at
 
-pub abandoned_holder : (A : ℕ) (c : Client) (g : Stage) (h : Hold) (b : ℕ) → IsHolder A c g h b → IsHolder A c (abandoned g) h b
+pub abandoned_holder : (A : ℕ) (c : Client) (g : Stage) (h : Hold) (b : ℕ) → IsHolder A c g h b → IsHolder A c (abandoned c g) h b
 abandoned_holder A c (Ready v) h b is = is
 abandoned_holder A c Entering h b is = is
 abandoned_holder A c (In k ToRoute) h b is = absurd is.1
@@ -331,6 +340,7 @@ abandoned_holder A c (In k ToStart) h b is = is
 abandoned_holder A c (In k (ToLoad d got)) h b is = is
 abandoned_holder A c (In k (ToHold side)) h b is = is
 abandoned_holder A c (In k (ToStore d)) h b is = is
+abandoned_holder A c (In k (ToSync s)) h b is = absurd is.1
 abandoned_holder A c (In k (ToFree side)) h b is = is
 abandoned_holder A c (In k (ToEnd v)) h b is = is
 
@@ -380,7 +390,7 @@ left_ok A w s e ok live = record {
   where
     at_before : (q x : Req) (k : ℕ) → (x ≡ q) ⊎ (x ≡ abandon q) → IsAt x.stage k → IsAt q.stage k
     at_before q x k (inl f) at = subst (λ (y : Req). IsAt y.stage k) f at
-    at_before q x k (inr f) at = abandoned_at q.stage k (subst (λ (y : Req). IsAt y.stage k) f at)
+    at_before q x k (inr f) at = abandoned_at q.client q.stage k (subst (λ (y : Req). IsAt y.stage k) f at)
 
     holds_after : (q x : Req) (h : Hold) (b : ℕ) → (x ≡ q) ⊎ (x ≡ abandon q) → IsHolder A q.client q.stage h b → IsHolder A x.client x.stage h b
     holds_after q x h b (inl f) holds = subst (λ (y : Req). IsHolder A y.client y.stage h b) (sym f) holds
@@ -388,7 +398,7 @@ left_ok A w s e ok live = record {
 
     at_after : (q x : Req) (k : ℕ) → (x ≡ q) ⊎ (x ≡ abandon q) → IsAt q.stage k → IsAt x.stage k
     at_after q x k (inl f) at = subst (λ (y : Req). IsAt y.stage k) (sym f) at
-    at_after q x k (inr f) at = subst (λ (y : Req). IsAt y.stage k) (sym f) (at_abandoned q.stage k at)
+    at_after q x k (inr f) at = subst (λ (y : Req). IsAt y.stage k) (sym f) (at_abandoned q.client q.stage k at)
 
 -- the clients of an export
 pub among_without : (s t : ℕ) (xs : List ℕ) → t ≢ s → Among t xs → Among t (without s xs)

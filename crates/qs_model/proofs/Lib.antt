@@ -1,4 +1,6 @@
 pub mod Basics
+pub mod RequestKinds
+pub mod Syncing
 pub mod Geometry
 pub mod Facts
 pub mod Others

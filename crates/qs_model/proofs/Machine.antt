@@ -1,17 +1,19 @@
 -- What the machine of one request keeps.
-use Rattle.std.proofs.Common.{◌≡◌, ◌≢◌, ℕ, ◌+◌, ◌-◌, ◌*◌, min, max, ◌<◌, ◌≤◌, Bool, true, false, not, ◌&&◌, ◌==◌, nat_lt, List, [], ◌++◌, length, Option, Some, None, refl, sym, ap, ◌∙◌, arith, true≢false, length-append}
+use Rattle.std.proofs.Common.{◌≡◌, ◌≢◌, ℕ, ◌+◌, ◌-◌, ◌*◌, min, max, ◌<◌, ◌≤◌, Bool, true, false, not, ◌&&◌, ◌||◌, ◌==◌, nat_lt, inl, inr, List, [], ◌++◌, length, Option, Some, None, refl, sym, ap, ◌∙◌, arith, true≢false, length-append}
 use Rattle.qs_bytes.proofs.Overlays.{length-part}
 use Rattle.qs_bytes.specs.declared.ask.Verdict.TheVariants.{Got, Fine}
 use Rattle.qs_part.specs.declared.stripe.Side.{Side}
 use Rattle.qs_part.specs.declared.stripe.Side.TheVariants.{Head, Tail}
-use Rattle.qs_model.specs.Requests.{Client, Pads, Req, Step, Stage, edge, has, span_of, reads, writes, piece, routed, held, started, loaded, stored, hold_failed, store_failed}
+use Rattle.qs_model.specs.Requests.{Client, Pads, Req, Step, Stage, edge, has, span_of, reads, writes, wants_writable, is_flush, is_trim, ToSync, piece, routed, held, started, loaded, stored, hold_failed, store_failed, synced}
 use Rattle.qs_model.specs.Worlds.{World}
-use Rattle.qs_model.specs.Acts.{Act, Answers, Waits, Enters, Routes, Shuts, Lists, Starts, Loads, LoadFails, Holds, HoldFails, Stores, StoreFails, Frees, Ends}
+use Rattle.qs_model.specs.Acts.{Act, Answers, Waits, Enters, Routes, Shuts, Lists, Starts, Loads, LoadFails, Holds, HoldFails, Stores, StoreFails, Syncs, Cleans, SyncFails, Frees, Ends}
 use Rattle.qs_model.specs.Guards.{MayDo}
 use Rattle.qs_model.specs.Steps.{moved}
-use Rattle.qs_model.proofs.Basics.{choose, blocks_le, blocks_lt}
+use Rattle.qs_model.proofs.Basics.{choose, either, blocks_le, blocks_lt}
 use Rattle.qs_model.proofs.Geometry.{Reaches, head_low, head_high, tail_low, tail_high, reaches_edge, same_eqb}
-use Rattle.qs_model.proofs.Facts.{IsKind, Sound, Loading, Holding, Storing, Fit, Shaped, IsWhole}
+use Rattle.qs_model.proofs.RequestKinds.{neither, other_one, kind_stores, stores_writable, stores_no_flush, trim_no_read}
+use Rattle.qs_model.proofs.Syncing.{stored_is, synced_is}
+use Rattle.qs_model.proofs.Facts.{IsKind, Sound, Loading, Holding, Storing, Syncing, Fit, Shaped, IsWhole}
 
 -- a fact of the request, where there still is one
 abbrev pub ForMoved : (Req → Type 0) → Option Req → Type 0
@@ -21,20 +23,25 @@ ForMoved P (Some q) = P q
 pub other_block : (a b : ℕ) → (a == b) ≡ false → a ≢ b
 other_block a b is e = grind (arith, is, e)
 
--- a READ isn't a WRITE, so what isn't a READ is a WRITE and may write
+-- what isn't a FLUSH, a TRIM or a READ stores bytes, and may do so
 pub routed_fit : (A : ℕ) (c : Client) → IsKind c → Fit A c (routed c)
 unfolding routed
 routed_fit A c kind =
     let P : Step → Type 0 = λ g. Fit A c g in
-    choose P (writes c && not c.route.writable) _ _ (λ e. tt)
-    (λ may. choose P (nat_lt c.route.size (c.ask.offset + c.ask.length)) _ _ (λ e. tt)
-    (λ inside. choose P (c.ask.length == 0) _ _
-    (λ e. choose (λ v. IsWhole c v) (reads c) (Got []) Fine (λ f. sym (same_eqb c.ask.length 0 e)) (λ f. tt))
+    choose P (wants_writable c.ask.kind && not c.route.writable) _ _ (λ e. tt)
+    (λ may. choose P (is_flush c.ask.kind) _ _
+    (λ e. record { inside = omega arith; sound = λ f. absurd (true≢false (sym e ∙ f)); writing = λ f. absurd (true≢false (sym e ∙ f)) })
+    (λ sync. choose P (nat_lt c.route.size (c.ask.offset + c.ask.length)) _ _ (λ e. tt)
+    (λ inside. choose P (c.ask.length == 0 || is_trim c.ask.kind) _ _
+    (λ e. choose (λ v. IsWhole c v) (reads c) (Got []) Fine (λ f. elim (either (c.ask.length == 0)) [
+      | inl none ↦ sym (same_eqb c.ask.length 0 none)
+      | inr some ↦ absurd (true≢false (sym f ∙ trim_no_read c.ask.kind (other_one _ _ e some)))
+    ]) (λ f. tt))
     (λ some. record {
-      kind = kind;
-      some = let n : c.ask.length ≢ 0 = other_block c.ask.length 0 some in omega arith;
-      writable = λ w. go (writes c) c.route.writable w may;
-    })))
+      kind = kind_stores c.ask.kind kind sync (neither _ _ some).1;
+      some = let n : c.ask.length ≢ 0 = other_block c.ask.length 0 (neither _ _ some).0 in omega arith;
+      writable = λ w. go (wants_writable c.ask.kind) c.route.writable (stores_writable c.ask.kind w) may;
+    }))))
   where
     go : (w m : Bool) → w ≡ true → w && not m ≡ false → m ≡ true
     go true true w may = refl
@@ -113,10 +120,12 @@ loaded_fit A c b got bytes h l whole =
     (λ e. record { sound = l.sound; reading = l.reading; reach = next_reach A c b l.reach e; so_far = loaded_so_far A c b got bytes h l whole e })
 
 pub stored_fit : (A : ℕ) (c : Client) (b : ℕ) → Storing A c b → Fit A c (stored A c b)
-unfolding stored
-stored_fit A c b s =
-    let P : Step → Type 0 = λ g. Fit A c g in
-    choose P (b == edge A c Tail) _ _ (λ e. tt) (λ e. record { sound = s.sound; writing = s.writing; reach = next_reach A c b s.reach e })
+stored_fit A c b s = stored_is (λ g. Fit A c g) A c b (λ e. tt)
+    (λ e t lt. record { inside = lt; sound = λ f. s.sound; writing = λ f. s.writing })
+    (λ e. record { sound = s.sound; writing = s.writing; reach = next_reach A c b s.reach e })
+
+pub synced_fit : (A : ℕ) (c : Client) (s : ℕ) → Syncing c s → Fit A c (synced A c s)
+synced_fit A c s fit = synced_is (λ g. Fit A c g) A c s tt (λ t lt. record { inside = lt; sound = fit.sound; writing = fit.writing })
 
 pub hold_failed_fit : (A : ℕ) (c : Client) (side : Side) → Holding A c side → Fit A c (hold_failed A c side)
 unfolding hold_failed
@@ -153,5 +162,8 @@ own_shaped A w c d p (Holds {side = side} bytes) h fit may = held_fit A c side h
 own_shaped A w c d p (HoldFails {side = side}) h fit may = hold_failed_fit A c side fit
 own_shaped A w c d p (Stores {b = b} bytes past) h fit may = stored_fit A c b fit
 own_shaped A w c d p (StoreFails {b = b} bytes took past) h fit may = store_failed_fit A c b fit
+own_shaped A w c d p (Syncs {s = s}) h fit may = synced_fit A c s fit
+own_shaped A w c d p (Cleans {s = s}) h fit may = synced_fit A c s fit
+own_shaped A w c d p SyncFails h fit may = tt
 own_shaped A w c d p Frees h fit may = tt
 own_shaped A w c d p Ends h fit may = tt

@@ -11,7 +11,7 @@ use Rattle.qs_tracker.specs.History.{SameSeat}
 use Rattle.qs_tracker.proofs.Rows.{numbered_seat, seat_here, seat_other, taken_inside}
 use Rattle.qs_model.specs.Requests.{Client, Pads, Stage}
 use Rattle.qs_model.specs.Worlds.{World}
-use Rattle.qs_model.specs.Acts.{Act, Answers, Waits, Enters, Routes, Shuts, Lists, Starts, Loads, LoadFails, Holds, HoldFails, Stores, StoreFails, Frees, Ends}
+use Rattle.qs_model.specs.Acts.{Act, Answers, Waits, Enters, Routes, Shuts, Lists, Starts, Loads, LoadFails, Holds, HoldFails, Stores, StoreFails, Syncs, Cleans, SyncFails, Frees, Ends}
 use Rattle.qs_model.specs.Guards.{MayDo}
 use Rattle.qs_model.specs.Steps.{moved, tracked}
 use Rattle.qs_model.proofs.Basics.{same_or}
@@ -79,6 +79,9 @@ own_stays A w c d p (Holds bytes) j may at taken = at
 own_stays A w c d p HoldFails j may at taken = at
 own_stays A w c d p (Stores bytes past) j may at taken = at
 own_stays A w c d p (StoreFails bytes took past) j may at taken = at
+own_stays A w c d p Syncs j may at taken = at
+own_stays A w c d p Cleans j may at taken = at
+own_stays A w c d p SyncFails j may at taken = at
 own_stays A w c d p Frees j may at taken = at
 own_stays A w c d p (Ends {k = k}) j may at taken = taken (subst (λ (i : ℕ). seat_at (slice_set w.tracker.seats k Vacant) i ≡ Vacant) at (end_free w.tracker.seats k may))
 

@@ -1,7 +1,7 @@
 -- What a step of one request leaves alone of the others.
 use Rattle.std.proofs.Common.{◌≡◌, ◌≢◌, ℕ, inl, inr, true, List, Option, Some, None, refl, sym, ap, ◌∙◌, subst}
 use Rattle.qs_model.specs.Puts.{put}
-use Rattle.qs_model.specs.Requests.{Client, Pads, Step, Stage, ToRoute, ToList, ToStart, ToLoad, ToHold, ToStore, ToFree, ToEnd, edge}
+use Rattle.qs_model.specs.Requests.{Client, Pads, Step, Stage, ToRoute, ToList, ToStart, ToLoad, ToHold, ToStore, ToSync, ToFree, ToEnd, edge}
 use Rattle.qs_tracker.specs.declared.seat.Listing.{Listing}
 use Rattle.qs_tracker.specs.declared.seat.Seat.{Seat}
 use Rattle.qs_tracker.specs.declared.seat.Seat.TheVariants.{Vacant, Present, Has}
@@ -10,7 +10,7 @@ use Rattle.qs_tracker.specs.Table.{TrackerValue, going, numbered}
 use Rattle.qs_tracker.specs.History.{SameSeat}
 use Rattle.qs_tracker.proofs.Rows.{numbered_seat, same_seat, seat_other}
 use Rattle.qs_model.specs.Worlds.{Hold, Image, World}
-use Rattle.qs_model.specs.Acts.{Act, Answers, Waits, Enters, Routes, Shuts, Lists, Starts, Loads, LoadFails, Holds, HoldFails, Stores, StoreFails, Frees, Ends}
+use Rattle.qs_model.specs.Acts.{Act, Answers, Waits, Enters, Routes, Shuts, Lists, Starts, Loads, LoadFails, Holds, HoldFails, Stores, StoreFails, Syncs, Cleans, SyncFails, Frees, Ends}
 use Rattle.qs_model.specs.Guards.{MayDo, CanStore}
 use Rattle.qs_model.specs.Steps.{tracked, imaged}
 use Rattle.qs_model.proofs.Basics.{put_other}
@@ -31,6 +31,9 @@ Elsewhere j (Holds {k = k} bytes) = j ≢ k
 Elsewhere j (HoldFails {k = k}) = j ≢ k
 Elsewhere j (Stores {k = k} bytes past) = j ≢ k
 Elsewhere j (StoreFails {k = k} bytes took past) = j ≢ k
+Elsewhere j (Syncs {k = k}) = j ≢ k
+Elsewhere j (Cleans {k = k}) = j ≢ k
+Elsewhere j (SyncFails {k = k}) = j ≢ k
 Elsewhere j (Frees {k = k}) = j ≢ k
 Elsewhere j (Ends {k = k}) = j ≢ k
 
@@ -97,6 +100,8 @@ same_seated A t u c k ToStart same h = same_sits A t u c k same h
 same_seated A t u c k (ToLoad b got) same h = same_goes A t u c k same h
 same_seated A t u c k (ToHold side) same h = same_goes A t u c k same h
 same_seated A t u c k (ToStore b) same h = same_goes A t u c k same h
+same_seated A t u c k (ToSync s) same h =
+    record { spanless = λ e. same_present _ _ same (h.spanless e); goes = λ e. same_goes A t u c k same (h.goes e) }
 same_seated A t u c k (ToFree side) same h = same_goes A t u c k same h
 same_seated A t u c k (ToEnd v) same h = same_taken _ _ same h
 

@@ -1,5 +1,5 @@
 -- A READ that is Got has read each byte once, a write that is Fine has written each once.
-use Rattle.std.proofs.Common.{◌≡◌, ℕ, ◌+◌, ◌-◌, ◌/◌, ◌<◌, ◌≤◌, Bool, true, false, not, ◌&&◌, ◌==◌, cond, nat_lt, List, [], ◌∷◌, ◌++◌, length, get_or, Some, None, refl, sym, ap, ◌∙◌, subst, arith, true≢false, eq-eqb, append-nil, append_assoc}
+use Rattle.std.proofs.Common.{◌≡◌, ℕ, ◌+◌, ◌-◌, ◌/◌, ◌<◌, ◌≤◌, Bool, true, false, not, ◌&&◌, ◌||◌, ◌==◌, inl, inr, cond, nat_lt, List, [], ◌∷◌, ◌++◌, length, get_or, Some, None, refl, sym, ap, ◌∙◌, subst, arith, true≢false, eq-eqb, append-nil, append_assoc}
 use Rattle.std.specs.List.{filter}
 use Rattle.qs_cells.specs.declared.cell.CellEntry.{CellEntry}
 use Rattle.qs_cells.specs.declared.cell.CellEntry.TheVariants.{Read}
@@ -7,14 +7,16 @@ use Rattle.qs_bytes.specs.declared.ask.Verdict.{Verdict}
 use Rattle.qs_bytes.specs.declared.ask.Verdict.TheVariants.{Got, Fine, Refused, Dropped}
 use Rattle.qs_part.specs.declared.stripe.Side.{Side}
 use Rattle.qs_part.specs.declared.stripe.Side.TheVariants.{Head, Tail}
-use Rattle.qs_model.specs.Requests.{Client, Pads, Req, Step, Stage, ToRoute, ToList, ToStart, ToLoad, ToEnd, Entering, In, edge, has, span_of, covers, reads, writes, asked, form_error, piece, routed, held, started, loaded, stored, hold_failed, store_failed}
+use Rattle.qs_model.specs.Requests.{Client, Pads, Req, Step, Stage, ToRoute, ToList, ToStart, ToLoad, ToEnd, Entering, In, edge, has, span_of, covers, reads, wants_writable, is_flush, is_trim, success, asked, form_error, piece, routed, held, started, loaded, stored, hold_failed, store_failed, synced}
 use Rattle.qs_model.specs.Worlds.{World}
-use Rattle.qs_model.specs.Acts.{Act, Answers, Waits, Enters, Routes, Shuts, Lists, Starts, Loads, LoadFails, Holds, HoldFails, Stores, StoreFails, Frees, Ends, Element, Did}
+use Rattle.qs_model.specs.Acts.{Act, Answers, Waits, Enters, Routes, Shuts, Lists, Starts, Loads, LoadFails, Holds, HoldFails, Stores, StoreFails, Syncs, Cleans, SyncFails, Frees, Ends, Element, Did}
 use Rattle.qs_model.specs.Guards.{May, MayDo}
 use Rattle.qs_model.specs.Steps.{moved, after, Runs}
 use Rattle.qs_model.specs.Histories.{cell_of, is_of, answer_of, Answered}
 use Rattle.qs_model.specs.Laws.{ReadsOnce}
-use Rattle.qs_model.proofs.Basics.{choose}
+use Rattle.qs_model.proofs.Basics.{choose, either}
+use Rattle.qs_model.proofs.RequestKinds.{other_one, trim_no_read}
+use Rattle.qs_model.proofs.Syncing.{stored_is, synced_is}
 use Rattle.qs_model.proofs.Geometry.{Reaches, covers_low, covers_high, same_eqb}
 use Rattle.qs_model.proofs.Facts.{Shaped, IsBad, IsWhole, Loading, Ok}
 use Rattle.qs_model.proofs.Holders.{HasMoved, some_none}
@@ -52,9 +54,14 @@ module _ (A : ℕ) (x : ℕ) (r : ℕ) (c : Client) (bytes : List ℕ) (pos : 0 
   unfolding routed
   routed_read d k es =
       let P : Step → Type 0 = λ g. stage_read d (In k g) es → es ≡ all_read in
-      choose P (writes d && not d.route.writable) _ _ (λ e h. let f : Refused _ ≡ Got bytes = h.1 in absurd (cc))
-      (λ may. choose P (nat_lt d.route.size (d.ask.offset + d.ask.length)) _ _ (λ e h. let f : Refused _ ≡ Got bytes = h.1 in absurd (cc))
-      (λ in_size. choose P (d.ask.length == 0) _ _ (λ e h. absurd (some_read d h.0 e)) (λ e h. h)))
+      choose P (wants_writable d.ask.kind && not d.route.writable) _ _ (λ e h. let f : Refused _ ≡ Got bytes = h.1 in absurd (cc))
+      (λ may. choose P (is_flush d.ask.kind) _ _ (λ e h. absurd h)
+      (λ sync. choose P (nat_lt d.route.size (d.ask.offset + d.ask.length)) _ _ (λ e h. let f : Refused _ ≡ Got bytes = h.1 in absurd (cc))
+      (λ in_size. choose P (d.ask.length == 0 || is_trim d.ask.kind) _ _ (λ e h. elim (either (d.ask.length == 0)) [
+        | inl none ↦ absurd (some_read d h.0 none)
+        | inr some ↦ let f : success d [] ≡ Fine = ap (λ b. cond b (Got []) Fine) (trim_no_read d.ask.kind (other_one _ _ e some)) in
+        let g : Fine ≡ Got bytes = sym f ∙ h.1 in absurd (cc)
+      ]) (λ e h. h))))
 
   pub held_read : (d : Client) (k : ℕ) (side : Side) (es : List CellEntry) → stage_read d (In k (held A d side)) es → ⊥
   unfolding held
@@ -110,8 +117,10 @@ module _ (A : ℕ) (x : ℕ) (r : ℕ) (c : Client) (bytes : List ℕ) (pos : 0 
   hold_failed_read d k Tail es = choose (λ g. stage_read d (In k g) es → ⊥) (has A d Head) _ _ (λ e h. h) (λ e h. let f : Refused _ ≡ Got bytes = h.1 in cc)
 
   pub stored_read : (d : Client) (k b : ℕ) (es : List CellEntry) → stage_read d (In k (stored A d b)) es → ⊥
-  unfolding stored
-  stored_read d k b es = choose (λ g. stage_read d (In k g) es → ⊥) (b == edge A d Tail) _ _ (λ e h. let f : Fine ≡ Got bytes = h.1 in cc) (λ e h. h)
+  stored_read d k b es = stored_is (λ g. stage_read d (In k g) es → ⊥) A d b (λ e h. let f : Fine ≡ Got bytes = h.1 in cc) (λ e s lt h. h) (λ e h. h)
+
+  pub synced_read : (d : Client) (k s : ℕ) (es : List CellEntry) → stage_read d (In k (synced A d s)) es → ⊥
+  synced_read d k s es = synced_is (λ g. stage_read d (In k g) es → ⊥) A d s (λ h. let f : Fine ≡ Got bytes = h.1 in cc) (λ t lt h. h)
 
   pub store_failed_read : (d : Client) (k b : ℕ) (es : List CellEntry) → stage_read d (In k (store_failed A d b)) es → ⊥
   unfolding store_failed
@@ -134,6 +143,9 @@ module _ (A : ℕ) (x : ℕ) (r : ℕ) (c : Client) (bytes : List ℕ) (pos : 0 
   own_read w d b p (HoldFails {k = k} {side = side}) es fit may h = absurd (hold_failed_read d k side es h.1)
   own_read w d b p (Stores {k = k} {b = n} block past) es fit may h = absurd (stored_read d k n es h.1)
   own_read w d b p (StoreFails {k = k} {b = n} block took past) es fit may h = absurd (store_failed_read d k n es h.1)
+  own_read w d b p (Syncs {k = k} {s = s}) es fit may h = absurd (synced_read d k s es h.1)
+  own_read w d b p (Cleans {k = k} {s = s}) es fit may h = absurd (synced_read d k s es h.1)
+  own_read w d b p SyncFails es fit may h = let f : Refused _ ≡ Got bytes = h.1.1 in absurd (cc)
   own_read w d b p Frees es fit may h = let f : Refused _ ≡ Got bytes = h.1.1 in absurd (cc)
   own_read w d b p Ends es fit may h = absurd h
 

@@ -3,7 +3,7 @@ use Rattle.std.proofs.Common.{◌≡◌, ℕ, ◌<◌, ◌⊎◌, inl, inr, Bool
 use Rattle.qs_cells.specs.declared.cell.CellEntry.{CellEntry}
 use Rattle.qs_cells.specs.declared.cell.CellEntry.TheVariants.{Read, Write, Maybe, Crash}
 use Rattle.qs_model.specs.Requests.{Client, Stage}
-use Rattle.qs_model.specs.Acts.{Act, Answers, Waits, Enters, Routes, Shuts, Lists, Starts, Loads, LoadFails, Holds, HoldFails, Stores, StoreFails, Frees, Ends, Element, Attached, NoExport, Crowded, Left, Detached, NotAttached, Asked, Did, Exported, Planned, Crashed}
+use Rattle.qs_model.specs.Acts.{Act, Answers, Waits, Enters, Routes, Shuts, Lists, Starts, Loads, LoadFails, Holds, HoldFails, Stores, StoreFails, Syncs, Cleans, SyncFails, Frees, Ends, Element, Attached, NoExport, Crowded, Left, Detached, NotAttached, Asked, Did, Exported, Planned, Crashed}
 use Rattle.qs_model.specs.Histories.{Acts, cell_at, cell_of, reads_in, writes_in}
 use Rattle.qs_model.specs.Laws.{Between, ComesBehind, HasSeen, IsNoneOlder, IsRead, NoneOlder, WasAsked}
 
@@ -70,6 +70,9 @@ row_number A x s r v c Starts is = absurd (nothing_never r v is)
 row_number A x s r v c LoadFails is = absurd (nothing_never r v is)
 row_number A x s r v c (Holds bytes) is = absurd (nothing_never r v is)
 row_number A x s r v c HoldFails is = absurd (nothing_never r v is)
+row_number A x s r v c Syncs is = absurd (nothing_never r v is)
+row_number A x s r v c Cleans is = absurd (nothing_never r v is)
+row_number A x s r v c SyncFails is = absurd (nothing_never r v is)
 row_number A x s r v c Frees is = absurd (nothing_never r v is)
 row_number A x s r v c Ends is = absurd (nothing_never r v is)
 

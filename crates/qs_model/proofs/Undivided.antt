@@ -1,7 +1,7 @@
 -- A serialising request is undivided.
 use Rattle.std.proofs.Common.{◌≡◌, ℕ, ◌*◌, ◌<◌, ◌⊎◌, inl, inr, true, List, ◌∷◌, ◌++◌, Option, Some, None, refl, sym, ap, ◌∙◌, subst}
 use Rattle.qs_bytes.specs.Spans.{Covers, aligned_out}
-use Rattle.qs_model.specs.Requests.{Client, Req, Stage, ToRoute, ToList, ToStart, ToLoad, ToHold, ToStore, ToFree, ToEnd, Ready, Entering, In, span_of, serial}
+use Rattle.qs_model.specs.Requests.{Client, Req, Stage, ToRoute, ToList, ToStart, ToLoad, ToHold, ToStore, ToSync, ToFree, ToEnd, Ready, Entering, In, span_of, serial}
 use Rattle.qs_tracker.specs.Table.{TrackerValue}
 use Rattle.qs_model.specs.Worlds.{World}
 use Rattle.qs_model.specs.Acts.{Element, Did}
@@ -16,7 +16,7 @@ use Rattle.qs_model.proofs.Kept.{step_ok, run_ok, runs_front, runs_back}
 use Rattle.qs_model.proofs.Working.{entry_works, work_apart}
 use Rattle.qs_model.proofs.Along.{IsLate, IsLast, Passed, Over, entry_late, late_moves, passed_lasts, over_lasts, last_entry, lasts_run, lasts_step, next_step, next_run}
 
--- a request at its blocks has its place, where it has started, or does its End next
+-- a request at its blocks has its place, where it has started, or is behind them
 pub late_goes : (A : ℕ) (t : TrackerValue) (c : Client) (g : Stage) → IsLate g → Seats A t c g → IsLast g ⊎ ((k : ℕ) × (IsAt g k × Goes A t c k))
 late_goes A t c (Ready v) late seats = absurd late
 late_goes A t c Entering late seats = absurd late
@@ -26,6 +26,7 @@ late_goes A t c (In k ToStart) late seats = absurd late
 late_goes A t c (In k (ToLoad b got)) late seats = inr (k, (refl, seats))
 late_goes A t c (In k (ToHold side)) late seats = inr (k, (refl, seats))
 late_goes A t c (In k (ToStore b)) late seats = inr (k, (refl, seats))
+late_goes A t c (In k (ToSync s)) late seats = inl tt
 late_goes A t c (In k (ToFree side)) late seats = inr (k, (refl, seats))
 late_goes A t c (In k (ToEnd v)) late seats = inl tt
 

@@ -3,11 +3,11 @@ use Rattle.std.proofs.Common.{◌≡◌, ℕ, ◌*◌, ◌<◌, inl, Bool, true,
 use Rattle.qs_bytes.specs.Spans.{Places, Covers, aligned_out}
 use Rattle.qs_part.specs.declared.stripe.Side.{Side}
 use Rattle.qs_part.specs.declared.stripe.Side.TheVariants.{Head, Tail}
-use Rattle.qs_model.specs.Requests.{Client, Req, Step, Stage, ToRoute, ToList, ToStart, ToLoad, ToHold, ToStore, ToFree, ToEnd, Ready, Entering, In, edge, has, span_of, serial, writes}
+use Rattle.qs_model.specs.Requests.{Client, Req, Step, Stage, ToRoute, ToList, ToStart, ToLoad, ToHold, ToStore, ToSync, ToFree, ToEnd, Ready, Entering, In, edge, has, span_of, serial, writes}
 use Rattle.qs_tracker.specs.Table.{TrackerValue}
 use Rattle.qs_tracker.proofs.Sound.{Sound as TrackerSound, goes_apart}
 use Rattle.qs_model.specs.Worlds.{Hold, World}
-use Rattle.qs_model.specs.Acts.{Act, Answers, Waits, Enters, Routes, Shuts, Lists, Starts, Loads, LoadFails, Holds, HoldFails, Stores, StoreFails, Frees, Ends, block_of}
+use Rattle.qs_model.specs.Acts.{Act, Answers, Waits, Enters, Routes, Shuts, Lists, Starts, Loads, LoadFails, Holds, HoldFails, Stores, StoreFails, Syncs, Cleans, SyncFails, Frees, Ends, block_of}
 use Rattle.qs_model.proofs.Geometry.{Reaches, reaches_edge, reached_outward, has_serial}
 use Rattle.qs_model.proofs.Facts.{Sound, Shaped, Goes, Seats, IsHolder, IsAt, Well, Owner, Ok}
 use Rattle.qs_model.proofs.Holders.{some_none}
@@ -49,6 +49,9 @@ entry_works A t c (StoreFails {k = k} {b = n} bytes took past) b pos fit sits is
     (k, same_block A t c (In k (ToStore n)) k n b is (record { at = refl; goes = sits; sound = fit.sound; reach = fit.reach }))
 entry_works A t c (Frees {k = k} {side = side}) b pos fit sits is =
     (k, same_block A t c (In k (ToFree side)) k (edge A c side) b is (record { at = refl; goes = sits; sound = fit.sound; reach = reaches_edge A c side pos fit.sound.some }))
+entry_works A t c Syncs b pos fit sits is = absurd (some_none (sym is))
+entry_works A t c Cleans b pos fit sits is = absurd (some_none (sym is))
+entry_works A t c SyncFails b pos fit sits is = absurd (some_none (sym is))
 entry_works A t c Ends b pos fit sits is = absurd (some_none (sym is))
 
 -- who has an open hold works on its block, and is serialising
@@ -85,6 +88,7 @@ holder_opens A t c (In k (ToFree Head)) j Head b pos fit sits is = opens_at A t 
 holder_opens A t c (In k (ToFree Head)) j Tail b pos fit sits is = absurd is.1
 holder_opens A t c (In k (ToFree Tail)) j Head b pos fit sits is = absurd is.1
 holder_opens A t c (In k (ToFree Tail)) j Tail b pos fit sits is = opens_at A t c k (ToFree Tail) j Tail b pos is.0 is.2 sits fit.sound fit.writing fit.wanted
+holder_opens A t c (In k (ToSync s)) j side b pos fit sits is = absurd is.1
 holder_opens A t c (In k (ToEnd v)) j side b pos fit sits is = absurd is.1
 
 pub is_true : (b : Bool) → b ≡ true → IsTrue b

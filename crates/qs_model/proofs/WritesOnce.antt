@@ -1,5 +1,5 @@
 -- A READ that is Got has read each byte once, a write that is Fine has written each once.
-use Rattle.std.proofs.Common.{◌≡◌, ℕ, ◌+◌, ◌/◌, ◌<◌, ◌≤◌, Bool, true, false, not, ◌&&◌, ◌==◌, cond, nat_lt, List, [], ◌∷◌, ◌++◌, Some, None, refl, sym, ap, subst, arith, true≢false, eq-eqb}
+use Rattle.std.proofs.Common.{◌≡◌, ℕ, ◌+◌, ◌/◌, ◌<◌, ◌≤◌, Bool, true, false, not, ◌&&◌, ◌||◌, ◌==◌, inl, inr, ◌∙◌, cond, nat_lt, List, [], ◌∷◌, ◌++◌, Some, None, refl, sym, ap, subst, arith, true≢false, eq-eqb}
 use Rattle.std.specs.List.{filter}
 use Rattle.qs_cells.specs.declared.cell.CellEntry.{CellEntry}
 use Rattle.qs_cells.specs.declared.cell.CellEntry.TheVariants.{Write}
@@ -7,14 +7,16 @@ use Rattle.qs_bytes.specs.declared.ask.Verdict.{Verdict}
 use Rattle.qs_bytes.specs.declared.ask.Verdict.TheVariants.{Got, Fine, Refused, Dropped}
 use Rattle.qs_part.specs.declared.stripe.Side.{Side}
 use Rattle.qs_part.specs.declared.stripe.Side.TheVariants.{Head, Tail}
-use Rattle.qs_model.specs.Requests.{Client, Pads, Req, Step, Stage, ToRoute, ToList, ToStart, ToHold, ToStore, ToEnd, Entering, In, edge, has, span_of, covers, reads, writes, body_at, asked, form_error, routed, held, started, loaded, stored, hold_failed, store_failed}
+use Rattle.qs_model.specs.Requests.{Client, Pads, Req, Step, Stage, ToRoute, ToList, ToStart, ToHold, ToStore, ToSync, ToEnd, Entering, In, edge, has, span_of, covers, reads, writes, wants_writable, is_flush, is_trim, body_at, asked, form_error, routed, held, started, loaded, stored, hold_failed, store_failed, synced}
 use Rattle.qs_model.specs.Worlds.{World}
-use Rattle.qs_model.specs.Acts.{Act, Answers, Waits, Enters, Routes, Shuts, Lists, Starts, Loads, LoadFails, Holds, HoldFails, Stores, StoreFails, Frees, Ends, Element}
+use Rattle.qs_model.specs.Acts.{Act, Answers, Waits, Enters, Routes, Shuts, Lists, Starts, Loads, LoadFails, Holds, HoldFails, Stores, StoreFails, Syncs, Cleans, SyncFails, Frees, Ends, Element}
 use Rattle.qs_model.specs.Guards.{MayDo}
 use Rattle.qs_model.specs.Steps.{moved, after, Runs}
 use Rattle.qs_model.specs.Histories.{cell_of, is_of, answer_of}
 use Rattle.qs_model.specs.Laws.{WritesOnce}
-use Rattle.qs_model.proofs.Basics.{choose}
+use Rattle.qs_model.proofs.Basics.{choose, either}
+use Rattle.qs_model.proofs.RequestKinds.{other_one, stores_no_flush, stores_no_trim}
+use Rattle.qs_model.proofs.Syncing.{stored_is, synced_is}
 use Rattle.qs_model.proofs.Geometry.{Reaches, covers_low, covers_high, same_eqb}
 use Rattle.qs_model.proofs.Facts.{Shaped, IsBad, Storing, Ok}
 use Rattle.qs_model.proofs.Holders.{HasMoved, some_none}
@@ -23,7 +25,7 @@ use Rattle.qs_model.proofs.Walk.{Plan, due_run}
 use Rattle.qs_model.proofs.Once.{rest_of, join, join_last, place_reached, from_first, entry_here}
 use Rattle.qs_model.proofs.ReadsOnce.{answered_at}
 
-module _ (A : ℕ) (x : ℕ) (r : ℕ) (c : Client) (pos : 0 < A) (covered : covers c x ≡ true) where
+module _ (A : ℕ) (x : ℕ) (r : ℕ) (c : Client) (pos : 0 < A) (writing : writes c ≡ true) (covered : covers c x ≡ true) where
   -- the one entry of a WRITE
   abbrev pub all_write : List CellEntry
   all_write = Write r (body_at c x) ∷ []
@@ -35,6 +37,7 @@ module _ (A : ℕ) (x : ℕ) (r : ℕ) (c : Client) (pos : 0 < A) (covered : cov
   stage_write c' (In k ToStart) es = es ≡ all_write
   stage_write c' (In k (ToHold side)) es = es ≡ all_write
   stage_write c' (In k (ToStore b)) es = (c' ≡ c) × (es ≡ rest_of (x / A) b all_write)
+  stage_write c' (In k (ToSync s)) es = (c' ≡ c) × (es ≡ [])
   stage_write c' (In k (ToEnd v)) es = (c' ≡ c) × (v ≡ Fine) × (es ≡ [])
   stage_write c' _ es = ⊥
 
@@ -50,13 +53,20 @@ module _ (A : ℕ) (x : ℕ) (r : ℕ) (c : Client) (pos : 0 < A) (covered : cov
       let zero' : c.ask.length ≡ 0 = subst (λ (y : Client). y.ask.length ≡ 0) same zero in
       omega arith
 
+  writes_too : (d : Client) → d ≡ c → writes d ≡ true
+  writes_too d same = ap (λ (y : Client). writes y) same ∙ writing
+
   pub routed_write : (d : Client) (k : ℕ) (es : List CellEntry) → stage_write d (In k (routed d)) es → es ≡ all_write
   unfolding routed
   routed_write d k es =
       let P : Step → Type 0 = λ g. stage_write d (In k g) es → es ≡ all_write in
-      choose P (writes d && not d.route.writable) _ _ (λ e h. let f : Refused _ ≡ Fine = h.1 in absurd (cc))
-      (λ may. choose P (nat_lt d.route.size (d.ask.offset + d.ask.length)) _ _ (λ e h. let f : Refused _ ≡ Fine = h.1 in absurd (cc))
-      (λ in_size. choose P (d.ask.length == 0) _ _ (λ e h. absurd (some_write d h.0 e)) (λ e h. h)))
+      choose P (wants_writable d.ask.kind && not d.route.writable) _ _ (λ e h. let f : Refused _ ≡ Fine = h.1 in absurd (cc))
+      (λ may. choose P (is_flush d.ask.kind) _ _ (λ e h. absurd (true≢false (sym e ∙ stores_no_flush d.ask.kind (writes_too d h.0))))
+      (λ sync. choose P (nat_lt d.route.size (d.ask.offset + d.ask.length)) _ _ (λ e h. let f : Refused _ ≡ Fine = h.1 in absurd (cc))
+      (λ in_size. choose P (d.ask.length == 0 || is_trim d.ask.kind) _ _ (λ e h. elim (either (d.ask.length == 0)) [
+        | inl none ↦ absurd (some_write d h.0 none)
+        | inr some ↦ absurd (true≢false (sym (other_one _ _ e some) ∙ stores_no_trim d.ask.kind (writes_too d h.0)))
+      ]) (λ e h. h))))
 
   pub first_write : (d : Client) (es : List CellEntry) → d ≡ c → es ≡ rest_of (x / A) (edge A d Head) all_write → es ≡ all_write
   first_write d es same h = from_first A d x all_write es pos (subst (λ (y : Client). covers y x ≡ true) (sym same) covered) h
@@ -85,15 +95,9 @@ module _ (A : ℕ) (x : ℕ) (r : ℕ) (c : Client) (pos : 0 < A) (covered : cov
 
   pub stored_write : (d : Client) (k b : ℕ) (block : List ℕ) (past : List (List ℕ)) (es : List CellEntry) → Storing A d b → stage_write d (In k (stored A d b)) es →
       stage_write d (In k (ToStore b)) (filter (is_of r) (cell_of A x r d (Stores {k = k} {b = b} block past)) ++ es)
-  unfolding stored
   stored_write d k b block past es s =
       let P : Step → Type 0 = λ g. stage_write d (In k g) es → stage_write d (In k (ToStore b)) (filter (is_of r) (cell_of A x r d (Stores {k = k} {b = b} block past)) ++ es) in
-      choose P (b == edge A d Tail) _ _
-      (λ e h.
-      let last : b ≡ edge A d Tail = same_eqb b (edge A d Tail) e in
-      let reach : Reaches A d (x / A) = place_reached A d x pos (own h.0) in
-      let le : x / A ≤ edge A d Tail = reach.last in
-      (h.0, join (x / A) b _ all_write es (entry h.0) (join_last (x / A) b all_write es (omega arith) h.2)))
+      stored_is P A d b (λ e h. final e h.0 h.2) (λ e s lt h. final e h.0 h.1)
       (λ e h. (h.0, join (x / A) b _ all_write es (entry h.0) h.1))
     where
       own : d ≡ c → covers d x ≡ true
@@ -104,10 +108,21 @@ module _ (A : ℕ) (x : ℕ) (r : ℕ) (c : Client) (pos : 0 < A) (covered : cov
           entry_here r _ _ (writes d) (covers d x) (x / A == b) s.writing (own same) (eq-eqb r r refl)
           (λ e. ap (λ (y : Client). Write r (body_at y x)) same)
 
+      final : (b == edge A d Tail) ≡ true → d ≡ c → es ≡ [] →
+          stage_write d (In k (ToStore b)) (filter (is_of r) (cell_of A x r d (Stores {k = k} {b = b} block past)) ++ es)
+      final e same none =
+          let at : b ≡ edge A d Tail = same_eqb b (edge A d Tail) e in
+          let reach : Reaches A d (x / A) = place_reached A d x pos (own same) in
+          let le : x / A ≤ edge A d Tail = reach.last in
+          (same, join (x / A) b _ all_write es (entry same) (join_last (x / A) b all_write es (omega arith) none))
+
   pub store_failed_write : (d : Client) (k b : ℕ) (es : List CellEntry) → stage_write d (In k (store_failed A d b)) es → ⊥
   unfolding store_failed
   store_failed_write d k b es =
       choose (λ g. stage_write d (In k g) es → ⊥) (has A d Tail && not (b == edge A d Tail)) _ _ (λ e h. h) (λ e h. let f : Refused _ ≡ Fine = h.1 in cc)
+
+  pub synced_write : (d : Client) (k s : ℕ) (es : List CellEntry) → stage_write d (In k (synced A d s)) es → stage_write d (In k (ToSync s)) es
+  synced_write d k s es = synced_is (λ g. stage_write d (In k g) es → stage_write d (In k (ToSync s)) es) A d s (λ h. (h.0, h.2)) (λ t lt h. h)
 
   pub own_write : (w : World) (d : Client) (b : Bool) (p : Pads) {stage : Stage} (act : Act stage) (es : List CellEntry) → Shaped A d stage → MayDo A w d p act →
       HasMoved (λ q. due_write q es) (moved A d b p act) →
@@ -125,6 +140,9 @@ module _ (A : ℕ) (x : ℕ) (r : ℕ) (c : Client) (pos : 0 < A) (covered : cov
   own_write w d b p (HoldFails {k = k} {side = side}) es fit may h = absurd (hold_failed_write d k side es h.1)
   own_write w d b p (Stores {k = k} {b = n} block past) es fit may h = (h.0, stored_write d k n block past es fit h.1)
   own_write w d b p (StoreFails {k = k} {b = n} block took past) es fit may h = absurd (store_failed_write d k n es h.1)
+  own_write w d b p (Syncs {k = k} {s = s}) es fit may h = (h.0, synced_write d k s es h.1)
+  own_write w d b p (Cleans {k = k} {s = s}) es fit may h = (h.0, synced_write d k s es h.1)
+  own_write w d b p SyncFails es fit may h = let f : Refused _ ≡ Fine = h.1.1 in absurd (cc)
   own_write w d b p Frees es fit may h = let f : Refused _ ≡ Fine = h.1.1 in absurd (cc)
   own_write w d b p Ends es fit may h = absurd h
 
@@ -159,8 +177,8 @@ module _ (A : ℕ) (x : ℕ) (r : ℕ) (c : Client) (pos : 0 < A) (covered : cov
 
 -- the law
 pub writes_once : (A : ℕ) (w : World) (es : List Element) → 0 < A → Ok A w → ((r : ℕ) → w.req r ≡ None) → w.next ≡ 0 → Runs A w es → WritesOnce A es
-writes_once A w es pos ok none zero run r c before e at answer x covered =
+writes_once A w es pos ok none zero run r c before e at answer writing x covered =
     let (front, may) = split_run A w es before e run at in
     let (q, act, (is, client, answer', fit)) = answered_at A (after A w before) r c Fine e (run_ok A w before pos ok front) may answer in
-    (due_run A x r (due_write A x r c pos covered) (all_write A x r c pos covered) w before q (plan_write A x r c pos covered) pos ok front is
-    (end_write A x r c pos covered q.client q.dropped q.pads act fit client answer')).unmade (none r) (omega arith)
+    (due_run A x r (due_write A x r c pos writing covered) (all_write A x r c pos writing covered) w before q (plan_write A x r c pos writing covered) pos ok front is
+    (end_write A x r c pos writing covered q.client q.dropped q.pads act fit client answer')).unmade (none r) (omega arith)

@@ -6,7 +6,7 @@ use Rattle.qs_part.specs.declared.graph.ExportInfo.{ExportInfo}
 use Rattle.qs_part.specs.declared.graph.GraphOp.{GraphOp}
 use Rattle.qs_part.specs.declared.graph.Route.{Route}
 use Rattle.qs_part.specs.declared.stripe.Side.{Side}
-use Rattle.qs_model.specs.Requests.{Client, Req, Stage, ToRoute, ToList, ToStart, ToLoad, ToHold, ToStore, ToFree, ToEnd, Ready, Entering, In, edge}
+use Rattle.qs_model.specs.Requests.{Client, Req, Stage, ToRoute, ToList, ToStart, ToLoad, ToHold, ToStore, ToSync, ToFree, ToEnd, Ready, Entering, In, edge}
 
 -- an answer that isn't in the request table: the request stays where it is
 pub data Wait : Type 0 where
@@ -35,6 +35,9 @@ pub data Act : Stage → Type 0 where
   HoldFails : {k : ℕ} {side : Side} → Act (In k (ToHold side))
   Stores : {k b : ℕ} → (bytes : List ℕ) (past : List (List ℕ)) → Act (In k (ToStore b))
   StoreFails : {k b : ℕ} → (bytes : List ℕ) (took : Bool) (past : List (List ℕ)) → Act (In k (ToStore b))
+  Syncs : {k s : ℕ} → Act (In k (ToSync s))
+  Cleans : {k s : ℕ} → Act (In k (ToSync s))
+  SyncFails : {k s : ℕ} → Act (In k (ToSync s))
   Frees : {k : ℕ} {side : Side} → Act (In k (ToFree side))
   Ends : {k : ℕ} {v : Verdict} → Act (In k (ToEnd v))
 

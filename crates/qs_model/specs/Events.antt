@@ -4,9 +4,9 @@ use Rattle.qs_part.specs.declared.event.Actor.TheVariants.{Session as ASession, 
 use Rattle.qs_part.specs.declared.event.Event.{Event}
 use Rattle.qs_part.specs.declared.event.Event.TheVariants.{Attach, Leave, Ask as AskEvent, Step as StepEvent}
 use Rattle.qs_part.specs.declared.event.OpKind.{OpKind}
-use Rattle.qs_part.specs.declared.event.OpKind.TheVariants.{Enter, List as ListOp, Start, End, Load, Hold as HoldOp, Store, Free, Detach, Route as RouteOp}
+use Rattle.qs_part.specs.declared.event.OpKind.TheVariants.{Enter, List as ListOp, Start, End, Load, Hold as HoldOp, Store, Free, Sync, Detach, Route as RouteOp}
 use Rattle.qs_part.specs.declared.event.StripeNote.{StripeNote}
-use Rattle.qs_part.specs.declared.event.StripeNote.TheVariants.{Filled, Fault, HeldBy as HeldByNote, Taken as TakenNote, Done, Freed, NotHeld as NotHeldNote}
+use Rattle.qs_part.specs.declared.event.StripeNote.TheVariants.{Filled, Fault, HeldBy as HeldByNote, Taken as TakenNote, Done, Freed, NotHeld as NotHeldNote, Clean, Synced}
 use Rattle.qs_part.specs.declared.event.NoteReply.TheVariants.{Tracker as OfTracker, Graph as OfGraph, Stripe as OfStripe}
 use Rattle.qs_part.specs.declared.event.Note.{Note}
 use Rattle.qs_part.specs.declared.event.Outcome.{Outcome}
@@ -15,10 +15,10 @@ use Rattle.qs_part.specs.declared.tracker.TrackerReply.{TrackerReply}
 use Rattle.qs_part.specs.declared.tracker.TrackerReply.TheVariants.{Entered, Quiesced as QuiescedReply, Full as FullReply, Listed, Strange as StrangeReply, Started, NotYet as NotYetReply, Ended}
 use Rattle.qs_part.specs.declared.event.GraphNote.{GraphNote}
 use Rattle.qs_part.specs.declared.event.GraphNote.TheVariants.{NotAttached as NotAttachedNote, Detached as DetachedNote, Shutting, Routed}
-use Rattle.qs_model.specs.Requests.{Client, Stage, ToList, ToStart, ToHold, ToStore, ToFree, ToEnd, Entering, In, edge, writes, verdict}
-use Rattle.qs_model.specs.Acts.{Act, Answers, Waits, Enters, Routes, Shuts, Lists, Starts, Loads, LoadFails, Holds, HoldFails, Stores, StoreFails, Frees, Ends, Wait, Quiesced, Full, NotYet, HeldBy, Taken, Strange, NotHeld, Element, Attached, NoExport, Crowded, Left, Detached, NotAttached, Asked, Did}
+use Rattle.qs_model.specs.Requests.{Client, Stage, ToList, ToStart, ToHold, ToStore, ToFree, ToEnd, Entering, In, brings_bytes, edge, verdict, wants_buffers}
+use Rattle.qs_model.specs.Acts.{Act, Answers, Waits, Enters, Routes, Shuts, Lists, Starts, Loads, LoadFails, Holds, HoldFails, Stores, StoreFails, Syncs, Cleans, SyncFails, Frees, Ends, Wait, Quiesced, Full, NotYet, HeldBy, Taken, Strange, NotHeld, Element, Attached, NoExport, Crowded, Left, Detached, NotAttached, Asked, Did}
 
--- one operation, the block that it stands on, and its answer
+-- one operation, the block or the stripe that it stands on, and its answer
 abbrev pub tracker_note : OpKind → TrackerReply → Option Note
 tracker_note kind reply = Some (record { kind = kind; at = None; reply = OfTracker reply })
 
@@ -26,7 +26,7 @@ abbrev pub graph_note : OpKind → GraphNote → Option Note
 graph_note kind reply = Some (record { kind = kind; at = None; reply = OfGraph reply })
 
 abbrev pub stripe_note : OpKind → ℕ → StripeNote → Option Note
-stripe_note kind b reply = Some (record { kind = kind; at = Some b; reply = OfStripe reply })
+stripe_note kind at reply = Some (record { kind = kind; at = Some at; reply = OfStripe reply })
 
 -- the notes of the answers that leave a request where it is; None where such an answer never comes
 abbrev pub wait_note : ℕ → Client → Stage → Wait → Option Note
@@ -57,6 +57,9 @@ note_of A c (Holds {side = side} bytes) = stripe_note HoldOp (edge A c side) Fil
 note_of A c (HoldFails {side = side}) = stripe_note HoldOp (edge A c side) Fault
 note_of A c (Stores {b = b} bytes past) = stripe_note Store b Done
 note_of A c (StoreFails {b = b} bytes took past) = stripe_note Store b Fault
+note_of A c (Syncs {s = s}) = stripe_note Sync s Synced
+note_of A c (Cleans {s = s}) = stripe_note Sync s Clean
+note_of A c (SyncFails {s = s}) = stripe_note Sync s Fault
 note_of A c (Frees {side = side}) = stripe_note Free (edge A c side) Freed
 note_of A c Ends = tracker_note End Ended
 
@@ -84,7 +87,7 @@ outcome_of A _ = None
 
 -- no buffer is wanted, or it was refused; the request has no bytes
 pub record HasNone (c : Client) : Type 0 where
-  pub wanted : (c.ask.length ≡ 0) ⊎ (c.buffered ≡ false)
+  pub wanted : (wants_buffers c.ask ≡ false) ⊎ (c.buffered ≡ false)
   pub empty : c.body ≡ []
 
 -- The body that came with an Ask: none where a buffer was refused or none is wanted, else a WRITE's
@@ -92,7 +95,7 @@ pub record HasNone (c : Client) : Type 0 where
 abbrev pub Brings : Option (List ℕ) → Client → Type 0
 Brings None c = HasNone c
 Brings (Some body) c =
-    ((length body ≡ c.ask.length) × (writes c ≡ true → body ≡ c.body)) ⊎ ((length body ≢ c.ask.length) × HasNone c)
+    ((length body ≡ c.ask.length) × (brings_bytes c.ask.kind ≡ true → body ≡ c.body)) ⊎ ((length body ≢ c.ask.length) × HasNone c)
 
 -- the event that a step answers; the clock's reading of a Step is free where no group is asked
 abbrev pub IsEvent : Event → Element → Type 0

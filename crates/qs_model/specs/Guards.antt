@@ -10,10 +10,10 @@ use Rattle.qs_part.specs.declared.tracker.TrackerOp.TheVariants.{Enter, List as 
 use Rattle.qs_part.specs.declared.tracker.TrackerReply.TheVariants.{Entered, Quiesced as QuiescedReply, Full as FullReply, Listed, Strange as StrangeReply, Started, NotYet as NotYetReply, Ended}
 use Rattle.qs_graph.specs.Table.{May as GraphMay}
 use Rattle.qs_tracker.specs.Table.{May as TrackerMay}
-use Rattle.qs_model.specs.Requests.{Client, Pads, Req, Stage, ToList, ToStart, ToHold, ToStore, ToFree, ToEnd, Entering, In, edge, merged_at, no_route, serial, span_of, writes}
+use Rattle.qs_model.specs.Requests.{Client, Pads, Req, Stage, ToList, ToStart, ToHold, ToStore, ToFree, ToEnd, Entering, In, brings_bytes, edge, merged_at, no_route, serial, span_of, wants_buffers}
 use Rattle.qs_model.specs.Worlds.{Hold, Image, Away, Live, Leaving, World}
 use Rattle.qs_bytes.specs.Geometry.{stripe_of}
-use Rattle.qs_model.specs.Acts.{Act, Answers, Waits, Enters, Routes, Shuts, Lists, Starts, Loads, LoadFails, Holds, HoldFails, Stores, StoreFails, Frees, Ends, Wait, Quiesced, Full, NotYet, HeldBy, Taken, Strange, NotHeld, Element, Attached, NoExport, Crowded, Left, Detached, NotAttached, Asked, Did, Exported, Planned, Crashed}
+use Rattle.qs_model.specs.Acts.{Act, Answers, Waits, Enters, Routes, Shuts, Lists, Starts, Loads, LoadFails, Holds, HoldFails, Stores, StoreFails, Syncs, Cleans, SyncFails, Frees, Ends, Wait, Quiesced, Full, NotYet, HeldBy, Taken, Strange, NotHeld, Element, Attached, NoExport, Crowded, Left, Detached, NotAttached, Asked, Did, Exported, Planned, Crashed}
 
 -- what the tracker is asked to list for a request: the whole blocks that its span reaches
 abbrev pub list_op : ℕ → Client → ℕ → TrackerOp
@@ -76,21 +76,23 @@ MayDo A w c p (Stores {k = k} {b = b} bytes past) =
     CanStore A w.image k c p b bytes past × MayKeep w b bytes past × ((w.plans (stripe_of b)).store ≡ None)
 MayDo A w c p (StoreFails {k = k} {b = b} bytes took past) =
     CanStore A w.image k c p b bytes past × MayKeep w b (if took then bytes else w.image.now b) past
+MayDo A w c p (Syncs {s = s}) = (w.image.clean s ≡ false) × ((w.plans s).sync ≡ false)
+MayDo A w c p (Cleans {s = s}) = w.image.clean s ≡ true
+MayDo A w c p (SyncFails {s = s}) = w.image.clean s ≡ false
 MayDo A w c p (Frees {k = k} {side = side}) = (h : Hold) × ((w.image.holder (edge A c side) ≡ Some h) × (h.place ≡ k))
 MayDo A w c p (Ends {k = k}) = TrackerMay w.tracker (End k) Ended
 
--- A request is made for a session that is attached. It has no way yet; a READ or WRITE of no length
--- wants no buffer; a WRITE has the bytes that it announced, or none where its buffers were refused, and no other
--- request has any.
+-- A request is made for a session that is attached. It has no way yet; one that wants no buffer was refused none; a WRITE
+-- has the bytes that it announced, or none where its buffers were refused, and no other request has any.
 pub record CanAsk (w : World) (r : ℕ) (c : Client) : Type 0 where
   pub next : r ≡ w.next
   pub room : r < 2 ^ 64 - 1
   pub live : w.session c.session ≡ Live c.export
   pub unrouted : c.route ≡ no_route
-  pub buffered : c.ask.length ≡ 0 → c.buffered ≡ true
-  pub body : writes c ≡ true → c.buffered ≡ true → length c.body ≡ c.ask.length
-  pub refused : writes c ≡ true → c.buffered ≡ false → (c.body ≡ []) ⊎ (length c.body ≡ c.ask.length)
-  pub other : writes c ≡ false → c.body ≡ []
+  pub buffered : wants_buffers c.ask ≡ false → c.buffered ≡ true
+  pub body : brings_bytes c.ask.kind ≡ true → c.buffered ≡ true → length c.body ≡ c.ask.length
+  pub refused : brings_bytes c.ask.kind ≡ true → c.buffered ≡ false → (c.body ≡ []) ⊎ (length c.body ≡ c.ask.length)
+  pub other : brings_bytes c.ask.kind ≡ false → c.body ≡ []
 
 -- a request of this session is still there
 abbrev pub HasRequest : World → ℕ → Type 0

@@ -13,7 +13,7 @@ use Rattle.qs_tracker.specs.declared.seat.Seat.TheVariants.{Vacant}
 use Rattle.qs_tracker.specs.Seats.{Conflict, seat_at}
 use Rattle.qs_tracker.specs.Table.{TrackerValue, May as TrackerMay}
 use Rattle.qs_tracker.specs.History.{Goes, IsLowest}
-use Rattle.qs_model.specs.Requests.{Client, Req, Step, In, span_of, covers, serial, body_at}
+use Rattle.qs_model.specs.Requests.{Client, Req, Step, In, span_of, covers, serial, body_at, writes}
 use Rattle.qs_model.specs.Worlds.{World, Opening, byte_at, new_world}
 use Rattle.qs_model.specs.Acts.{Element, Asked, Did, Exported, Planned, Crashed}
 use Rattle.qs_model.specs.Steps.{after}
@@ -86,7 +86,7 @@ pub record ReadsOnce (A : ℕ) (es : List Element) : Type 0 where
 -- A write that is Fine has written each byte that it covers exactly once, and no disk refused it.
 abbrev pub WritesOnce : ℕ → List Element → Type 0
 WritesOnce A es = (r : ℕ) (c : Client) (before : List Element) (e : Element) → ComesBehind before e es →
-    Answered r c Fine e → (x : ℕ) → covers c x ≡ true → entries A x r before ≡ Write r (body_at c x) ∷ []
+    Answered r c Fine e → writes c ≡ true → (x : ℕ) → covers c x ≡ true → entries A x r before ≡ Write r (body_at c x) ∷ []
 
 -- Between two block entries of a serialising request no block entry of another stands on a block of
 -- its span aligned outward.

@@ -11,10 +11,10 @@ use Rattle.qs_part.specs.declared.tracker.TrackerReply.TheVariants.{Entered, Lis
 use Rattle.qs_graph.specs.Table.{after as graph_after}
 use Rattle.qs_tracker.specs.Table.{TrackerValue, after as tracker_after}
 use Rattle.qs_model.specs.Puts.{put, without}
-use Rattle.qs_model.specs.Requests.{Client, Pads, Req, Stage, ToRoute, ToStart, ToEnd, In, edge, keep, asked, routed, started, loaded, held, hold_failed, stored, store_failed, abandon}
+use Rattle.qs_model.specs.Requests.{Client, Pads, Req, Stage, ToRoute, ToStart, ToEnd, In, edge, keep, asked, routed, started, loaded, held, hold_failed, stored, store_failed, synced, abandon}
 use Rattle.qs_model.specs.Worlds.{Image, Away, Live, Leaving, World, Opening, new_world}
 use Rattle.qs_bytes.specs.Geometry.{stripe_of}
-use Rattle.qs_model.specs.Acts.{Act, Answers, Waits, Enters, Routes, Shuts, Lists, Starts, Loads, LoadFails, Holds, HoldFails, Stores, StoreFails, Frees, Ends, Element, Attached, NoExport, Crowded, Left, Detached, NotAttached, Asked, Did, Exported, Planned, Crashed}
+use Rattle.qs_model.specs.Acts.{Act, Answers, Waits, Enters, Routes, Shuts, Lists, Starts, Loads, LoadFails, Holds, HoldFails, Stores, StoreFails, Syncs, Cleans, SyncFails, Frees, Ends, Element, Attached, NoExport, Crowded, Left, Detached, NotAttached, Asked, Did, Exported, Planned, Crashed}
 use Rattle.qs_model.specs.Guards.{list_op, May}
 
 abbrev pub request : Client → Bool → Pads → Stage → Option Req
@@ -35,6 +35,9 @@ moved A c d p (Holds {k = k} {side = side} bytes) = request c d (keep p side byt
 moved A c d p (HoldFails {k = k} {side = side}) = request c d p (In k (hold_failed A c side))
 moved A c d p (Stores {k = k} {b = b} bytes past) = request c d p (In k (stored A c b))
 moved A c d p (StoreFails {k = k} {b = b} bytes took past) = request c d p (In k (store_failed A c b))
+moved A c d p (Syncs {k = k} {s = s}) = request c d p (In k (synced A c s))
+moved A c d p (Cleans {k = k} {s = s}) = request c d p (In k (synced A c s))
+moved A c d p (SyncFails {k = k}) = request c d p (In k (ToEnd (Refused Io)))
 moved A c d p (Frees {k = k}) = request c d p (In k (ToEnd (Refused Io)))
 moved A c d p Ends = None
 
@@ -55,21 +58,32 @@ written i b now past = record {
   clean = put i.clean (stripe_of b) false;
 }
 
+-- a stripe was synced: a crash leaves what its blocks hold now
+abbrev pub settled : Image → ℕ → Image
+settled i s = record i {
+  past = λ b. if stripe_of b == s then i.now b ∷ [] else i.past b;
+  clean = put i.clean s true;
+}
+
 -- the image after a row of the request table
 abbrev pub imaged : ℕ → Image → Client → {stage : Stage} → Act stage → Image
 imaged A i c (Holds {k = k} {side = side} bytes) =
     record i { holder = put i.holder (edge A c side) (Some (record { place = k; side = side })) }
 imaged A i c (Stores {b = b} bytes past) = written i b bytes past
 imaged A i c (StoreFails {b = b} bytes took past) = written i b (if took then bytes else i.now b) past
+imaged A i c (Syncs {s = s}) = settled i s
 imaged A i c (Frees {side = side}) = record i { holder = put i.holder (edge A c side) None }
 imaged A i c _ = i
 
--- a load of a block spends the plan of its kind, and so does a store
+-- a load of a block spends the plan of its kind, and so do a store and a sync
 abbrev pub load_done : (ℕ → Plans) → ℕ → (ℕ → Plans)
 load_done plans b = put plans (stripe_of b) (record (plans (stripe_of b)) { load = false })
 
 abbrev pub store_done : (ℕ → Plans) → ℕ → (ℕ → Plans)
 store_done plans b = put plans (stripe_of b) (record (plans (stripe_of b)) { store = None })
+
+abbrev pub sync_done : (ℕ → Plans) → ℕ → (ℕ → Plans)
+sync_done plans s = put plans s (record (plans s) { sync = false })
 
 -- the plans after a row of the request table
 abbrev pub spent : ℕ → (ℕ → Plans) → Client → {stage : Stage} → Act stage → (ℕ → Plans)
@@ -79,6 +93,8 @@ spent A plans c (Holds {side = side} bytes) = load_done plans (edge A c side)
 spent A plans c (HoldFails {side = side}) = load_done plans (edge A c side)
 spent A plans c (Stores {b = b} bytes past) = store_done plans b
 spent A plans c (StoreFails {b = b} bytes took past) = store_done plans b
+spent A plans c (Syncs {s = s}) = sync_done plans s
+spent A plans c (SyncFails {s = s}) = sync_done plans s
 spent A plans c _ = plans
 
 -- each request of a session that leaves is abandoned
