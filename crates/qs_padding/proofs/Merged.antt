@@ -1,9 +1,10 @@
 -- A block after a span's bytes were written over it.
-use Rattle.std.proofs.Common.{◌≡◌, ℕ, ◌+◌, ◌-◌, ◌^◌, ◌<◌, ◌≤◌, List, ◌++◌, length, take, drop, get_or, Bool, true, false, cond, refl, sym, ◌∙◌, ap, arith, append_assoc}
+use Rattle.std.proofs.Common.{◌≡◌, ℕ, ◌+◌, ◌-◌, ◌^◌, ◌<◌, ◌≤◌, inl, inr, List, [], ◌++◌, replicate, length, take, drop, get_or, Bool, true, false, cond, refl, sym, ◌∙◌, ap, arith, append_assoc}
 use Rattle.std.specs.Prelude.{nat_le, nat_lt, ◌&&◌, min, max}
 use Rattle.std.specs.List.{between}
 use Rattle.std.proofs.lemmas.Bool.Decides.{nat_tests}
-use Rattle.std.proofs.lemmas.List.{drop-drop}
+use Rattle.std.proofs.lemmas.Bool.{cases_lt}
+use Rattle.std.proofs.lemmas.List.{drop-drop, drop-replicate, take-replicate, get_or-replicate, get_or_past, length-replicate}
 use Rattle.std.proofs.lemmas.List.Edits.{length-between, get_or-between}
 use borrow.Rule.Slice.PartMut.{put_mid}
 use Rattle.qs_bytes.specs.Pieces.{overlay}
@@ -103,3 +104,31 @@ merged_block s old bytes copied lo hi product start from to i low high small beg
     (is_overlay (from - start) (to - start - (from - start)) old copied long ∙ ap (λ (xs : List ℕ). overlay old (from - start) xs) piece)
     ∙ merged s old bytes start from to i whole from_is to_is some inside
     ∙ ap (λ (k : ℕ). merged_at s bytes (k + i) (get_or old i 0)) begin
+
+-- a span's bytes where all of them are zero
+abbrev pub zeros : ℕ → List ℕ
+zeros n = replicate n 0
+
+-- zeros have the same byte at each place as no bytes
+pub merged_zeros : (s : Places) (n x old : ℕ) → merged_at s (zeros n) x old ≡ merged_at s [] x old
+merged_zeros s n x old = ap (λ (v : ℕ). cond (nat_le s.lo x && nat_lt x s.hi) v old) (zero_at n (x - s.lo))
+  where
+    zero_at : (n k : ℕ) → get_or (zeros n) k 0 ≡ get_or [] k 0
+    zero_at n k = elim (cases_lt k n) [
+      | inl below ↦ get_or-replicate n k 0 0 below
+      | inr past ↦ get_or_past (zeros n) k 0 (omega (arith, length-replicate {A = ℕ} n 0))
+    ]
+
+-- a part of zeros is zeros
+pub between_zeros : (n a b : ℕ) → a ≤ b → b ≤ n → between a b (zeros n) ≡ zeros (b - a)
+between_zeros n a b order inside = ap (λ (xs : List ℕ). take (b - a) xs) (drop-replicate a n 0) ∙ take-replicate (b - a) (n - a) 0 (omega (arith, order, inside))
+
+-- the same for zeros in the place of the span's bytes
+pub cleared_block : (s : Places) (old : List ℕ) (lo hi product start from to n i : ℕ) → lo ≡ s.lo → hi ≡ s.hi → hi < 2 ^ 64 → start ≡ product →
+    s.lo ≤ s.hi → from ≡ max lo start → to ≡ min hi (min (start + length old) (2 ^ 64 - 1)) → from < to → n ≡ to - from → i < length old →
+    get_or (put_mid (from - start) (to - start - (from - start)) old (zeros n)) i 0 ≡ merged_at s [] (product + i) (get_or old i 0)
+cleared_block s old lo hi product start from to n i low high small begin order first final some count inside =
+    merged_block s old (zeros (s.hi - s.lo)) (zeros n) lo hi product start from to i low high small begin
+    (ap (λ (m : ℕ). s.lo + m) (length-replicate {A = ℕ} (s.hi - s.lo) 0) ∙ omega (arith, order)) first final some
+    (ap (λ (m : ℕ). zeros m) (omega (arith, count, first, some)) ∙ sym (between_zeros (s.hi - s.lo) (from - lo) (to - lo) (omega (arith, some)) (omega (arith, final, low, high)))) inside
+    ∙ merged_zeros s (s.hi - s.lo) (product + i) (get_or old i 0)

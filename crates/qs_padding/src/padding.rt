@@ -1,4 +1,4 @@
-ghost use Rattle.std.specs.Prelude.{◌≡◌, ◌≢◌, ◌↔◌, IsTrue, false, ℕ, ◌^◌, ◌+◌, ◌*◌, ◌<◌, ◌≤◌, ◌⊎◌, length};
+ghost use Rattle.std.specs.Prelude.{◌≡◌, ◌≢◌, ◌↔◌, IsTrue, false, ℕ, ◌^◌, ◌+◌, ◌*◌, ◌<◌, ◌≤◌, ◌⊎◌, [], length};
 ghost use Rattle.std.specs.Option.{SomeIff};
 ghost use Rattle.std.specs.List.{slice_index_or};
 ghost use Rattle.qs_bytes.specs.Spans.{aligned_out};
@@ -62,5 +62,24 @@ pub fn merge(block: &mut [u8], b: u64, span: &Span, bytes: &[u8])
     if from < to {
         let piece = &bytes[(from - lo) as usize..(to - lo) as usize];
         block[(from - start) as usize..(to - start) as usize].copy_from_slice(piece);
+    }
+}
+
+/// Writes zeros over the places of block `b` that the span covers; the other bytes of the block stay.
+/// A block has as many bytes as `block`.
+pub fn clear(block: &mut [u8], b: u64, span: &Span)
+    ensures { (i : ℕ) → i < length block.old →
+        slice_index_or block.new i 0 ≡ merged_at span.now [] (b * length block.old + i) (slice_index_or block.old i 0) }
+{
+    let lo = span.lo();
+    let hi = span.hi();
+    let size = block.len() as u64;
+    let Some(start) = b.checked_mul(size) else {
+        return;
+    };
+    let first = lo.max(start);
+    let last = hi.min(start.saturating_add(size));
+    if first < last {
+        block[(first - start) as usize..(last - start) as usize].fill(0);
     }
 }

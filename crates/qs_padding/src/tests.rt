@@ -1,4 +1,4 @@
-use crate::padding::{merge, plan};
+use crate::padding::{clear, merge, plan};
 use qs_bytes::Span;
 use std::test::Fail;
 
@@ -47,6 +47,24 @@ fn covered_bytes_are_merged(rt: HostRuntime) -> Result<(), Fail> {
         let mut block = [0; 4];
         merge(&mut block, b, &span, &[1, 2, 3, 4, 5]);
         assert_eq!(rt; block, merged);
+    }
+    Ok(())
+}
+
+#[test]
+fn covered_bytes_are_cleared(rt: HostRuntime) -> Result<(), Fail> {
+    let span = Span::of(6, 5).ok_or("no span")?;
+    let rows = [
+        (0, [9, 9, 9, 9]),
+        (1, [9, 9, 0, 0]),
+        (2, [0, 0, 0, 9]),
+        (3, [9, 9, 9, 9]),
+        (1 << 62, [9, 9, 9, 9]),
+    ];
+    for (b, cleared) in rows {
+        let mut block = [9; 4];
+        clear(&mut block, b, &span);
+        assert_eq!(rt; block, cleared);
     }
     Ok(())
 }

@@ -19,7 +19,7 @@ use Rattle.qs_request.specs.declared.stage.Step.TheVariants.{Load as LoadNext, E
 use Rattle.qs_request.specs.declared.machine.Machine.{Machine}
 use Rattle.qs_request.specs.Shapes.{IsShape}
 use Rattle.qs_request.specs.Inside.{IsLoading, IsPlaced, HasBuffers, before, client_of, stage_of, step_of, way_of}
-use Rattle.qs_request.specs.Value.{bytes_of}
+use Rattle.qs_request.specs.Value.{bytes_of, wants_body}
 use Rattle.qs_request.proofs.Reached.{some_bytes, reaches, placed, one_more}
 
 -- the kinds by their tests
@@ -118,10 +118,10 @@ same_client m body stage reading =
 module _ (m n : Machine) (b : ℕ) (is : IsShape m.shape) (l : IsLoading m b) (has_buffers : HasBuffers m false)
     (copied : n ≡ record m { body = overlay m.body (before m b) (piece m.shape.align (client_of m) b m.work) }) where
   body_is : length m.body ≡ m.ask.length
-  body_is = has_buffers.body l.reached.going.asked.buffered
+  body_is = has_buffers.body l.reached.going.asked.buffered (ap (λ (k : Kind). wants_body k) l.reading)
 
   work_is : length m.work ≡ m.shape.align
-  work_is = has_buffers.work l.reached.going.asked.buffered (omega (arith, l.reached.going.some)) refl
+  work_is = has_buffers.work l.reached.going.asked.buffered l.reached.going.works refl
 
   pub load_follows : (k : ℕ) (step : Next) → step ≡ cond (b == edge n.shape.align (client_of n) Tail) (EndNext Success) (LoadNext (b + 1)) →
       stage_of (record n { stage = InAt k step }) (InAt k step) ≡ In k (loaded m.shape.align (client_of m) b (take (before m b) m.body) m.work)
@@ -140,7 +140,7 @@ module _ (m n : Machine) (b : ℕ) (is : IsShape m.shape) (l : IsLoading m b) (h
   pub load_buffers : (stage : Stage) → HasBuffers (record n { stage = stage }) false
   load_buffers stage =
       subst (λ (n : Machine). HasBuffers (record n { stage = stage }) false) (sym copied) (record {
-        body = λ _. long_body m b is l body_is work_is;
+        body = λ _ _. long_body m b is l body_is work_is;
         pads = has_buffers.pads;
         work = has_buffers.work;
       })

@@ -6,14 +6,15 @@ use Rattle.qs_bytes.specs.declared.ask.Errno.TheVariants.{Inval, NoMem}
 use Rattle.qs_bytes.specs.declared.ask.Verdict.TheVariants.{Refused}
 use Rattle.qs_bytes.specs.declared.ask.Kind.{Kind}
 use Rattle.qs_bytes.specs.declared.ask.Kind.TheVariants.{Read, Write, Zero, Trim, Flush, Unknown}
-use Rattle.qs_model.specs.Requests.{Client, Pads, Req, Ready, Entering, Stage, asked, form_error, is_read, is_write, no_route}
+use Rattle.qs_model.specs.Requests.{Client, Pads, Req, Ready, Entering, Stage, asked, brings_bytes, form_error, is_read, no_route, stores_bytes, wants_buffers}
+use Rattle.qs_model.proofs.Kept.{kind_of}
 use Rattle.qs_request.specs.declared.shape.Blocks.{Blocks}
 use Rattle.qs_request.specs.declared.stage.Ending.TheVariants.{Failed}
 use Rattle.qs_request.specs.declared.stage.Stage.{Stage as At}
 use Rattle.qs_request.specs.declared.stage.Stage.TheVariants.{Ready as ReadyAt, Entering as EnteringAt}
 use Rattle.qs_request.specs.declared.machine.Machine.{Machine}
 use Rattle.qs_request.specs.Shapes.{IsShape}
-use Rattle.qs_request.specs.Value.{bytes_of, given_bytes, has_buffers, client_for}
+use Rattle.qs_request.specs.Value.{bytes_of, given_bytes, has_buffers, client_for, wants_body}
 use Rattle.qs_request.specs.Inside.{IsFree, IsAtStage, client_of, first_stage, request_of, stage_of}
 
 pub first_is : (m : Machine) (a : Ask) (buffered : Bool) →
@@ -25,21 +26,12 @@ first_is m a buffered = go (form_error a) buffered
     go false true = refl
     go false false = refl
 
--- a form that passes is a READ's or a WRITE's
-pub known : (k : Kind) (x y z : Bool) → not (is_read k || is_write k) || x || y || z ≡ false → (k ≡ Read) ⊎ (k ≡ Write)
-known Read x y z is = inl refl
-known Write x y z is = inr refl
-known Zero x y z is = absurd (true≢false is)
-known Trim x y z is = absurd (true≢false is)
-known Flush x y z is = absurd (true≢false is)
-known (Unknown n) x y z is = absurd (true≢false is)
-
 pub first_stands : (m : Machine) → IsAtStage m (first_stage m.ask m.buffered)
 first_stands m = go (form_error m.ask) m.buffered refl refl
   where
     go : (f d : Bool) → form_error m.ask ≡ f → m.buffered ≡ d → IsAtStage m (cond f (ReadyAt (Failed Inval)) (cond d EnteringAt (ReadyAt (Failed NoMem))))
     go true d e g = tt
-    go false true e g = record { kind = known m.ask.kind _ _ _ e; buffered = g }
+    go false true e g = record { kind = kind_of m.ask e; buffered = g }
     go false false e g = tt
 
 abbrev with_parts : Client → Bool → Pads → Stage → Req
@@ -66,32 +58,60 @@ made_client session ask e body blocks bytes buffered bytes_is buffered_is =
     ap (λ (xs : List ℕ). client_with session ask e xs buffered) bytes_is
     ∙ ap (λ (t : Bool). client_with session ask e (given_bytes body) t) buffered_is
 
-pub given_length : (ask : Ask) (body : Option (List ℕ)) (blocks : Option Blocks) → ForSome body (λ bytes. length bytes ≡ ask.length) →
-    has_buffers ask body blocks ≡ true → length (given_bytes body) ≡ ask.length
-given_length ask None blocks given is = go (ask.length == 0) refl is
-  where
-    go : (t : Bool) → (ask.length == 0) ≡ t → t || (false && is_some blocks) ≡ true → 0 ≡ ask.length
-    go true e f = grind (arith, e)
-    go false e f = absurd (true≢false (sym f))
-given_length ask (Some bytes) blocks given is = given bytes refl
+-- what brings bytes has its own, and another request has none
+pub brought : (k : Kind) (bytes : List ℕ) → brings_bytes k ≡ true → bytes ≡ bytes_of k bytes
+brought Write bytes is = refl
+brought Read bytes is = absurd (true≢false (sym is))
+brought Zero bytes is = absurd (true≢false (sym is))
+brought Trim bytes is = absurd (true≢false (sym is))
+brought Flush bytes is = absurd (true≢false (sym is))
+brought (Unknown n) bytes is = absurd (true≢false (sym is))
 
-pub some_blocks : (ask : Ask) (body : Option (List ℕ)) (blocks : Option Blocks) → 0 < ask.length → has_buffers ask body blocks ≡ true → IsSome blocks
-some_blocks ask body blocks some is = go (ask.length == 0) (is_some body) blocks refl is
+pub unbrought : (k : Kind) (bytes : List ℕ) → brings_bytes k ≡ false → bytes_of k bytes ≡ []
+unbrought Write bytes is = absurd (true≢false is)
+unbrought Read bytes is = refl
+unbrought Zero bytes is = refl
+unbrought Trim bytes is = refl
+unbrought Flush bytes is = refl
+unbrought (Unknown n) bytes is = refl
+
+-- what wants a body reads or stores
+pub body_works : (k : Kind) → wants_body k ≡ true → is_read k || stores_bytes k ≡ true
+body_works Read is = refl
+body_works Write is = refl
+body_works Zero is = absurd (true≢false (sym is))
+body_works Trim is = absurd (true≢false (sym is))
+body_works Flush is = absurd (true≢false (sym is))
+body_works (Unknown n) is = absurd (true≢false (sym is))
+
+pub given_length : (ask : Ask) (body : Option (List ℕ)) (blocks : Option Blocks) → ForSome body (λ bytes. length bytes ≡ ask.length) →
+    has_buffers ask body blocks ≡ true → wants_body ask.kind ≡ true → length (given_bytes body) ≡ ask.length
+given_length ask None blocks given is wants = go (ask.length == 0) (is_read ask.kind || stores_bytes ask.kind) (is_some blocks) (wants_body ask.kind) refl (body_works ask.kind wants) wants is
   where
-    go : (t s : Bool) (given : Option Blocks) → (ask.length == 0) ≡ t → t || (s && is_some given) ≡ true → IsSome given
-    go true s given e f = absurd (grind (arith, e, some))
-    go false true (Some x) e f = refl
-    go false true None e f = absurd (true≢false (sym f))
-    go false false given e f = absurd (true≢false (sym f))
+    go : (t w s b : Bool) → (ask.length == 0) ≡ t → w ≡ true → b ≡ true → not (not t && w) || (s && (false || not b)) ≡ true → 0 ≡ ask.length
+    go true w s b e f g h = grind (arith, e)
+    go false true true true e f g h = absurd (true≢false (sym h))
+    go false true false true e f g h = absurd (true≢false (sym h))
+    go false true s false e f g h = absurd (true≢false (sym g))
+    go false false s b e f g h = absurd (true≢false (sym f))
+given_length ask (Some bytes) blocks given is wants = given bytes refl
+
+pub some_blocks : (ask : Ask) (body : Option (List ℕ)) (blocks : Option Blocks) → wants_buffers ask ≡ true → has_buffers ask body blocks ≡ true → IsSome blocks
+some_blocks ask body blocks wants is = go (wants_buffers ask) _ blocks wants is
+  where
+    go : (t s : Bool) (given : Option Blocks) → t ≡ true → not t || (is_some given && s) ≡ true → IsSome given
+    go true s (Some x) e f = refl
+    go true s None e f = absurd (true≢false (sym f))
+    go false s given e f = absurd (true≢false (sym e))
 
 pub made_free : (m : Machine) → IsShape m.shape → m.waits ≡ false → m.answered ≡ false → m.stage ≡ first_stage m.ask m.buffered →
-    (m.buffered ≡ true → length m.body ≡ m.ask.length) →
-    (m.buffered ≡ true → 0 < m.ask.length → m.pads.align ≡ m.shape.align) →
-    (m.buffered ≡ true → 0 < m.ask.length → length m.work ≡ m.shape.align) → IsFree m
+    (m.buffered ≡ true → wants_body m.ask.kind ≡ true → length m.body ≡ m.ask.length) →
+    (m.buffered ≡ true → wants_buffers m.ask ≡ true → m.pads.align ≡ m.shape.align) →
+    (m.buffered ≡ true → wants_buffers m.ask ≡ true → length m.work ≡ m.shape.align) → IsFree m
 made_free m shape waits answered stage body pads work = record {
   sound = record {
     shape = shape;
-    buffers = record { body = body; pads = pads; work = λ buffered some _. work buffered some };
+    buffers = record { body = body; pads = pads; work = λ buffered wants _. work buffered wants };
     stands = subst (λ (s : At). IsAtStage m s) (sym stage) (first_stands m);
   };
   waits = waits;

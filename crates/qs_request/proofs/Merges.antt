@@ -42,20 +42,17 @@ module _ (m : Machine) (b : ℕ) (is : IsShape m.shape) (s : IsStoring m b) wher
       at_tail false e wanted kept = kept (s.kept Tail wanted)
 
   -- the pad over the block to work in, and the covered bytes merged, is the block's content
-  pub is_merged : (places : Places) (bytes work made pad_bytes : List ℕ) (end : Side) → places ≡ span_of (client_of m) → bytes ≡ m.body → length work ≡ m.shape.align →
+  pub is_merged : (places : Places) (bytes work made pad_bytes : List ℕ) (end : Side) → places ≡ span_of (client_of m) → bytes ≡ bytes_of m.ask.kind m.body → length work ≡ m.shape.align →
       end ≡ cond (b == edge m.shape.align (client_of m) Head) Head Tail → pad_bytes ≡ pad m.pads.pads end →
       ((i : ℕ) → i < length work → get_or made i 0 ≡ merged_place places bytes (b * length work + i) (get_or (cond (length pad_bytes == length work) pad_bytes work) i 0)) →
       IsMerged m.shape.align (client_of m) m.pads.pads b made
   is_merged places bytes work made pad_bytes end same bytes_is whole end_is pad_is merged x below =
       (rw (same, bytes_is, whole, pad_is, end_is) at (merged x (omega (arith, whole, below)))) ∙ choice (covers (client_of m) (b * m.shape.align + x)) refl
     where
-      written : m.body ≡ bytes_of m.ask.kind m.body
-      written = sym (ap (λ (k : Kind). bytes_of k m.body) s.writing)
-
       choice : (t : Bool) → covers (client_of m) (b * m.shape.align + x) ≡ t →
-          cond t (get_or m.body (b * m.shape.align + x - (span_of (client_of m)).lo) 0)
+          cond t (get_or (bytes_of m.ask.kind m.body) (b * m.shape.align + x - (span_of (client_of m)).lo) 0)
           (get_or (cond (length (pad m.pads.pads (cond (b == edge m.shape.align (client_of m) Head) Head Tail)) == m.shape.align)
           (pad m.pads.pads (cond (b == edge m.shape.align (client_of m) Head) Head Tail)) work) x 0)
           ≡ cond t (body_at (client_of m) (b * m.shape.align + x)) (get_or (pad m.pads.pads (cond (b == edge m.shape.align (client_of m) Head) Head Tail)) x 0)
-      choice true e = ap (λ (xs : List ℕ). get_or xs (b * m.shape.align + x - (span_of (client_of m)).lo) 0) written
+      choice true e = refl
       choice false e = ap (λ (xs : List ℕ). get_or xs x 0) (uncovered _ x below e (λ long. kept_pad _ _ work long))

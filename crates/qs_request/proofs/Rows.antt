@@ -3,9 +3,9 @@ use Rattle.std.proofs.Common.{◌≡◌, ℕ, Bool, List, refl, sym, ap}
 use Rattle.qs_part.specs.declared.graph.Route.{Route}
 use Rattle.qs_part.specs.declared.tracker.TrackerReply.TheVariants.{Entered, Quiesced, Full, Listed, Strange, Started, NotYet, Ended}
 use Rattle.qs_part.specs.declared.graph.GraphReply.TheVariants.{Shutting, Routed}
-use Rattle.qs_part.specs.declared.stripe.StripeReply.TheVariants.{Filled, Fault, HeldBy, Taken, Done, Freed, NotHeld}
+use Rattle.qs_part.specs.declared.stripe.StripeReply.TheVariants.{Filled, Fault, HeldBy, Taken, Done, Freed, NotHeld, Clean, Synced}
 use Rattle.qs_model.specs.Requests.{Client, Pads, Req, Stage, In, ToRoute, loaded, held, keep, routed}
-use Rattle.qs_model.specs.Acts.{Act, Waits, Enters, Routes, Shuts, Lists, Starts, Loads, LoadFails, Holds, HoldFails, Stores, StoreFails, Frees, Ends, Wait, Quiesced as WasQuiesced, Full as WasFull, NotYet as WasNotYet, HeldBy as WasHeldBy, Taken as WasTaken, Strange as WasStrange, NotHeld as WasNotHeld}
+use Rattle.qs_model.specs.Acts.{Act, Waits, Enters, Routes, Shuts, Lists, Starts, Loads, LoadFails, Holds, HoldFails, Stores, StoreFails, Syncs, Cleans, SyncFails, Frees, Ends, Wait, Quiesced as WasQuiesced, Full as WasFull, NotYet as WasNotYet, HeldBy as WasHeldBy, Taken as WasTaken, Strange as WasStrange, NotHeld as WasNotHeld}
 use Rattle.qs_model.specs.Steps.{moved}
 use Rattle.qs_model.specs.Histories.{answer_of}
 use Rattle.qs_request.specs.declared.todo.PartReply.{PartReply}
@@ -46,6 +46,9 @@ row_leads A c d p (Holds {k = k} {side = side} bytes) (Stripe (Filled buf)) is =
 row_leads A c d p HoldFails (Stripe (Fault back)) is = refl
 row_leads A c d p (Stores bytes past) (Stripe (Done back)) is = refl
 row_leads A c d p (StoreFails bytes took past) (Stripe (Fault back)) is = refl
+row_leads A c d p Syncs (Stripe Synced) is = refl
+row_leads A c d p Cleans (Stripe Clean) is = refl
+row_leads A c d p SyncFails (Stripe (Fault back)) is = refl
 row_leads A c d p Frees (Stripe Freed) is = refl
 row_leads A c d p Ends (Tracker Ended) is = refl
 row_leads A c d p act reply is = absurd is

@@ -6,21 +6,20 @@ use Rattle.qs_part.specs.declared.stripe.Side.{Side}
 use Rattle.qs_part.specs.declared.tracker.TrackerOp.TheVariants.{Enter, List as ListOp, Start, End}
 use Rattle.qs_part.specs.declared.tracker.TrackerReply.{TrackerReply}
 use Rattle.qs_part.specs.declared.tracker.TrackerReply.TheVariants.{Entered, Quiesced, Full, Listed, Strange, Started, NotYet, Ended}
-use Rattle.qs_part.specs.declared.graph.GraphOp.TheVariants.{Route}
 use Rattle.qs_part.specs.declared.graph.GraphReply.{GraphReply}
 use Rattle.qs_part.specs.declared.graph.GraphReply.TheVariants.{Shutting, Routed}
-use Rattle.qs_part.specs.declared.stripe.StripeOp.TheVariants.{Load, Hold, Store, Free}
+use Rattle.qs_part.specs.declared.stripe.StripeOp.TheVariants.{Load, Hold, Store, Free, Sync}
 use Rattle.qs_part.specs.declared.stripe.StripeReply.{StripeReply}
-use Rattle.qs_part.specs.declared.stripe.StripeReply.TheVariants.{Filled, Fault, HeldBy, Taken, Done, Freed, NotHeld}
-use Rattle.qs_model.specs.Requests.{Client, Pads, Req, Stage, ToRoute, ToList, ToStart, ToLoad, ToHold, ToStore, ToFree, ToEnd, Ready, Entering, In, edge, span_of, serial}
+use Rattle.qs_part.specs.declared.stripe.StripeReply.TheVariants.{Filled, Fault, HeldBy, Taken, Done, Freed, NotHeld, Clean, Synced}
+use Rattle.qs_model.specs.Requests.{Client, Pads, Req, Stage, ToRoute, ToList, ToStart, ToLoad, ToHold, ToStore, ToSync, ToFree, ToEnd, Ready, Entering, In, edge, span_of, serial}
 use Rattle.qs_bytes.specs.Geometry.{stripe_of}
 use Rattle.qs_request.specs.declared.shape.Shape.{Shape}
 use Rattle.qs_request.specs.declared.todo.Todo.{Todo}
-use Rattle.qs_request.specs.declared.todo.Todo.TheVariants.{Tracker, Graph, Stripe, Answer}
+use Rattle.qs_request.specs.declared.todo.Todo.TheVariants.{Tracker, Route, Stripe, Answer}
 use Rattle.qs_request.specs.declared.todo.PartReply.{PartReply}
 use Rattle.qs_request.specs.declared.todo.PartReply.TheVariants.{Tracker as ByTracker, Graph as ByGraph, Stripe as ByStripe}
 use Rattle.qs_request.specs.Table.{WantsAt, Wants, MayTrack, MayRoute, MayStripe, MayAnswer, MayReply}
-use Rattle.qs_request.specs.Operations.{TrackerMay, GraphMay, StripeMay, MayReplyTo}
+use Rattle.qs_request.specs.Operations.{TrackerMay, RouteMay, StripeMay, MayReplyTo}
 
 enter_may : (r : TrackerReply) → TrackerMay Enter r → MayTrack r Entering
 enter_may (Entered k) h = h
@@ -44,10 +43,10 @@ end_may k j v Ended h = h
 end_may k j v Strange h = h
 end_may k j v r h = absurd h
 
-route_may : (shape : Shape) (e j : ℕ) (r : GraphReply) → GraphMay shape (Route e) r → MayRoute shape r (In j ToRoute)
-route_may shape e j (Routed route) h = h
-route_may shape e j Shutting h = h
-route_may shape e j r h = absurd h
+route_may : (shape : Shape) (j : ℕ) (r : GraphReply) → RouteMay shape r → MayRoute shape r (In j ToRoute)
+route_may shape j (Routed route) h = h
+route_may shape j Shutting h = h
+route_may shape j r h = absurd h
 
 load_may : (shape : Shape) (b k j c : ℕ) (buf got : List ℕ) (r : StripeReply) → StripeMay shape (Load b k buf) r → MayStripe shape r (In j (ToLoad c got))
 load_may shape b k j c buf got (Filled back) h = h
@@ -66,6 +65,12 @@ store_may shape b k j c buf (Done back) h = h
 store_may shape b k j c buf (Fault (Some back)) h = h
 store_may shape b k j c buf (HeldBy i back) h = h
 store_may shape b k j c buf r h = absurd h
+
+sync_may : (shape : Shape) (j s : ℕ) (r : StripeReply) → StripeMay shape Sync r → MayStripe shape r (In j (ToSync s))
+sync_may shape j s Clean h = h
+sync_may shape j s Synced h = h
+sync_may shape j s (Fault None) h = h
+sync_may shape j s r h = absurd h
 
 free_may : (shape : Shape) (b k j : ℕ) (side : Side) (r : StripeReply) → StripeMay shape (Free b k) r → MayStripe shape r (In j (ToFree side))
 free_may shape b k j side Freed h = h
@@ -88,8 +93,8 @@ told shape A c p Entering todo reply is may = go reply (subst (λ (t : Todo). Ma
     go r h = absurd h
 told shape A c p (In k ToRoute) todo reply is may = go reply (subst (λ (t : Todo). MayReplyTo shape t reply) is may)
   where
-    go : (r : PartReply) → MayReplyTo shape (Graph (Route c.export)) r → MayAnswer shape (In k ToRoute) r
-    go (ByGraph r) h = route_may shape c.export k r h
+    go : (r : PartReply) → MayReplyTo shape (Route c.export) r → MayAnswer shape (In k ToRoute) r
+    go (ByGraph r) h = route_may shape k r h
     go r h = absurd h
 told shape A c p (In k ToList) todo reply is may = go reply (aligned_out (span_of c) A) (serial A c) (subst (λ (t : Todo). MayReplyTo shape t reply) is may)
   where
@@ -116,6 +121,11 @@ told shape A c p (In k (ToStore b)) todo reply is may = go reply (stripe_of b) i
     go : (r : PartReply) (s : ℕ) (buf : List ℕ) → MayReplyTo shape (Stripe s (Store b k buf)) r → MayAnswer shape (In k (ToStore b)) r
     go (ByStripe r) s buf h = store_may shape b k k b buf r h
     go r s buf h = absurd h
+told shape A c p (In k (ToSync s)) todo reply is may = go reply s (subst (λ (t : Todo). MayReplyTo shape t reply) is may)
+  where
+    go : (r : PartReply) (s : ℕ) → MayReplyTo shape (Stripe s Sync) r → MayAnswer shape (In k (ToSync s)) r
+    go (ByStripe r) s h = sync_may shape k s r h
+    go r s h = absurd h
 told shape A c p (In k (ToFree side)) todo reply is may = go reply (stripe_of (edge A c side)) (edge A c side) (subst (λ (t : Todo). MayReplyTo shape t reply) is may)
   where
     go : (r : PartReply) (s b : ℕ) → MayReplyTo shape (Stripe s (Free b k)) r → MayAnswer shape (In k (ToFree side)) r

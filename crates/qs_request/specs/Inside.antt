@@ -2,25 +2,27 @@
 use Rattle.std.specs.Prelude.{◌≡◌, ℕ, ◌+◌, ◌-◌, ◌*◌, ◌^◌, ◌<◌, ◌≤◌, ◌⊎◌, max, Bool, true, false, ◌&&◌, length, take, if◌then◌else◌, Option, Some, None}
 use Rattle.qs_bytes.specs.declared.ask.Ask.{Ask}
 use Rattle.qs_bytes.specs.declared.ask.Errno.TheVariants.{Inval, NoMem}
-use Rattle.qs_bytes.specs.declared.ask.Kind.TheVariants.{Read, Write}
+use Rattle.qs_bytes.specs.declared.ask.Kind.TheVariants.{Read}
 use Rattle.qs_bytes.specs.declared.ask.Verdict.{Verdict}
 use Rattle.qs_bytes.specs.declared.ask.Verdict.TheVariants.{Refused, Dropped}
 use Rattle.qs_bytes.specs.Spans.{Places}
 use Rattle.qs_part.specs.declared.graph.Route.{Route}
 use Rattle.qs_part.specs.declared.stripe.Side.{Side}
+use Rattle.qs_part.specs.declared.stripe.StripeReply.{StripeReply}
+use Rattle.qs_part.specs.declared.stripe.StripeReply.TheVariants.{Clean, Synced}
 use Rattle.qs_part.specs.declared.stripe.Side.TheVariants.{Head, Tail}
-use Rattle.qs_model.specs.Requests.{Client, Req, Step, Stage, ToRoute, ToList, ToStart, ToLoad, ToHold, ToStore, ToFree, ToEnd, Ready, Entering, In, edge, has, span_of, pad, no_route, success, form_error}
+use Rattle.qs_model.specs.Requests.{Client, Req, Step, Stage, ToRoute, ToList, ToStart, ToLoad, ToHold, ToStore, ToSync, ToFree, ToEnd, Ready, Entering, In, edge, has, span_of, pad, no_route, success, form_error, is_flush, is_known, is_read, stores_bytes, wants_buffers}
 use Rattle.qs_request.specs.declared.stage.Ending.{Ending}
 use Rattle.qs_request.specs.declared.stage.Ending.TheVariants.{Success, Failed, Dropped as Left}
 use Rattle.qs_request.specs.declared.stage.Step.{Step as Next}
-use Rattle.qs_request.specs.declared.stage.Step.TheVariants.{Route as RouteNext, List as ListNext, Start as StartNext, Load as LoadNext, Hold as HoldNext, Store as StoreNext, Free as FreeNext, End as EndNext}
+use Rattle.qs_request.specs.declared.stage.Step.TheVariants.{Route as RouteNext, List as ListNext, Start as StartNext, Load as LoadNext, Hold as HoldNext, Store as StoreNext, Sync as SyncNext, Free as FreeNext, End as EndNext}
 use Rattle.qs_request.specs.declared.stage.Stage.{Stage as At}
 use Rattle.qs_request.specs.declared.stage.Stage.TheVariants.{Ready as ReadyAt, Entering as EnteringAt, In as InAt}
 use Rattle.qs_request.specs.declared.machine.Machine.{Machine}
 use Rattle.qs_request.specs.declared.todo.PartReply.{PartReply}
 use Rattle.qs_request.specs.Shapes.{IsShape}
 use Rattle.qs_request.specs.Table.{MayAnswer, followed}
-use Rattle.qs_request.specs.Value.{RequestValue, bytes_of}
+use Rattle.qs_request.specs.Value.{RequestValue, bytes_of, wants_body}
 
 -- the way of a request, which has none before Route
 abbrev pub way_of : Option Route → Route
@@ -53,6 +55,7 @@ step_of m StartNext = ToStart
 step_of m (LoadNext b) = ToLoad b (take (before m b) m.body)
 step_of m (HoldNext side) = ToHold side
 step_of m (StoreNext b) = ToStore b
+step_of m (SyncNext s) = ToSync s
 step_of m (FreeNext side) = ToFree side
 step_of m (EndNext e) = ToEnd (verdict_of m e)
 
@@ -74,14 +77,15 @@ first_stage ask buffered =
     else if buffered then EnteringAt
     else ReadyAt (Failed NoMem)
 
--- a READ or a WRITE with its buffers
+-- a kind of request that there is, with the buffers that it wants
 pub record IsAsked (m : Machine) : Type 0 where
-  pub kind : (m.ask.kind ≡ Read) ⊎ (m.ask.kind ≡ Write)
+  pub kind : is_known m.ask.kind ≡ true
   pub buffered : m.buffered ≡ true
 
--- it has its way: its span isn't empty, and lies inside the image
+-- a READ or a write that has its way: its span isn't empty, and lies inside the image
 pub record IsGoing (m : Machine) : Type 0 where
   pub asked : IsAsked m
+  pub works : wants_buffers m.ask ≡ true
   pub some : (span_of (client_of m)).lo < (span_of (client_of m)).hi
   pub inside : (span_of (client_of m)).hi ≤ m.shape.size
 
@@ -122,13 +126,18 @@ pub record IsLoading (m : Machine) (b : ℕ) : Type 0 where
 
 pub record IsHolding (m : Machine) (side : Side) : Type 0 where
   pub going : IsGoing m
-  pub writing : m.ask.kind ≡ Write
+  pub writing : stores_bytes m.ask.kind ≡ true
   pub kept : HasKept m side
 
 pub record IsStoring (m : Machine) (b : ℕ) : Type 0 where
-  pub writing : m.ask.kind ≡ Write
+  pub writing : stores_bytes m.ask.kind ≡ true
   pub reached : IsReached m b
   pub kept : HasPads m
+
+-- a FLUSH, or a write that has stored its blocks
+pub record IsSyncing (m : Machine) : Type 0 where
+  pub unread : is_read m.ask.kind ≡ false
+  pub going : is_flush m.ask.kind ≡ false → IsGoing m
 
 -- what each step keeps
 abbrev pub Goes : Machine → Next → Type 0
@@ -138,6 +147,7 @@ Goes m StartNext = IsGoing m
 Goes m (LoadNext b) = IsLoading m b
 Goes m (HoldNext side) = IsHolding m side
 Goes m (StoreNext b) = IsStoring m b
+Goes m (SyncNext s) = (s < 8) × IsSyncing m
 Goes m (FreeNext side) = IsGoing m
 Goes m (EndNext e) = Unit {0}
 
@@ -157,12 +167,12 @@ abbrev pub lends_at : At → Bool
 lends_at (InAt k step) = lends step
 lends_at _ = false
 
--- the buffers of a request that has them: the body, room for the pads, and the block to work in
--- where it isn't lent
+-- the buffers of a request that has those it wants: the body, room for the pads, and the block to
+-- work in where it isn't lent
 pub record HasBuffers (m : Machine) (lent : Bool) : Type 0 where
-  pub body : m.buffered ≡ true → length m.body ≡ m.ask.length
-  pub pads : m.buffered ≡ true → 0 < m.ask.length → m.pads.align ≡ m.shape.align
-  pub work : m.buffered ≡ true → 0 < m.ask.length → lent ≡ false → length m.work ≡ m.shape.align
+  pub body : m.buffered ≡ true → wants_body m.ask.kind ≡ true → length m.body ≡ m.ask.length
+  pub pads : m.buffered ≡ true → wants_buffers m.ask ≡ true → m.pads.align ≡ m.shape.align
+  pub work : m.buffered ≡ true → wants_buffers m.ask ≡ true → lent ≡ false → length m.work ≡ m.shape.align
 
 -- all that a request keeps until it answers
 pub record IsSound (m : Machine) : Type 0 where
@@ -182,6 +192,12 @@ pub record AwaitsReply (m : Machine) (reply : PartReply) : Type 0 where
   pub waits : m.waits ≡ true
   pub answered : m.answered ≡ false
   pub may : MayAnswer m.shape (stage_of m m.stage) reply
+
+-- a Sync that went well
+abbrev pub IsSyncedReply : StripeReply → Type 0
+IsSyncedReply Clean = Unit {0}
+IsSyncedReply Synced = Unit {0}
+IsSyncedReply _ = ⊥
 
 -- the reply was taken
 pub record TakesReply (old : Machine) (reply : PartReply) (new : Machine) : Type 0 where

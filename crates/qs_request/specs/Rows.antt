@@ -2,10 +2,10 @@
 use Rattle.std.specs.Prelude.{◌≡◌, Option, Some, None}
 use Rattle.qs_part.specs.declared.tracker.TrackerReply.TheVariants.{Entered, Quiesced, Full, Listed, Strange, Started, NotYet, Ended}
 use Rattle.qs_part.specs.declared.graph.GraphReply.TheVariants.{Shutting, Routed}
-use Rattle.qs_part.specs.declared.stripe.StripeReply.TheVariants.{Filled, Fault, HeldBy, Taken, Done, Freed, NotHeld}
+use Rattle.qs_part.specs.declared.stripe.StripeReply.TheVariants.{Filled, Fault, HeldBy, Taken, Done, Freed, NotHeld, Clean, Synced}
 use Rattle.qs_bytes.specs.declared.ask.Verdict.{Verdict}
 use Rattle.qs_model.specs.Requests.{Req, Stage, Ready}
-use Rattle.qs_model.specs.Acts.{Act, Waits, Enters, Routes, Shuts, Lists, Starts, Loads, LoadFails, Holds, HoldFails, Stores, StoreFails, Frees, Ends, Wait, Quiesced as WasQuiesced, Full as WasFull, NotYet as WasNotYet, HeldBy as WasHeldBy, Taken as WasTaken, Strange as WasStrange, NotHeld as WasNotHeld}
+use Rattle.qs_model.specs.Acts.{Act, Waits, Enters, Routes, Shuts, Lists, Starts, Loads, LoadFails, Holds, HoldFails, Stores, StoreFails, Syncs, Cleans, SyncFails, Frees, Ends, Wait, Quiesced as WasQuiesced, Full as WasFull, NotYet as WasNotYet, HeldBy as WasHeldBy, Taken as WasTaken, Strange as WasStrange, NotHeld as WasNotHeld}
 use Rattle.qs_request.specs.declared.todo.PartReply.{PartReply}
 use Rattle.qs_request.specs.declared.todo.PartReply.TheVariants.{Tracker, Graph, Stripe}
 
@@ -35,6 +35,9 @@ IsRow (Stripe (Filled buf)) (Holds bytes) = bytes ≡ buf
 IsRow (Stripe (Fault back)) HoldFails = Unit {0}
 IsRow (Stripe (Done back)) (Stores bytes past) = back ≡ bytes
 IsRow (Stripe (Fault back)) (StoreFails bytes took past) = back ≡ Some bytes
+IsRow (Stripe Synced) Syncs = Unit {0}
+IsRow (Stripe Clean) Cleans = Unit {0}
+IsRow (Stripe (Fault back)) SyncFails = back ≡ None
 IsRow (Stripe Freed) Frees = Unit {0}
 IsRow (Tracker Ended) Ends = Unit {0}
 IsRow _ _ = ⊥

@@ -1,5 +1,5 @@
 -- The request table: the operation of each stage, the answers that may come, and what follows.
-use Rattle.std.specs.Prelude.{◌≡◌, ℕ, ◌+◌, ◌*◌, ◌%◌, ◌<◌, ◌≤◌, Bool, List, length, get_or, Some}
+use Rattle.std.specs.Prelude.{◌≡◌, ℕ, ◌+◌, ◌*◌, ◌%◌, ◌<◌, ◌≤◌, Bool, List, length, get_or, Some, None}
 use Rattle.qs_bytes.specs.declared.ask.Errno.TheVariants.{Io, Shutdown}
 use Rattle.qs_bytes.specs.declared.ask.Verdict.TheVariants.{Refused}
 use Rattle.qs_bytes.specs.Spans.{aligned_out}
@@ -7,18 +7,17 @@ use Rattle.qs_part.specs.declared.tracker.TrackerOp.{TrackerOp}
 use Rattle.qs_part.specs.declared.tracker.TrackerOp.TheVariants.{Enter, List as ListOp, Start, End}
 use Rattle.qs_part.specs.declared.tracker.TrackerReply.{TrackerReply}
 use Rattle.qs_part.specs.declared.tracker.TrackerReply.TheVariants.{Entered, Quiesced, Full, Listed, Strange, Started, NotYet, Ended}
-use Rattle.qs_part.specs.declared.graph.GraphOp.TheVariants.{Route}
 use Rattle.qs_part.specs.declared.graph.GraphReply.{GraphReply}
 use Rattle.qs_part.specs.declared.graph.GraphReply.TheVariants.{Shutting, Routed}
 use Rattle.qs_part.specs.declared.stripe.StripeOp.{StripeOp}
-use Rattle.qs_part.specs.declared.stripe.StripeOp.TheVariants.{Load, Hold, Store, Free}
+use Rattle.qs_part.specs.declared.stripe.StripeOp.TheVariants.{Load, Hold, Store, Free, Sync}
 use Rattle.qs_part.specs.declared.stripe.StripeReply.{StripeReply}
-use Rattle.qs_part.specs.declared.stripe.StripeReply.TheVariants.{Filled, Fault, HeldBy, Taken, Done, Freed, NotHeld}
-use Rattle.qs_model.specs.Requests.{Client, Req, Stage, ToRoute, ToList, ToStart, ToLoad, ToHold, ToStore, ToFree, ToEnd, Ready, Entering, In, Pads, edge, span_of, serial, merged_at, keep, routed, held, started, loaded, stored, hold_failed, store_failed, verdict}
+use Rattle.qs_part.specs.declared.stripe.StripeReply.TheVariants.{Filled, Fault, HeldBy, Taken, Done, Freed, NotHeld, Clean, Synced}
+use Rattle.qs_model.specs.Requests.{Client, Req, Stage, ToRoute, ToList, ToStart, ToLoad, ToHold, ToStore, ToSync, ToFree, ToEnd, Ready, Entering, In, Pads, edge, span_of, serial, merged_at, keep, routed, held, started, loaded, stored, hold_failed, store_failed, synced, verdict}
 use Rattle.qs_bytes.specs.Geometry.{stripe_of}
 use Rattle.qs_request.specs.declared.shape.Shape.{Shape}
 use Rattle.qs_request.specs.declared.todo.Todo.{Todo}
-use Rattle.qs_request.specs.declared.todo.Todo.TheVariants.{Tracker, Graph, Stripe, Answer}
+use Rattle.qs_request.specs.declared.todo.Todo.TheVariants.{Tracker, Route, Stripe, Answer}
 use Rattle.qs_request.specs.declared.todo.PartReply.{PartReply}
 use Rattle.qs_request.specs.declared.todo.PartReply.TheVariants.{Tracker as ByTracker, Graph as ByGraph, Stripe as ByStripe}
 
@@ -34,7 +33,7 @@ IsMerged A c p b buf = (x : ℕ) → x < A → get_or buf x 0 ≡ merged_at A c 
 abbrev pub WantsAt : ℕ → Client → Pads → Stage → Todo → Type 0
 WantsAt A c p (Ready v) todo = todo ≡ Answer v
 WantsAt A c p Entering todo = todo ≡ Tracker Enter
-WantsAt A c p (In k ToRoute) todo = todo ≡ Graph (Route c.export)
+WantsAt A c p (In k ToRoute) todo = todo ≡ Route c.export
 WantsAt A c p (In k ToList) todo = todo ≡ Tracker (ListOp k (aligned_out (span_of c) A) (serial A c))
 WantsAt A c p (In k ToStart) todo = todo ≡ Tracker (Start k)
 WantsAt A c p (In k (ToLoad b got)) todo = WithBlock A (λ buf. todo ≡ Stripe (stripe_of b) (Load b k buf))
@@ -42,6 +41,7 @@ WantsAt A c p (In k (ToHold side)) todo =
     WithBlock A (λ buf. todo ≡ Stripe (stripe_of (edge A c side)) (Hold (edge A c side) k side buf))
 WantsAt A c p (In k (ToStore b)) todo =
     WithBlock A (λ buf. (todo ≡ Stripe (stripe_of b) (Store b k buf)) × IsMerged A c p b buf)
+WantsAt A c p (In k (ToSync s)) todo = todo ≡ Stripe s Sync
 WantsAt A c p (In k (ToFree side)) todo = todo ≡ Stripe (stripe_of (edge A c side)) (Free (edge A c side) k)
 WantsAt A c p (In k (ToEnd v)) todo = todo ≡ Tracker (End k)
 
@@ -53,12 +53,14 @@ pub record FitsBlock (shape : Shape) (s b : ℕ) : Type 0 where
   pub stripe : s ≡ stripe_of b
   pub inside : (b + 1) * shape.align ≤ shape.size
 
--- an operation of a stripe is on such a block, for a place of the tracker, with a buffer of one block
+-- An operation of a stripe is on such a block, for a place of the tracker, with a buffer of one block. A Sync is on one of
+-- the eight stripes.
 abbrev pub FitsStripe : Shape → ℕ → StripeOp → Type 0
 FitsStripe shape s (Load b k buf) = FitsBlock shape s b × (k < 256) × (length buf ≡ shape.align)
 FitsStripe shape s (Hold b k end buf) = FitsBlock shape s b × (k < 256) × (length buf ≡ shape.align)
 FitsStripe shape s (Store b k buf) = FitsBlock shape s b × (k < 256) × (length buf ≡ shape.align)
 FitsStripe shape s (Free b k) = FitsBlock shape s b × (k < 256)
+FitsStripe shape s Sync = s < 8
 
 -- a span that is listed has a place, lies in the image, and its ends are multiples of 512
 abbrev pub FitsTracker : Shape → TrackerOp → Type 0
@@ -105,6 +107,9 @@ MayStripe shape (Taken b buf) (In k (ToHold side)) = length buf ≡ shape.align
 MayStripe shape (Done buf) (In k (ToStore b)) = length buf ≡ shape.align
 MayStripe shape (Fault (Some buf)) (In k (ToStore b)) = length buf ≡ shape.align
 MayStripe shape (HeldBy j buf) (In k (ToStore b)) = length buf ≡ shape.align
+MayStripe shape Clean (In k (ToSync s)) = Unit {0}
+MayStripe shape Synced (In k (ToSync s)) = Unit {0}
+MayStripe shape (Fault None) (In k (ToSync s)) = Unit {0}
 MayStripe shape Freed (In k (ToFree side)) = Unit {0}
 MayStripe shape NotHeld (In k (ToFree side)) = Unit {0}
 MayStripe shape _ _ = ⊥
@@ -141,6 +146,9 @@ after_stripe A c (Filled buf) (In k (ToHold side)) = In k (held A c side)
 after_stripe A c (Fault back) (In k (ToHold side)) = In k (hold_failed A c side)
 after_stripe A c (Done back) (In k (ToStore b)) = In k (stored A c b)
 after_stripe A c (Fault back) (In k (ToStore b)) = In k (store_failed A c b)
+after_stripe A c Clean (In k (ToSync s)) = In k (synced A c s)
+after_stripe A c Synced (In k (ToSync s)) = In k (synced A c s)
+after_stripe A c (Fault back) (In k (ToSync s)) = In k (ToEnd (Refused Io))
 after_stripe A c Freed (In k (ToFree side)) = In k (ToEnd (Refused Io))
 after_stripe A c _ stage = stage
 

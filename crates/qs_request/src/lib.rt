@@ -1,7 +1,8 @@
-//! The machine of one request: which operation a client's READ or WRITE does next on a part of the
-//! daemon, and what the part's answer makes of it.
+//! The machine of one request: which operation a client's READ, WRITE, WRITE_ZEROES, TRIM or FLUSH
+//! does next on a part of the daemon, and what the part's answer makes of it.
 #![tactic(auto)]
 
+mod kinds;
 pub mod laws;
 mod machine;
 mod making;
@@ -11,6 +12,7 @@ mod replies;
 pub mod req;
 pub mod shape;
 mod stage;
+mod stripes;
 #[cfg(test)]
 mod tests;
 pub mod todo;

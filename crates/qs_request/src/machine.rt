@@ -1,20 +1,20 @@
-ghost use Rattle.std.specs.Prelude.{◌≡◌, ℕ, ◌+◌, ◌*◌, ◌<◌, ◌==◌, if◌then◌else◌, [], length, false};
+ghost use Rattle.std.specs.Prelude.{◌≡◌, ℕ, ◌+◌, ◌*◌, ◌<◌, ◌==◌, if◌then◌else◌, [], length, true, false};
 ghost use Rattle.std.specs.List.{slice_index_or};
 ghost use Rattle.qs_padding.specs.Padding.{merged_at};
-ghost use Rattle.qs_model.specs.Requests.{abandon};
+ghost use Rattle.qs_model.specs.Requests.{abandon, brings_bytes};
 ghost use Rattle.qs_request.specs.Shapes.{IsShape};
 ghost use Rattle.qs_request.specs.Table.{FitsPart, IsMerged, WantsAt};
 ghost use Rattle.qs_request.specs.Value.{Gave};
 ghost use Rattle.qs_request.specs.Inside.{Goes, HasBuffers, IsFree, IsGoing, IsLoading, IsSound, IsStoring, client_of, lends, request_of, stage_of, value_of, verdict_of};
 
-use crate::moves::is_read;
+use crate::kinds::{brings_bytes, is_flush, is_read};
 use crate::pads::PadBuffer;
 use crate::shape::Shape;
 use crate::stage::{Ending, Stage, Step};
 use crate::todo::Todo;
 use qs_bytes::{Ask, Bytes, Span, Verdict, stripe_of};
-use qs_padding::padding::merge;
-use qs_part::graph::{GraphOp, Route};
+use qs_padding::padding::{clear, merge};
+use qs_part::graph::Route;
 use qs_part::stripe::{Side, StripeOp};
 use qs_part::tracker::TrackerOp;
 use std::alloc::Global;
@@ -84,6 +84,27 @@ fn merged(work: Bytes, pad: &[u8], b: u64, span: &Span, bytes: &[u8]) -> Bytes
     Bytes::of(block)
 }
 
+/// Clears the covered bytes of block `b` in the bytes of a vector.
+fn clear_in(block: &mut Vec<u8>, b: u64, span: &Span)
+    ensures len { length block.new.items ≡ length block.old.items }
+    ensures cleared { (i : ℕ) → i < length block.old.items →
+        slice_index_or block.new.items i 0 ≡ merged_at span.now [] (b * length block.old.items + i) (slice_index_or block.old.items i 0) }
+{
+    clear(block.as_mut_slice(), b, span);
+}
+
+/// The block with the pad over it and the covered bytes cleared.
+fn cleared(work: Bytes, pad: &[u8], b: u64, span: &Span) -> Bytes
+    ensures len { length result ≡ length work }
+    ensures cleared { (i : ℕ) → i < length work →
+        slice_index_or result i 0 ≡ merged_at span.now [] (b * length work + i) (slice_index_or (if length pad.now == length work then pad.now else work) i 0) }
+{
+    let mut block = work.into_vec();
+    pad_into(&mut block, pad);
+    clear_in(&mut block, b, span);
+    Bytes::of(block)
+}
+
 /// The next operations.
 impl Machine {
     fn lend(&mut self) -> Bytes
@@ -93,19 +114,24 @@ impl Machine {
         mem::replace(&mut self.work, Bytes::of(Vec::new(self.alloc)))
     }
 
-    /// What block `b` is stored with: the covered bytes, and the kept pad's where the request
-    /// doesn't cover it.
+    /// What block `b` is stored with: the covered bytes, those of a WRITE_ZEROES zero, and the kept
+    /// pad's where the request doesn't cover it.
     fn content(&self, b: u64, work: Bytes) -> Bytes
         requires shape { IsShape self.now.shape }
         requires storing { IsStoring self.now b }
-        requires body { length self.now.body ≡ self.now.ask.length }
+        requires body { brings_bytes self.now.ask.kind ≡ true → length self.now.body ≡ self.now.ask.length }
         requires whole { length work ≡ self.now.shape.align }
         ensures whole { length result ≡ self.now.shape.align }
         ensures merged { IsMerged self.now.shape.align (client_of self.now) self.now.pads.pads b result }
     {
         let side = self.side_of(b);
         let span = self.span();
-        merged(work, self.pads.kept(side), b, &span, self.body.as_slice())
+        let pad = self.pads.kept(side);
+        if brings_bytes(self.ask.kind) {
+            merged(work, pad, b, &span, self.body.as_slice())
+        } else {
+            cleared(work, pad, b, &span)
+        }
     }
 
     fn listing(&self, k: u8) -> Todo
@@ -149,7 +175,7 @@ impl Machine {
     fn store(&mut self, k: u8, b: u64) -> Todo
         requires shape { IsShape self.old.shape }
         requires storing { IsStoring self.old b }
-        requires body { length self.old.body ≡ self.old.ask.length }
+        requires body { brings_bytes self.old.ask.kind ≡ true → length self.old.body ≡ self.old.ask.length }
         requires work { length self.old.work ≡ self.old.shape.align }
         ensures wants { WantsAt self.old.shape.align (client_of self.old) self.old.pads.pads (stage_of self.old (Stage.In k (Step.Store b))) result }
         ensures fits { FitsPart self.old.shape result }
@@ -181,12 +207,13 @@ impl Machine {
         ensures work { lends step ≡ false → self.new.work ≡ self.old.work }
     {
         match step {
-            Step::Route => Todo::Graph(GraphOp::Route { e: self.export }),
+            Step::Route => Todo::Route { e: self.export },
             Step::List => self.listing(k),
             Step::Start => Todo::Tracker(TrackerOp::Start { k }),
             Step::Load(b) => self.load(k, b),
             Step::Hold(side) => self.hold(k, side),
             Step::Store(b) => self.store(k, b),
+            Step::Sync(s) => Todo::Stripe(s, StripeOp::Sync),
             Step::Free(side) => self.free(k, side),
             Step::End(_) => Todo::Tracker(TrackerOp::End { k }),
         }
@@ -229,9 +256,8 @@ impl Machine {
                 Todo::Tracker(TrackerOp::Enter)
             }
             Stage::In(k, step) => {
-                let todo = self.next_of(k, step);
                 self.waits = true;
-                todo
+                self.next_of(k, step)
             }
         }
     }
@@ -247,6 +273,9 @@ impl Machine {
         self.stage = match self.stage {
             Stage::Ready(_) | Stage::Entering => Stage::Ready(Ending::Dropped),
             Stage::In(k, Step::Route | Step::List) => Stage::In(k, Step::End(Ending::Dropped)),
+            Stage::In(k, Step::Sync(_)) if is_flush(self.ask.kind) => {
+                Stage::In(k, Step::End(Ending::Dropped))
+            }
             stage => stage,
         };
     }

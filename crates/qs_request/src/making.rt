@@ -7,7 +7,7 @@ ghost use Rattle.qs_request.specs.Inside.{IsFree, first_stage, request_of};
 ghost use Rattle.qs_request.specs.Kept.{no_pads};
 
 use crate::machine::Machine;
-use crate::moves::{is_read, is_write};
+use crate::kinds::{brings_bytes, is_known, is_read, stores_bytes};
 use crate::pads::PadBuffer;
 use crate::shape::{Blocks, Shape};
 use crate::stage::{Ending, Stage};
@@ -18,9 +18,8 @@ use std::alloc::Global;
 fn is_form_error(ask: Ask) -> bool
     ensures { result ≡ form_error ask }
 {
-    let reads = is_read(ask.kind);
-    let known = reads || is_write(ask.kind);
-    !known || !ask.flags_fit || ask.fua || (reads && ask.length > MAX_PAYLOAD)
+    let long = is_read(ask.kind) && ask.length > MAX_PAYLOAD;
+    !is_known(ask.kind) || !ask.flags_fit || long
 }
 
 fn first_stage(ask: Ask, buffered: bool) -> Stage
@@ -67,10 +66,14 @@ fn parted(alloc: Global, blocks: Option<Blocks>, align: u32) -> (Bytes, PadBuffe
     }
 }
 
+/// Whether a request has all the buffers that it wants.
 fn is_buffered(ask: &Ask, body: &Option<Bytes>, blocks: &Option<Blocks>) -> bool
     ensures { result ≡ has_buffers ask.now body.now blocks.now }
 {
-    ask.length == 0 || (body.is_some() && blocks.is_some())
+    let reads = is_read(ask.kind);
+    let wants_blocks = ask.length != 0 && (reads || stores_bytes(ask.kind));
+    let wants_body = reads || brings_bytes(ask.kind);
+    !wants_blocks || (blocks.is_some() && (body.is_some() || !wants_body))
 }
 
 impl Machine {

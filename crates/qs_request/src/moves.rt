@@ -1,29 +1,19 @@
-ghost use Rattle.std.specs.Prelude.{◌≡◌, ◌≢◌, ◌+◌, ◌^◌, ◌<◌, ◌≤◌, ◌⊎◌, length, Some, true, false};
+ghost use Rattle.std.specs.Prelude.{◌≡◌, ◌≢◌, ◌+◌, ◌-◌, ◌^◌, ◌<◌, ◌≤◌, ◌⊎◌, length, Some, true, false};
 ghost use Rattle.std.specs.Prelude.{nat_lt, is_some, ◌*◌, ◌==◌, if◌then◌else◌};
 ghost use Rattle.qs_bytes.specs.Spans.{aligned_out};
 ghost use Rattle.qs_part.specs.declared.stripe.Side.TheVariants.{Head as HeadSide, Tail as TailSide};
-ghost use Rattle.qs_model.specs.Requests.{edge, has, held, hold_failed, is_read, is_write, routed, serial, span_of, started, store_failed, stored, ToStore};
+ghost use Rattle.qs_model.specs.Requests.{edge, has, held, hold_failed, is_flush, is_read, routed, serial, span_of, started, store_failed, stored, stores_bytes, syncs, synced, to_sync, ToStore};
 ghost use Rattle.qs_request.specs.Shapes.{IsShape};
-ghost use Rattle.qs_request.specs.Inside.{Goes, HasKeptTo, HasPads, IsAsked, IsGoing, IsLoading, IsPlaced, IsReached, IsStoring, client_of, step_of, way_of};
+ghost use Rattle.qs_request.specs.Inside.{Goes, HasKeptTo, HasPads, IsAsked, IsGoing, IsLoading, IsPlaced, IsReached, IsStoring, IsSyncing, client_of, step_of, way_of};
 
+use crate::kinds::{is_flush, is_read, is_trim, stores_bytes, wants_writable};
 use crate::machine::Machine;
 use crate::stage::{Ending, Step};
-use qs_bytes::{Errno, Kind, Span};
+use crate::stripes::touches;
+use qs_bytes::{Errno, STRIPES, Span};
 use qs_padding::padding::plan;
 use qs_padding::planned::Plan;
 use qs_part::stripe::Side;
-
-pub fn is_read(kind: Kind) -> bool
-    ensures { result ≡ is_read kind }
-{
-    matches!(kind, Kind::Read)
-}
-
-pub fn is_write(kind: Kind) -> bool
-    ensures { result ≡ is_write kind }
-{
-    matches!(kind, Kind::Write)
-}
 
 /// Whether the bytes from an offset on pass a size. A sum above 2^64 - 1 passes each.
 fn passes(offset: u64, length: u64, size: u64) -> bool
@@ -123,37 +113,41 @@ impl Machine {
         requires going { IsGoing self.now }
         ensures { result ≡ serial self.now.shape.align (client_of self.now) }
     {
-        is_write(self.ask.kind) && !self.span().is_aligned(self.shape.align)
+        stores_bytes(self.ask.kind) && !self.span().is_aligned(self.shape.align)
     }
 
-    /// What a request does that has its way: the first rule that refuses it, or no place to do
-    /// anything to, or List (NBD proto.md, "Error values").
+    /// What a request does that has its way: the first rule that refuses it, the syncs of a FLUSH, or
+    /// no place to do anything to, or List (NBD proto.md, "Error values").
     #[tactic(auto, unfolding(qs_model::specs::Requests::routed))]
     pub fn routed(&self) -> Step
         requires asked { IsAsked self.now }
-        requires body { length self.now.body ≡ self.now.ask.length }
+        requires body { is_read self.now.ask.kind ≡ true → length self.now.body ≡ self.now.ask.length }
         requires inside { (way_of self.now.route).offset + (way_of self.now.route).size ≤ self.now.shape.size }
         ensures step { step_of self.now result ≡ routed (client_of self.now) }
         ensures goes { Goes self.now result }
     {
-        let writes = is_write(self.ask.kind);
-        if writes && !self.may_write() {
+        let kind = self.ask.kind;
+        if wants_writable(kind) && !self.may_write() {
             return Step::End(Ending::Failed(Errno::Perm));
         }
-        if passes(self.ask.offset, self.ask.length, self.route_size()) {
-            return Step::End(Ending::Failed(if writes { Errno::NoSpace } else { Errno::Inval }));
+        if is_flush(kind) {
+            return Step::Sync(0);
         }
-        if self.ask.length == 0 {
+        if passes(self.ask.offset, self.ask.length, self.route_size()) {
+            let stores = stores_bytes(kind);
+            return Step::End(Ending::Failed(if stores { Errno::NoSpace } else { Errno::Inval }));
+        }
+        if self.ask.length == 0 || is_trim(kind) {
             return Step::End(Ending::Success);
         }
         Step::List
     }
 
-    /// A WRITE that has all its pads begins to store.
+    /// A write that has all its pads begins to store.
     fn first_store(&self) -> Step
         requires shape { IsShape self.now.shape }
         requires going { IsGoing self.now }
-        requires writing { self.now.ask.kind ≡ Kind.Write }
+        requires writing { stores_bytes self.now.ask.kind ≡ true }
         requires kept { HasPads self.now }
         ensures step { step_of self.now result ≡ ToStore (edge self.now.shape.align (client_of self.now) HeadSide) }
         ensures goes { Goes self.now result }
@@ -161,12 +155,12 @@ impl Machine {
         Step::Store(self.edge(Side::Head))
     }
 
-    /// What a WRITE does once it has the pad of this end, or wants none.
+    /// What a write does once it has the pad of this end, or wants none.
     #[tactic(auto, unfolding(qs_model::specs::Requests::held))]
     pub fn held(&self, side: Side) -> Step
         requires shape { IsShape self.now.shape }
         requires going { IsGoing self.now }
-        requires writing { self.now.ask.kind ≡ Kind.Write }
+        requires writing { stores_bytes self.now.ask.kind ≡ true }
         requires kept { HasKeptTo self.now side }
         ensures step { step_of self.now result ≡ held self.now.shape.align (client_of self.now) side }
         ensures goes { Goes self.now result }
@@ -183,7 +177,7 @@ impl Machine {
         }
     }
 
-    /// What a request does that has started: a READ loads, a WRITE holds its ends and stores.
+    /// What a request does that has started: a READ loads, a write holds its ends and stores.
     #[tactic(auto, unfolding(qs_model::specs::Requests::started))]
     pub fn started(&self) -> Step
         requires shape { IsShape self.now.shape }
@@ -237,7 +231,7 @@ impl Machine {
         b * u64::from(self.shape.align)
     }
 
-    /// What a WRITE does that has stored block `b`.
+    /// What a write does that has stored block `b`.
     #[tactic(auto, unfolding(qs_model::specs::Requests::stored))]
     pub fn stored(&self, b: u64) -> Step
         requires shape { IsShape self.now.shape }
@@ -245,14 +239,43 @@ impl Machine {
         ensures step { step_of self.now result ≡ stored self.now.shape.align (client_of self.now) b }
         ensures goes { Goes self.now result }
     {
-        if b == self.edge(Side::Tail) {
-            Step::End(Ending::Success)
-        } else {
+        if b != self.edge(Side::Tail) {
             Step::Store(b + 1)
+        } else if self.ask.fua {
+            self.next_sync(0)
+        } else {
+            Step::End(Ending::Success)
         }
     }
 
-    /// What a WRITE does whose Hold of this end was refused: the hold that is still open is given up.
+    /// Whether the request syncs stripe `s`: a FLUSH syncs all, a write with FUA those of its blocks.
+    #[tactic(auto, unfolding(qs_model::specs::Requests::syncs))]
+    fn syncs(&self, s: u8) -> bool
+        requires shape { IsShape self.now.shape }
+        requires syncing { IsSyncing self.now }
+        requires stripe { s < 8 }
+        ensures { result ≡ syncs self.now.shape.align (client_of self.now) s }
+    {
+        is_flush(self.ask.kind) || touches(self.edge(Side::Head), self.edge(Side::Tail), s)
+    }
+
+    /// From stripe `from` on, the first that the request syncs, or its end.
+    pub fn next_sync(&self, from: u8) -> Step
+        requires shape { IsShape self.now.shape }
+        requires syncing { IsSyncing self.now }
+        requires from { from ≤ 8 }
+        ensures step { step_of self.now result ≡ to_sync self.now.shape.align (client_of self.now) (8 - from) }
+        ensures goes { Goes self.now result }
+    {
+        for s in from..STRIPES {
+            if self.syncs(s) {
+                return Step::Sync(s);
+            }
+        }
+        Step::End(Ending::Success)
+    }
+
+    /// What a write does whose Hold of this end was refused: the hold that is still open is given up.
     #[tactic(auto, unfolding(qs_model::specs::Requests::hold_failed))]
     pub fn hold_failed(&self, side: Side) -> Step
         requires shape { IsShape self.now.shape }

@@ -1,9 +1,9 @@
-ghost use Rattle.std.specs.Prelude.{◌≡◌, ◌+◌, ◌-◌, ◌^◌, ◌<◌, ◌≤◌, length, max, min, false, take, Some};
+ghost use Rattle.std.specs.Prelude.{◌≡◌, ◌+◌, ◌-◌, ◌^◌, ◌<◌, ◌≤◌, length, max, min, false, take, None, Some};
 ghost use Rattle.qs_bytes.specs.Pieces.{overlay};
 ghost use Rattle.qs_part.specs.declared.stripe.StripeReply.{StripeReply as Reply};
 ghost use Rattle.qs_model.specs.Requests.{held, keep, loaded, piece, In as InFlight};
 ghost use Rattle.qs_request.specs.Table.{MayTrack, after_tracker};
-ghost use Rattle.qs_request.specs.Inside.{AwaitsReply, TakesReply, Goes, HasBuffers, IsHolding, IsLoading, IsSound, IsAtStage, before, client_of, stage_of, step_of};
+ghost use Rattle.qs_request.specs.Inside.{AwaitsReply, IsSyncedReply, TakesReply, Goes, HasBuffers, IsHolding, IsLoading, IsSound, IsAtStage, before, client_of, stage_of, step_of};
 ghost use Rattle.qs_request.specs.Shapes.{IsShape};
 
 use crate::machine::Machine;
@@ -185,6 +185,30 @@ impl Machine {
         };
     }
 
+    /// A stripe is synced, or was clean.
+    fn synced(&mut self, reply: StripeReply)
+        requires synced { IsSyncedReply reply }
+        requires awaits { AwaitsReply self.old (PartReply.Stripe reply) }
+        ensures { TakesReply self.old (PartReply.Stripe reply) self.new }
+    {
+        let _ = reply;
+        self.waits = false;
+        if let Stage::In(k, Step::Sync(s)) = self.stage {
+            self.stage = Stage::In(k, self.next_sync(s + 1));
+        }
+    }
+
+    /// The disk refused to sync.
+    fn sync_failed(&mut self)
+        requires { AwaitsReply self.old (PartReply.Stripe (Reply.Fault None)) }
+        ensures { TakesReply self.old (PartReply.Stripe (Reply.Fault None)) self.new }
+    {
+        self.waits = false;
+        if let Stage::In(k, Step::Sync(_)) = self.stage {
+            self.stage = Stage::In(k, Step::End(Ending::Failed(Errno::Io)));
+        }
+    }
+
     /// A hold was given up.
     fn freed(&mut self)
         requires { AwaitsReply self.old (PartReply.Stripe Reply.Freed) }
@@ -219,12 +243,14 @@ impl Machine {
         match reply {
             StripeReply::Filled(buf) => self.filled(buf),
             StripeReply::Fault(Some(buf)) => self.failed(buf),
-            StripeReply::Fault(None) => unreachable!(),
+            StripeReply::Fault(None) => self.sync_failed(),
             StripeReply::HeldBy(j, buf) => self.held_by(j, buf),
             StripeReply::Taken(b, buf) => self.taken(b, buf),
             StripeReply::Done(buf) => self.done(buf),
             StripeReply::Freed => self.freed(),
             StripeReply::NotHeld => self.waits = false,
+            StripeReply::Clean => self.synced(StripeReply::Clean),
+            StripeReply::Synced => self.synced(StripeReply::Synced),
         }
     }
 

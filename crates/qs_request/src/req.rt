@@ -13,7 +13,7 @@ use qs_bytes::{Ask, Bytes};
 use std::alloc::Global;
 use std::marker::Model;
 
-/// One client's READ or WRITE, at any offset: it gives the operation of a part that comes next, takes
+/// One client's READ, WRITE, WRITE_ZEROES, TRIM or FLUSH, at any offset: it gives the operation of a part that comes next, takes
 /// the part's reply, and gives its answer at the end (the request table; for padded writes QEMU's
 /// block/io.c). Nothing here takes memory.
 #[derive(Debug, Drop)]
@@ -37,9 +37,10 @@ impl Model for Req {
 impl Req {
     /// The request of a session to the export at place `e`.
     ///
-    /// The body is a READ's buffer or a WRITE's bytes. A READ or WRITE of some length without a body
-    /// or without blocks had its memory refused, and answers so; one of length 0 wants neither. The
-    /// allocator makes buffers of no bytes alone, which take no memory.
+    /// The body is a READ's buffer or a WRITE's bytes. A READ or WRITE of some length without a body,
+    /// and a READ, WRITE or WRITE_ZEROES of some length without blocks had its memory refused, and
+    /// answers so; others want neither. The allocator makes buffers of no bytes alone, which take no
+    /// memory.
     pub fn new(
         alloc: Global,
         session: u32,
@@ -141,7 +142,7 @@ impl Req {
     }
 
     /// The session has left: a request that hasn't entered is dropped at once, one without a span
-    /// ends, and another runs on. Its verdict is Dropped.
+    /// ends, also a FLUSH that syncs, and another runs on. Its verdict is Dropped.
     pub fn abandon(&mut self)
         requires free { self.old.waits ≡ false }
         requires unanswered { self.old.answered ≡ false }

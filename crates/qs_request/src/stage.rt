@@ -18,6 +18,7 @@ pub enum Step {
     Load(u64),
     Hold(Side),
     Store(u64),
+    Sync(u8),
     Free(Side),
     End(Ending),
 }

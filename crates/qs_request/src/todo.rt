@@ -1,5 +1,5 @@
 use qs_bytes::Verdict;
-use qs_part::graph::{GraphOp, GraphReply};
+use qs_part::graph::GraphReply;
 use qs_part::stripe::{StripeOp, StripeReply};
 use qs_part::tracker::{TrackerOp, TrackerReply};
 
@@ -8,8 +8,10 @@ use qs_part::tracker::{TrackerOp, TrackerReply};
 pub enum Todo {
     /// An operation of the tracker of requests.
     Tracker(TrackerOp),
-    /// An operation of the graph.
-    Graph(GraphOp),
+    /// The graph's operation Route, for the export at place `e`.
+    Route {
+        e: u8,
+    },
     /// An operation of the stripe with this number.
     Stripe(u8, StripeOp),
     /// The request is answered so. Nothing more is asked of it.

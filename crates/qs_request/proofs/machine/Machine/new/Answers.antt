@@ -27,7 +27,7 @@ returns-clause-request c =
 pub returns-clause-free : goal.returns-clause-free
 returns-clause-free c =
     made_free _ c.requires.shape refl refl c.first_stage.ensures
-    (λ buffered. ap (λ (xs : List ℕ). length xs) c.given.ensures
-    ∙ given_length c.args.ask c.args.body c.args.blocks c.requires.body (sym c.is_buffered-buffered.ensures ∙ buffered))
-    (λ buffered some. c.parted-work.ensures.align (some_blocks c.args.ask c.args.body c.args.blocks some (sym c.is_buffered-buffered.ensures ∙ buffered)))
-    (λ buffered some. c.parted-work.ensures.work (some_blocks c.args.ask c.args.body c.args.blocks some (sym c.is_buffered-buffered.ensures ∙ buffered)))
+    (λ buffered wants. ap (λ (xs : List ℕ). length xs) c.given.ensures
+    ∙ given_length c.args.ask c.args.body c.args.blocks c.requires.body (sym c.is_buffered-buffered.ensures ∙ buffered) wants)
+    (λ buffered wants. c.parted-work.ensures.align (some_blocks c.args.ask c.args.body c.args.blocks wants (sym c.is_buffered-buffered.ensures ∙ buffered)))
+    (λ buffered wants. c.parted-work.ensures.work (some_blocks c.args.ask c.args.body c.args.blocks wants (sym c.is_buffered-buffered.ensures ∙ buffered)))

@@ -1,0 +1,50 @@
+ghost use Rattle.std.specs.Prelude.{◌≡◌};
+ghost use Rattle.qs_model.specs.Requests.{brings_bytes, is_flush, is_known, is_read, is_trim, stores_bytes, wants_writable};
+
+use qs_bytes::Kind;
+
+/// Whether there is such a request.
+pub fn is_known(kind: Kind) -> bool
+    ensures { result ≡ is_known kind }
+{
+    !matches!(kind, Kind::Unknown(_))
+}
+
+pub fn is_read(kind: Kind) -> bool
+    ensures { result ≡ is_read kind }
+{
+    matches!(kind, Kind::Read)
+}
+
+pub fn is_flush(kind: Kind) -> bool
+    ensures { result ≡ is_flush kind }
+{
+    matches!(kind, Kind::Flush)
+}
+
+pub fn is_trim(kind: Kind) -> bool
+    ensures { result ≡ is_trim kind }
+{
+    matches!(kind, Kind::Trim)
+}
+
+/// Whether a request brings the bytes that it stores.
+pub fn brings_bytes(kind: Kind) -> bool
+    ensures { result ≡ brings_bytes kind }
+{
+    matches!(kind, Kind::Write)
+}
+
+/// Whether a request stores bytes, its own or zeros.
+pub fn stores_bytes(kind: Kind) -> bool
+    ensures { result ≡ stores_bytes kind }
+{
+    matches!(kind, Kind::Write | Kind::Zero)
+}
+
+/// Whether a request wants a way that may be written.
+pub fn wants_writable(kind: Kind) -> bool
+    ensures { result ≡ wants_writable kind }
+{
+    matches!(kind, Kind::Write | Kind::Zero | Kind::Trim)
+}
