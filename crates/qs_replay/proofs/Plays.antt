@@ -1,18 +1,20 @@
 -- Calls one behind the other, as a run of the model.
-use Rattle.std.proofs.Common.{◌≡◌, ℕ, List, [], ◌∷◌, ◌++◌, refl, sym, subst, ap, ◌∙◌}
+use Rattle.std.proofs.Common.{◌≡◌, ℕ, Bool, List, [], ◌∷◌, ◌++◌, refl, sym, subst, ap, ◌∙◌}
+use Rattle.std.specs.Prelude.{Option, Some}
 use Rattle.qs_outside.specs.Blocks.{Seen}
 use Rattle.qs_part.specs.declared.event.Event.{Event}
 use Rattle.qs_part.specs.declared.event.Outcome.{Outcome}
 use Rattle.qs_part.specs.declared.event.Outcome.TheVariants.{Attached, NoExport, Crowded, Left, Made, Moved, Answered, NotNext, Memory}
 use Rattle.qs_model.specs.Acts.{Element, Planned as PlannedStep}
+use Rattle.qs_model.specs.Events.{outcome_of}
 use Rattle.qs_model.specs.Guards.{May}
 use Rattle.qs_model.specs.Steps.{after, happens, Runs}
 use Rattle.qs_model.specs.Worlds.{World}
-use Rattle.qs_world.specs.Events.{Does, HasCause, Steps, StepsTo}
+use Rattle.qs_world.specs.Events.{Does, HasCause, IsAsPlanned, Steps, StepsTo}
 use Rattle.qs_world.specs.Stands.{Stands}
 use Rattle.qs_world.specs.Values.{WorldValue}
 use Rattle.qs_request.specs.declared.shape.Shape.{Shape}
-use Rattle.qs_replay.specs.Calls.{AreCalls, Call, Happened, Rigged, Makes, Plays}
+use Rattle.qs_replay.specs.Calls.{AreCalls, Call, Happened, Rigged, Makes, MakesStep, Plays, Walks, full_at}
 
 pub runs_more : (A : ℕ) (w : World) (es fs : List Element) → Runs A w es → Runs A (after A w es) fs → Runs A w (es ++ fs)
 runs_more A w [] fs run more = more
@@ -46,47 +48,61 @@ plays_of seen old event (Moved note) new next room steps cause = (steps, plays_o
 plays_of seen old event (Answered verdict note) new next room steps cause =
     (steps, plays_one seen old (Happened event (Answered verdict note)) new (steps, cause))
 
--- the step of the model that a call is
-unfoldable pub element_of : {D : Type 0} (seen : D → Seen) (w : WorldValue D) (c : Call) (v : WorldValue D) → Makes seen w c v → Element
-element_of seen w (Happened event outcome) v makes = makes.0.element
-element_of seen w (Rigged stripe fail) v makes = PlannedStep stripe fail
+-- the step of the model by which a call makes what it does
+made_by : {D : Type 0} (seen : D → Seen) (w : WorldValue D) (c : Call) (v : WorldValue D) → Makes seen w c v → (e : Element) × MakesStep seen w c e v
+made_by seen w (Happened event outcome) v makes = (makes.0.element, (makes.0, refl))
+made_by seen w (Rigged stripe fail) v makes = (PlannedStep stripe fail, (makes, refl))
 
-pub makes_does : {D : Type 0} (seen : D → Seen) (w : WorldValue D) (c : Call) (v : WorldValue D) (makes : Makes seen w c v) →
-    Does seen w (element_of seen w c v makes) v
-unfolding element_of
-makes_does seen w (Happened event outcome) v makes = makes.0.does
-makes_does seen w (Rigged stripe fail) v makes = makes.does
+pub step_does : {D : Type 0} (seen : D → Seen) (w : WorldValue D) (c : Call) (e : Element) (v : WorldValue D) → MakesStep seen w c e v → Does seen w e v
+step_does {D} seen w (Happened event outcome) e v made = subst (λ (x : Element). Does seen w x v) (sym made.1) made.0.does
+step_does {D} seen w (Rigged stripe fail) e v made = subst (λ (x : Element). Does seen w x v) (sym made.1) made.0.does
 
-pub makes_shape : {D : Type 0} (seen : D → Seen) (w : WorldValue D) (c : Call) (v : WorldValue D) → Makes seen w c v → v.shape ≡ w.shape
-makes_shape seen w (Happened event outcome) v makes = makes.0.shape_kept
-makes_shape {D} seen w (Rigged stripe fail) v makes = ap (λ (x : WorldValue D). x.shape) makes.rest
+-- a planned store leaves what its plan says
+pub step_planned : {D : Type 0} (seen : D → Seen) (w : WorldValue D) (c : Call) (e : Element) (v : WorldValue D) → MakesStep seen w c e v → IsAsPlanned seen w e
+step_planned {D} seen w (Happened event outcome) e v made = subst (λ (x : Element). IsAsPlanned seen w x) (sym made.1) made.0.as_planned
+step_planned {D} seen w (Rigged stripe fail) e v made = subst (λ (x : Element). IsAsPlanned seen w x) (sym made.1) tt
 
-pub makes_one : {D : Type 0} (seen : D → Seen) (w : WorldValue D) (c : Call) (v : WorldValue D) (makes : Makes seen w c v) (cs : List Call) (es : List Element) →
-    AreCalls w.shape.align cs es → AreCalls w.shape.align (c ∷ cs) (element_of seen w c v makes ∷ es)
-unfolding element_of
-makes_one seen w (Happened event outcome) v makes cs es are = (makes.0.answers_event, makes.0.outcome_is, are)
-makes_one seen w (Rigged stripe fail) v makes cs es are = (refl, are)
+pub step_shape : {D : Type 0} (seen : D → Seen) (w : WorldValue D) (c : Call) (e : Element) (v : WorldValue D) → MakesStep seen w c e v → v.shape ≡ w.shape
+step_shape seen w (Happened event outcome) e v made = made.0.shape_kept
+step_shape {D} seen w (Rigged stripe fail) e v made = ap (λ (x : WorldValue D). x.shape) made.0.rest
+
+-- the state of the model that the core stands for behind a call
+pub step_stands : {D : Type 0} (seen : D → Seen) (A : ℕ) (w : WorldValue D) (c : Call) (e : Element) (v : WorldValue D) (m : World) → w.shape.align ≡ A → Stands seen w m →
+    MakesStep seen w c e v → May A m e × Stands seen v (happens A m e) × (v.shape.align ≡ A)
+step_stands {D} seen A w c e v m align stands made =
+    let does : May A m e × Stands seen v (happens A m e) =
+    subst (λ (a : ℕ). May a m e × Stands seen v (happens a m e)) align (step_does seen w c e v made m stands) in
+    (does.0, does.1, ap (λ (s : Shape). s.align) (step_shape seen w c e v made) ∙ align)
+
+step_one : {D : Type 0} (seen : D → Seen) (A : ℕ) (w : WorldValue D) (c : Call) (e : Element) (v : WorldValue D) (cs : List Call) (es : List Element) → w.shape.align ≡ A →
+    MakesStep seen w c e v → AreCalls A cs es → AreCalls A (c ∷ cs) (e ∷ es)
+step_one {D} seen A w (Happened event outcome) e v cs es align made are =
+    subst (λ (x : Element). AreCalls A (Happened event outcome ∷ cs) (x ∷ es)) (sym made.1)
+    (made.0.answers_event, subst (λ (a : ℕ). outcome_of a made.0.element ≡ Some outcome) align made.0.outcome_is, are)
+step_one seen A w (Rigged stripe fail) e v cs es align made are = (made.1, are)
 
 -- a run of the model whose steps are these calls
-pub record Leads {D : Type 0} (seen : D → Seen) (A : ℕ) (m : World) (calls : List Call) (w : WorldValue D) : Type 0 where
+pub record Leads {D : Type 0} (seen : D → Seen) (A : ℕ) (w : WorldValue D) (m : World) (calls : List Call) (v : WorldValue D) : Type 0 where
   pub elements : List Element
+  pub fulls : List (ℕ → Option Bool)
   pub are : AreCalls A calls elements
+  pub walked : Walks seen w calls elements fulls v
   pub run : Runs A m elements
-  pub stands : Stands seen w (after A m elements)
+  pub stands : Stands seen v (after A m elements)
 
 pub leads : {D : Type 0} (seen : D → Seen) (A : ℕ) (w : WorldValue D) (calls : List Call) (v : WorldValue D) (m : World) → w.shape.align ≡ A → Stands seen w m →
-    Plays seen w calls v → Leads seen A m calls v
+    Plays seen w calls v → Leads seen A w m calls v
 leads {D} seen A w [] v m align stands plays =
-    record { elements = []; are = tt; run = tt; stands = subst (λ (x : WorldValue D). Stands seen x m) (sym plays) stands }
+    record { elements = []; fulls = []; are = tt; walked = plays; run = tt; stands = subst (λ (x : WorldValue D). Stands seen x m) (sym plays) stands }
 leads {D} seen A w (c ∷ calls) v m align stands plays =
-    let e : Element = element_of seen w c plays.0 plays.1.0 in
-    let first : May A m e × Stands seen plays.0 (happens A m e) =
-    subst (λ (a : ℕ). May a m e × Stands seen plays.0 (happens a m e)) align (makes_does seen w c plays.0 plays.1.0 m stands) in
-    let on = leads seen A plays.0 calls v (happens A m e) (ap (λ (s : Shape). s.align) (makes_shape seen w c plays.0 plays.1.0) ∙ align) first.1 plays.1.1 in
+    let (e, made) = made_by seen w c plays.0 plays.1.0 in
+    let (may, stands_too, align_too) = step_stands seen A w c e plays.0 m align stands made in
+    let on = leads seen A plays.0 calls v (happens A m e) align_too stands_too plays.1.1 in
     record {
       elements = e ∷ on.elements;
-      are = subst (λ (a : ℕ). AreCalls a (c ∷ calls) (e ∷ on.elements)) align
-          (makes_one seen w c plays.0 plays.1.0 calls on.elements (subst (λ (a : ℕ). AreCalls a calls on.elements) (sym align) on.are));
-      run = (first.0, on.run);
+      fulls = full_at seen w ∷ on.fulls;
+      are = step_one seen A w c e plays.0 calls on.elements align made on.are;
+      walked = (refl, plays.0, (made, on.walked));
+      run = (may, on.run);
       stands = on.stands;
     }

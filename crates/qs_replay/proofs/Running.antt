@@ -68,7 +68,7 @@ starts {D} seen disks w begins =
     record { align = ap (λ (v : WorldValue D). v.shape.align) begins.exports.same ∙ align; may = first.0; stands = first.1 }
 
 pub has_run : {D : Type 0} (seen : D → Seen) (disks : List D) (start w : WorldValue D) (calls : List Call) → Begins seen disks start → Plays seen start calls w →
-    HasRun seen (map seen disks) calls w
+    HasRun seen (map seen disks) start calls w
 has_run {D} seen disks start w calls begins plays =
     let A : ℕ = align_of (map seen disks) in
     let place : ℕ = begins.exports.place in
@@ -80,7 +80,9 @@ has_run {D} seen disks start w calls begins plays =
     record {
       place = place;
       elements = on.elements;
+      fulls = on.fulls;
       are = on.are;
+      walked = on.walked;
       run = (s.may, on.run);
       headline = headline A o steps some (s.may, on.run);
       besides = besides A o steps some (s.may, on.run);

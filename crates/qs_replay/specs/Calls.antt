@@ -1,5 +1,5 @@
 -- What happened to the core, one call after the other.
-use Rattle.std.specs.Prelude.{◌≡◌, ℕ, List, [], ◌∷◌, Some}
+use Rattle.std.specs.Prelude.{◌≡◌, ℕ, Bool, List, [], ◌∷◌, Option, Some}
 use Rattle.qs_outside.specs.Blocks.{Seen}
 use Rattle.qs_outside.specs.declared.rigged_disk.Fail.{Fail}
 use Rattle.qs_part.specs.declared.event.Event.{Event}
@@ -7,8 +7,9 @@ use Rattle.qs_part.specs.declared.event.Outcome.{Outcome}
 use Rattle.qs_model.specs.Acts.{Element, Planned as PlannedStep}
 use Rattle.qs_model.specs.Events.{IsEvent, outcome_of}
 use Rattle.qs_world.specs.Events.{HasCause, Steps}
+use Rattle.qs_world.specs.Images.{stripe_at}
 use Rattle.qs_world.specs.Openings.{Planned}
-use Rattle.qs_world.specs.Values.{WorldValue}
+use Rattle.qs_world.specs.Values.{WorldValue, stripes_of}
 
 -- an event with its outcome, or a failure that is planned for the disk of a stripe
 pub data Call : Type 0 where
@@ -32,3 +33,18 @@ AreCalls A [] (e ∷ es) = ⊥
 AreCalls A (c ∷ cs) [] = ⊥
 AreCalls A (Happened event outcome ∷ cs) (e ∷ es) = IsEvent event e × (outcome_of A e ≡ Some outcome) × AreCalls A cs es
 AreCalls A (Rigged stripe fail ∷ cs) (e ∷ es) = (e ≡ PlannedStep stripe fail) × AreCalls A cs es
+
+-- the call makes of the core what `Makes` says, by this step of the model
+abbrev pub MakesStep : {D : Type 0} → (D → Seen) → WorldValue D → Call → Element → WorldValue D → Type 0
+MakesStep seen w (Happened event outcome) e w' = (step : Steps seen w event outcome w') × (e ≡ step.element)
+MakesStep seen w (Rigged stripe fail) e w' = Planned seen w stripe fail w' × (e ≡ PlannedStep stripe fail)
+
+-- what the disk of each stripe tells of being full
+abbrev pub full_at : {D : Type 0} → (D → Seen) → WorldValue D → ℕ → Option Bool
+full_at seen w j = (stripe_at (stripes_of seen w) j).disk.full
+
+-- The calls, one after the other: each by its step of the model, and before it the disks tell this of being full.
+abbrev pub Walks : {D : Type 0} → (D → Seen) → WorldValue D → List Call → List Element → List (ℕ → Option Bool) → WorldValue D → Type 0
+Walks seen w [] [] [] w' = w' ≡ w
+Walks seen w (c ∷ cs) (e ∷ es) (full ∷ fulls) w' = (full ≡ full_at seen w) × (mid : WorldValue _) × (MakesStep seen w c e mid × Walks seen mid cs es fulls w')
+Walks seen w cs es fulls w' = ⊥

@@ -1,5 +1,5 @@
 -- What `run_replay` does, from its words to its status.
-use Rattle.std.specs.Prelude.{◌≡◌, ◌^◌, ℕ, ◌⊎◌, true, false, List, [], ◌∷◌, ◌++◌, map, codes, Option, Some, None, String}
+use Rattle.std.specs.Prelude.{◌≡◌, ◌^◌, ℕ, ◌⊎◌, Bool, true, false, List, [], ◌∷◌, ◌++◌, map, codes, Option, Some, None, String}
 use Rattle.std.specs.Global.{Global}
 use Rattle.qs_status.specs.declared.status.OpenBad.{OpenBad}
 use Rattle.qs_status.specs.declared.status.Status.{Status}
@@ -9,7 +9,7 @@ use Rattle.qs_image.specs.Image.{align_of}
 use Rattle.qs_image.specs.Opening.{Opens}
 use Rattle.qs_model.specs.Acts.{Element, Exported}
 use Rattle.qs_model.specs.Laws.{Besides, Headline, opening}
-use Rattle.qs_model.specs.Steps.{Runs, after}
+use Rattle.qs_model.specs.Steps.{Runs, after, happens}
 use Rattle.qs_model.specs.Worlds.{World}
 use Rattle.qs_part.specs.declared.graph.GraphOp.{GraphOp}
 use Rattle.qs_part.specs.declared.graph.GraphOp.TheVariants.{ExportAdd}
@@ -20,7 +20,7 @@ use Rattle.qs_world.specs.Openings.{Exports, IsOpened, opening_over}
 use Rattle.qs_world.specs.Stands.{Stands}
 use Rattle.qs_world.specs.Values.{WorldValue}
 use Rattle.qs_replay.specs.declared.words.ReplayWords.{ReplayWords}
-use Rattle.qs_replay.specs.Calls.{AreCalls, Call}
+use Rattle.qs_replay.specs.Calls.{AreCalls, Call, Walks}
 use Rattle.qs_replay.specs.Scripts.{ReachesLine, Replays, Scene, lines_of}
 use Rattle.std.specs.FinMap.{empty as no_requests}
 use Rattle.std.specs.FinSet.{empty as no_cookies}
@@ -42,12 +42,18 @@ opened disks = opening (opening_over disks (codes "file0") false)
 abbrev pub export : GraphOp
 export = ExportAdd (codes "disk") (codes "disk") (codes "file0") true true
 
--- A run of the model from its opening state: the export is made, and then each step is a call's, in order.
--- The headline holds of it, and so do the other laws of runs; the core stands for where it leads.
-pub record HasRun {D : Type 0} (seen : D → Seen) (disks : List Seen) (calls : List Call) (w : WorldValue D) : Type 0 where
+-- the state behind the making of that export, at this place
+abbrev pub exported : List Seen → ℕ → World
+exported disks place = happens (align_of disks) (opened disks) (Exported export place)
+
+-- A run of the model from its opening state: the export is made, and then each step is a call's, in order, as the core went through
+-- them; before each the disks told `fulls`. The headline holds of it, and so do the other laws of runs; the core stands for where it leads.
+pub record HasRun {D : Type 0} (seen : D → Seen) (disks : List Seen) (start : WorldValue D) (calls : List Call) (w : WorldValue D) : Type 0 where
   pub place : ℕ
   pub elements : List Element
+  pub fulls : List (ℕ → Option Bool)
   pub are : AreCalls (align_of disks) calls elements
+  pub walked : Walks seen start calls elements fulls w
   pub run : Runs (align_of disks) (opened disks) (Exported export place ∷ elements)
   pub headline : Headline (align_of disks) (opened disks) (Exported export place ∷ elements)
   pub besides : Besides (align_of disks) (opened disks) (Exported export place ∷ elements)
@@ -90,7 +96,7 @@ pub record IsReplayed {D : Type 0} (seen : D → Seen) (disks : List D) (left se
   pub sent_is : sent' ≡ after_all.flow.output.bytes
   pub disks_are : disks' ≡ map (λ s. s.disk) after_all.world.stripes
   pub reaches : (script : List ℕ) → left ≡ Some script → ReachesLine result most_lines (lines_of script) replays.texts replays.world replays.names
-  pub run : HasRun seen (map seen disks) (replays.calls ++ replays.cut) after_all.world
+  pub run : HasRun seen (map seen disks) start (replays.calls ++ replays.cut) after_all.world
 
 -- nothing was read, written or changed
 pub record Untouched {D : Type 0} (disks : List D) (left sent : Option (List ℕ)) (disks' : List D) (left' sent' : Option (List ℕ)) : Type 0 where

@@ -1,3 +1,4 @@
+pub mod Calm
 pub mod Twins
 pub mod TwinEvents
 pub mod TwinLines

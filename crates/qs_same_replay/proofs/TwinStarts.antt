@@ -31,7 +31,7 @@ told {D} seen disks w begins tell = each disks (λ k below. tell k (omega (arith
     each (d ∷ ds) all = both (seen d).tells (tells_of (map seen ds)) (all zero (omega arith)) (each ds (λ k below. all (suc k) (omega arith)))
 
 -- an export is made at the lowest free place
-place_one : (v : GraphValue) (op : GraphOp) (place other : ℕ) → GraphMay v op (Added place) → GraphMay v op (Added other) → other ≡ place
+pub place_one : (v : GraphValue) (op : GraphOp) (place other : ℕ) → GraphMay v op (Added place) → GraphMay v op (Added other) → other ≡ place
 place_one v (ExportAdd id name node writable share) place other a b =
     let here : position is_vacant v.places ≡ Some place = a.1 in
     let there : position is_vacant v.places ≡ Some other = b.1 in

@@ -15,7 +15,8 @@ use Rattle.qs_model.specs.Steps.{Runs, after, happens}
 use Rattle.qs_model.specs.Worlds.{World}
 use Rattle.qs_model.proofs.Basics.{either}
 use Rattle.qs_replay.specs.Calls.{AreCalls, Call, Happened, Rigged}
-use Rattle.qs_same_replay.specs.Same.{AreCalm, IsGiven}
+use Rattle.qs_same_replay.specs.Same.{IsGiven}
+use Rattle.qs_same_replay.proofs.Calm.{AreUndisturbed}
 
 -- what comes from outside
 abbrev pub input_of : Call → Input
@@ -44,7 +45,7 @@ pub never_later : (e : Element) (es : List Element) → NeverOdd (e ∷ es) → 
 never_later e es never before d follows = never (e ∷ before) d (follows.0, ap (λ (xs : List Element). e ∷ xs) follows.1)
 
 -- a run that nothing outside disturbed
-pub calmly : (A : ℕ) (m : World) (calls : List Call) (es : List Element) → AreCalls A calls es → Runs A m es → AreCalm A m es → NeverOdd es →
+pub calmly : (A : ℕ) (m : World) (calls : List Call) (es : List Element) → AreCalls A calls es → Runs A m es → AreUndisturbed A m es → NeverOdd es →
     Calmly A m calls (after A m es)
 calmly A m [] [] are run calm never = refl
 calmly A m [] (e ∷ es) are run calm never = absurd are

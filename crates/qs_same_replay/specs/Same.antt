@@ -1,26 +1,38 @@
 -- Two replays of one script side by side, and what they have in common.
-use Rattle.std.specs.Prelude.{◌≡◌, ℕ, true, false, List, [], ◌∷◌, map, Option, Some}
+use Rattle.std.specs.Prelude.{◌≡◌, ◌≢◌, ℕ, Bool, true, false, List, [], ◌∷◌, map, Option, Some, None}
 use Rattle.qs_status.specs.declared.status.Status.{Status}
 use Rattle.qs_status.specs.declared.status.Status.TheVariants as status
 use Rattle.qs_outside.specs.Blocks.{Seen}
-use Rattle.qs_determined.specs.Determined.{IsUndisturbed}
+use Rattle.qs_bytes.specs.Geometry.{stripe_of}
+use Rattle.qs_determined.specs.Determined.{IsRowPlanned}
 use Rattle.qs_image.specs.Image.{AllTell, align_of, block_now, size_of}
-use Rattle.qs_model.specs.Acts.{Element, Asked, Exported}
-use Rattle.qs_model.specs.Requests.{form_error}
+use Rattle.qs_model.specs.Acts.{Act, StoreFails, Element, Asked, Did}
+use Rattle.qs_model.specs.Requests.{Client, Stage, form_error}
 use Rattle.qs_model.specs.Steps.{happens}
 use Rattle.qs_model.specs.Worlds.{World}
 use Rattle.qs_world.specs.Openings.{planned_of}
-use Rattle.qs_replay.specs.Runs.{IsReplayed, export, opened}
+use Rattle.qs_replay.specs.Runs.{IsReplayed, exported}
 
 -- a request that is made was given its buffers, unless its form alone refuses it
 abbrev pub IsGiven : Element → Type 0
 IsGiven (Asked r c) = form_error c.ask ≡ false → c.buffered ≡ true
 IsGiven _ = Unit {0}
 
--- No disk failed in these steps but by a plan, and no request was refused its buffers.
-abbrev pub AreCalm : ℕ → World → List Element → Type 0
-AreCalm A w [] = Unit {0}
-AreCalm A w (e ∷ es) = IsUndisturbed A w e × IsGiven e × AreCalm A (happens A w e) es
+-- A row in which the disk failed: that was planned, and the disk of a store told that it isn't full.
+abbrev pub IsRowByPlan : ℕ → World → (ℕ → Option Bool) → Client → {stage : Stage} → Act stage → Type 0
+IsRowByPlan A w full c (StoreFails {b = b} bytes took past) = ((w.plans (stripe_of b)).store ≢ None) × (full (stripe_of b) ≡ Some false)
+IsRowByPlan A w full c act = IsRowPlanned A w c act
+
+-- no disk failed in this step but by a plan
+abbrev pub IsByPlan : ℕ → World → (ℕ → Option Bool) → Element → Type 0
+IsByPlan A w full (Did r q act) = IsRowByPlan A w full q.client act
+IsByPlan A w full _ = Unit {0}
+
+-- No disk failed in these steps but by a plan, and no request was refused its buffers. Before each step the disks told this of being full.
+abbrev pub AreCalm : ℕ → World → List Element → List (ℕ → Option Bool) → Type 0
+AreCalm A w [] [] = Unit {0}
+AreCalm A w (e ∷ es) (full ∷ fulls) = IsByPlan A w full e × IsGiven e × AreCalm A (happens A w e) es fulls
+AreCalm A w es fulls = ⊥
 
 -- the input and the output didn't fail, and no memory was refused
 abbrev pub IsSmooth : Status → Type 0
@@ -47,8 +59,8 @@ pub record AreComparable {D : Type 0} {seen : D → Seen} {disks others : List D
   pub alike : OpenAlike (map seen disks) (map seen others)
   pub smooth : IsSmooth result
   pub smooth_too : IsSmooth result'
-  pub calm : AreCalm (align_of (map seen disks)) (opened (map seen disks)) (Exported export one.run.place ∷ one.run.elements)
-  pub calm_too : AreCalm (align_of (map seen others)) (opened (map seen others)) (Exported export two.run.place ∷ two.run.elements)
+  pub calm : AreCalm (align_of (map seen disks)) (exported (map seen disks) one.run.place) one.run.elements one.run.fulls
+  pub calm_too : AreCalm (align_of (map seen others)) (exported (map seen others) two.run.place) two.run.elements two.run.fulls
 
 -- They did the same: the status, the lines, the calls with their outcomes, what was printed, and the content of the disks.
 pub record AreSame {D : Type 0} {seen : D → Seen} {disks others : List D} {left sent sent' : Option (List ℕ)} {result result' : Status}
