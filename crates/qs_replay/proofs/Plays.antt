@@ -50,7 +50,7 @@ plays_of seen old event (Answered verdict note) new next room steps cause =
 
 -- the step of the model by which a call makes what it does
 made_by : {D : Type 0} (seen : D → Seen) (w : WorldValue D) (c : Call) (v : WorldValue D) → Makes seen w c v → (e : Element) × MakesStep seen w c e v
-made_by seen w (Happened event outcome) v makes = (makes.0.element, (makes.0, refl))
+made_by seen w (Happened event outcome) v makes = (makes.0.element, (makes.0, refl, makes.1))
 made_by seen w (Rigged stripe fail) v makes = (PlannedStep stripe fail, (makes, refl))
 
 pub step_does : {D : Type 0} (seen : D → Seen) (w : WorldValue D) (c : Call) (e : Element) (v : WorldValue D) → MakesStep seen w c e v → Does seen w e v

@@ -34,9 +34,9 @@ AreCalls A (c ∷ cs) [] = ⊥
 AreCalls A (Happened event outcome ∷ cs) (e ∷ es) = IsEvent event e × (outcome_of A e ≡ Some outcome) × AreCalls A cs es
 AreCalls A (Rigged stripe fail ∷ cs) (e ∷ es) = (e ≡ PlannedStep stripe fail) × AreCalls A cs es
 
--- the call makes of the core what `Makes` says, by this step of the model
+-- the call makes of the core what `Makes` says, and does it by this step of the model
 abbrev pub MakesStep : {D : Type 0} → (D → Seen) → WorldValue D → Call → Element → WorldValue D → Type 0
-MakesStep seen w (Happened event outcome) e w' = (step : Steps seen w event outcome w') × (e ≡ step.element)
+MakesStep seen w (Happened event outcome) e w' = (step : Steps seen w event outcome w') × (e ≡ step.element) × HasCause seen w outcome w'
 MakesStep seen w (Rigged stripe fail) e w' = Planned seen w stripe fail w' × (e ≡ PlannedStep stripe fail)
 
 -- what the disk of each stripe tells of being full
@@ -46,5 +46,6 @@ full_at seen w j = (stripe_at (stripes_of seen w) j).disk.full
 -- The calls, one after the other: each by its step of the model, and before it the disks tell this of being full.
 abbrev pub Walks : {D : Type 0} → (D → Seen) → WorldValue D → List Call → List Element → List (ℕ → Option Bool) → WorldValue D → Type 0
 Walks seen w [] [] [] w' = w' ≡ w
-Walks seen w (c ∷ cs) (e ∷ es) (full ∷ fulls) w' = (full ≡ full_at seen w) × (mid : WorldValue _) × (MakesStep seen w c e mid × Walks seen mid cs es fulls w')
+Walks seen w (c ∷ cs) (e ∷ es) (full ∷ fulls) w' =
+    (full ≡ full_at seen w) × (mid : WorldValue _) × (MakesStep seen w c e mid × Walks seen mid cs es fulls w')
 Walks seen w cs es fulls w' = ⊥

@@ -46,8 +46,9 @@ export = ExportAdd (codes "disk") (codes "disk") (codes "file0") true true
 abbrev pub exported : List Seen → ℕ → World
 exported disks place = happens (align_of disks) (opened disks) (Exported export place)
 
--- A run of the model from its opening state: the export is made, and then each step is a call's, in order, as the core went through
--- them; before each the disks told `fulls`. The headline holds of it, and so do the other laws of runs; the core stands for where it leads.
+-- A run of the model from its opening state: the export is made, and then each step is a call's, in order, as the core
+-- went through them; before each the disks told this of being full. The headline holds of it, and so do the other laws
+-- of runs; the core stands for where it leads.
 pub record HasRun {D : Type 0} (seen : D → Seen) (disks : List Seen) (start : WorldValue D) (calls : List Call) (w : WorldValue D) : Type 0 where
   pub place : ℕ
   pub elements : List Element

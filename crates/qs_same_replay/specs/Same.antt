@@ -28,7 +28,8 @@ abbrev pub IsByPlan : ℕ → World → (ℕ → Option Bool) → Element → Ty
 IsByPlan A w full (Did r q act) = IsRowByPlan A w full q.client act
 IsByPlan A w full _ = Unit {0}
 
--- No disk failed in these steps but by a plan, and no request was refused its buffers. Before each step the disks told this of being full.
+-- No disk failed in these steps but by a plan, and no request was refused its buffers. Before each step the disks told
+-- this of being full.
 abbrev pub AreCalm : ℕ → World → List Element → List (ℕ → Option Bool) → Type 0
 AreCalm A w [] [] = Unit {0}
 AreCalm A w (e ∷ es) (full ∷ fulls) = IsByPlan A w full e × IsGiven e × AreCalm A (happens A w e) es fulls
