@@ -4,4 +4,5 @@ pub mod Loads
 pub mod Merges
 pub mod Made
 pub mod Rows
+pub mod NextSync
 pub mod Wanted

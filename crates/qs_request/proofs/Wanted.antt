@@ -1,5 +1,5 @@
 -- What a part may answer to the operation of a stage is what may be told to a request at it.
-use Rattle.std.proofs.Common.{ℕ, Bool, List, Some, subst}
+use Rattle.std.proofs.Common.{ℕ, Bool, List, Some, None, subst}
 use Rattle.qs_bytes.specs.Spans.{Places, aligned_out}
 use Rattle.qs_bytes.specs.declared.ask.Verdict.{Verdict}
 use Rattle.qs_part.specs.declared.stripe.Side.{Side}

@@ -8,8 +8,6 @@ use Rattle.qs_bytes.specs.declared.ask.Verdict.TheVariants.{Refused, Dropped}
 use Rattle.qs_bytes.specs.Spans.{Places}
 use Rattle.qs_part.specs.declared.graph.Route.{Route}
 use Rattle.qs_part.specs.declared.stripe.Side.{Side}
-use Rattle.qs_part.specs.declared.stripe.StripeReply.{StripeReply}
-use Rattle.qs_part.specs.declared.stripe.StripeReply.TheVariants.{Clean, Synced}
 use Rattle.qs_part.specs.declared.stripe.Side.TheVariants.{Head, Tail}
 use Rattle.qs_model.specs.Requests.{Client, Req, Step, Stage, ToRoute, ToList, ToStart, ToLoad, ToHold, ToStore, ToSync, ToFree, ToEnd, Ready, Entering, In, edge, has, span_of, pad, no_route, success, form_error, is_flush, is_known, is_read, stores_bytes, wants_buffers}
 use Rattle.qs_request.specs.declared.stage.Ending.{Ending}
@@ -192,12 +190,6 @@ pub record AwaitsReply (m : Machine) (reply : PartReply) : Type 0 where
   pub waits : m.waits ≡ true
   pub answered : m.answered ≡ false
   pub may : MayAnswer m.shape (stage_of m m.stage) reply
-
--- a Sync that went well
-abbrev pub IsSyncedReply : StripeReply → Type 0
-IsSyncedReply Clean = Unit {0}
-IsSyncedReply Synced = Unit {0}
-IsSyncedReply _ = ⊥
 
 -- the reply was taken
 pub record TakesReply (old : Machine) (reply : PartReply) (new : Machine) : Type 0 where

@@ -6,8 +6,8 @@ ghost use Rattle.qs_request.specs.Value.{client_for, given_bytes, has_buffers};
 ghost use Rattle.qs_request.specs.Inside.{IsFree, first_stage, request_of};
 ghost use Rattle.qs_request.specs.Kept.{no_pads};
 
-use crate::machine::Machine;
 use crate::kinds::{brings_bytes, is_known, is_read, stores_bytes};
+use crate::machine::Machine;
 use crate::pads::PadBuffer;
 use crate::shape::{Blocks, Shape};
 use crate::stage::{Ending, Stage};

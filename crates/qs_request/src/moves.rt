@@ -259,8 +259,20 @@ impl Machine {
         is_flush(self.ask.kind) || touches(self.edge(Side::Head), self.edge(Side::Tail), s)
     }
 
+    /// What a request does that has synced stripe `s`.
+    #[tactic(auto, using(crate::proofs::NextSync::sync_next))]
+    pub fn after_sync(&self, s: u8) -> Step
+        requires shape { IsShape self.now.shape }
+        requires syncing { IsSyncing self.now }
+        requires stripe { s < 8 }
+        ensures step { step_of self.now result ≡ synced self.now.shape.align (client_of self.now) s }
+        ensures goes { Goes self.now result }
+    {
+        self.next_sync(s + 1)
+    }
+
     /// From stripe `from` on, the first that the request syncs, or its end.
-    pub fn next_sync(&self, from: u8) -> Step
+    fn next_sync(&self, from: u8) -> Step
         requires shape { IsShape self.now.shape }
         requires syncing { IsSyncing self.now }
         requires from { from ≤ 8 }

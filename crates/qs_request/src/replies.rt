@@ -3,7 +3,7 @@ ghost use Rattle.qs_bytes.specs.Pieces.{overlay};
 ghost use Rattle.qs_part.specs.declared.stripe.StripeReply.{StripeReply as Reply};
 ghost use Rattle.qs_model.specs.Requests.{held, keep, loaded, piece, In as InFlight};
 ghost use Rattle.qs_request.specs.Table.{MayTrack, after_tracker};
-ghost use Rattle.qs_request.specs.Inside.{AwaitsReply, IsSyncedReply, TakesReply, Goes, HasBuffers, IsHolding, IsLoading, IsSound, IsAtStage, before, client_of, stage_of, step_of};
+ghost use Rattle.qs_request.specs.Inside.{AwaitsReply, TakesReply, Goes, HasBuffers, IsHolding, IsLoading, IsSound, IsAtStage, before, client_of, stage_of, step_of};
 ghost use Rattle.qs_request.specs.Shapes.{IsShape};
 
 use crate::machine::Machine;
@@ -185,16 +185,25 @@ impl Machine {
         };
     }
 
-    /// A stripe is synced, or was clean.
-    fn synced(&mut self, reply: StripeReply)
-        requires synced { IsSyncedReply reply }
-        requires awaits { AwaitsReply self.old (PartReply.Stripe reply) }
-        ensures { TakesReply self.old (PartReply.Stripe reply) self.new }
+    /// A stripe was clean.
+    fn clean(&mut self)
+        requires { AwaitsReply self.old (PartReply.Stripe Reply.Clean) }
+        ensures { TakesReply self.old (PartReply.Stripe Reply.Clean) self.new }
     {
-        let _ = reply;
         self.waits = false;
         if let Stage::In(k, Step::Sync(s)) = self.stage {
-            self.stage = Stage::In(k, self.next_sync(s + 1));
+            self.stage = Stage::In(k, self.after_sync(s));
+        }
+    }
+
+    /// A stripe is synced.
+    fn synced(&mut self)
+        requires { AwaitsReply self.old (PartReply.Stripe Reply.Synced) }
+        ensures { TakesReply self.old (PartReply.Stripe Reply.Synced) self.new }
+    {
+        self.waits = false;
+        if let Stage::In(k, Step::Sync(s)) = self.stage {
+            self.stage = Stage::In(k, self.after_sync(s));
         }
     }
 
@@ -249,8 +258,8 @@ impl Machine {
             StripeReply::Done(buf) => self.done(buf),
             StripeReply::Freed => self.freed(),
             StripeReply::NotHeld => self.waits = false,
-            StripeReply::Clean => self.synced(StripeReply::Clean),
-            StripeReply::Synced => self.synced(StripeReply::Synced),
+            StripeReply::Clean => self.clean(),
+            StripeReply::Synced => self.synced(),
         }
     }
 

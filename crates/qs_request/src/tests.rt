@@ -1,10 +1,10 @@
 ghost use Rattle.std.specs.Prelude.{◌≡◌, length, IfSome};
-ghost use Rattle.qs_request.specs.Operations.{GraphMay, StripeMay, TrackerMay};
+ghost use Rattle.qs_request.specs.Operations.{RouteMay, StripeMay, TrackerMay};
 ghost use Rattle.qs_request.specs.Table.{FitsStripe};
 
 use crate::{Blocks, PartReply, Req, Shape, Todo};
 use qs_bytes::{Ask, Bytes, Errno, Kind, Verdict};
-use qs_part::graph::{GraphOp, GraphReply, Route};
+use qs_part::graph::{GraphReply, Route};
 use qs_part::stripe::{Side, StripeOp, StripeReply};
 use qs_part::tracker::{TrackerOp, TrackerReply};
 use std::alloc::Global;
@@ -36,6 +36,7 @@ enum Said {
     Hold(u8, u64, Side),
     Store(u8, u64, u32),
     Free(u8, u64),
+    Sync(u8),
     End(u8),
     Got(usize, u32),
     Fine,
@@ -88,19 +89,13 @@ fn tracker_said(op: TrackerOp) -> Said {
     }
 }
 
-fn graph_said(op: GraphOp) -> Said {
-    match op {
-        GraphOp::Route { e } => Said::Route(e),
-        _ => Said::Other,
-    }
-}
-
 fn stripe_said(s: u8, op: &StripeOp) -> Said {
     match op {
         StripeOp::Load { b, .. } => Said::Load(s, *b),
         StripeOp::Hold { b, end, .. } => Said::Hold(s, *b, *end),
         StripeOp::Store { b, buf, .. } => Said::Store(s, *b, ends(buf.as_slice())),
         StripeOp::Free { b, .. } => Said::Free(s, *b),
+        StripeOp::Sync => Said::Sync(s),
     }
 }
 
@@ -116,18 +111,15 @@ fn tracker_reply(op: TrackerOp) -> Option<TrackerReply>
     }
 }
 
-fn graph_reply(rt: &impl Abort, op: GraphOp, way: Option<Route>, shape: Shape) -> Option<GraphReply>
-    ensures { IfSome result (GraphMay shape op) }
+fn route_reply(rt: &impl Abort, way: Option<Route>, shape: Shape) -> GraphReply
+    ensures { RouteMay shape result }
 {
-    match op {
-        GraphOp::Route { .. } => match way {
-            Some(way) => {
-                assert!(rt; way.size <= shape.size && way.offset <= shape.size - way.size);
-                Some(GraphReply::Routed(way))
-            }
-            None => Some(GraphReply::Shutting),
-        },
-        _ => None,
+    match way {
+        Some(way) => {
+            assert!(rt; way.size <= shape.size && way.offset <= shape.size - way.size);
+            GraphReply::Routed(way)
+        }
+        None => GraphReply::Shutting,
     }
 }
 
@@ -143,6 +135,9 @@ fn stripe_reply(op: StripeOp, parts: Parts, s: u8, shape: Shape) -> StripeReply
         StripeOp::Store { buf, .. } if parts.refuses => StripeReply::Fault(Some(buf)),
         StripeOp::Store { buf, .. } => StripeReply::Done(buf),
         StripeOp::Free { .. } => StripeReply::Freed,
+        StripeOp::Sync if parts.refuses => StripeReply::Fault(None),
+        StripeOp::Sync if s == 3 => StripeReply::Clean,
+        StripeOp::Sync => StripeReply::Synced,
     }
 }
 
@@ -158,11 +153,10 @@ fn step(rt: &impl Abort, req: &mut Req, parts: Parts) -> Said {
             }
             tracker_said(op)
         }
-        Todo::Graph(op) => {
-            if let Some(reply) = graph_reply(rt, op, parts.way, shape) {
-                req.after(PartReply::Graph(reply));
-            }
-            graph_said(op)
+        Todo::Route { e } => {
+            let reply = route_reply(rt, parts.way, shape);
+            req.after(PartReply::Graph(reply));
+            Said::Route(e)
         }
         Todo::Stripe(s, op) => {
             let said = stripe_said(s, &op);
@@ -324,6 +318,68 @@ fn a_read_gets_the_covered_bytes_of_its_blocks(rt: HostRuntime) -> Result<(), Fa
     Ok(())
 }
 
+/// A FLUSH of nothing, whatever places it names, over a way that isn't writable.
+fn flush(
+    rt: &impl Abort,
+    alloc: Global,
+    refused: usize,
+    left: usize,
+    tail: &[Said],
+) -> Result<(), Fail> {
+    let mut req = made(rt, alloc, ask(Kind::Flush, u64::MAX, 9), None)?;
+    let way = Route {
+        writable: false,
+        ..WAY
+    };
+    let mut want = [Said::Enter, Said::Route(3)].to_vec(alloc)?;
+    want.extend_from_slice(tail)?;
+    run(rt, &mut req, Some(way), refused, left, want.as_slice());
+    Ok(())
+}
+
+#[test]
+fn a_flush_syncs_every_stripe(rt: HostRuntime) -> Result<(), Fail> {
+    let all = [0, 1, 2, 3, 4, 5, 6, 7].map(Said::Sync);
+    let mut fine = all.to_vec(rt.alloc())?;
+    fine.extend_from_slice(&[Said::End(0), Said::Fine])?;
+    flush(&rt, rt.alloc(), NEVER, NEVER, fine.as_slice())?;
+    let refused = Said::Refused(Errno::Io);
+    let cut = [Said::Sync(0), Said::Sync(1), Said::End(0), refused];
+    flush(&rt, rt.alloc(), 3, NEVER, &cut)?;
+    let left = [Said::Sync(0), Said::Sync(1), Said::End(0), Said::Dropped];
+    flush(&rt, rt.alloc(), NEVER, 4, &left)
+}
+
+#[test]
+fn zeros_are_stored_and_synced(rt: HostRuntime) -> Result<(), Fail> {
+    let zero = Ask {
+        fua: true,
+        ..ask(Kind::Zero, 510, 514)
+    };
+    let stages = [
+        Said::Enter,
+        Said::Route(3),
+        Said::List(0, 0, 1024, true),
+        Said::Start(0),
+        Said::Hold(0, 0, Side::Head),
+        Said::Store(0, 0, 0x0404_0000),
+        Said::Store(0, 1, 0),
+        Said::Sync(0),
+        Said::End(0),
+    ];
+    for (refused, left, answer) in [
+        (NEVER, NEVER, Said::Fine),
+        (7, NEVER, Said::Refused(Errno::Io)),
+        (NEVER, 7, Said::Dropped),
+    ] {
+        let mut req = made(&rt, rt.alloc(), zero, None)?;
+        let mut want = stages.to_vec(rt.alloc())?;
+        want.push(answer)?;
+        run(&rt, &mut req, Some(WAY), refused, left, want.as_slice());
+    }
+    Ok(())
+}
+
 #[test]
 fn requests_are_refused(rt: HostRuntime) -> Result<(), Fail> {
     let one: Option<&[u8]> = Some(&[9]);
@@ -352,6 +408,37 @@ fn requests_are_refused(rt: HostRuntime) -> Result<(), Fail> {
         ),
         (ask(Kind::Read, 4096, 0), None, WAY, Said::Got(0, 0)),
         (ask(Kind::Write, 0, 0), None, WAY, Said::Fine),
+        (
+            ask(Kind::Write, 4097, 0),
+            None,
+            WAY,
+            Said::Refused(Errno::NoSpace),
+        ),
+        (
+            ask(Kind::Zero, 4095, 2),
+            None,
+            WAY,
+            Said::Refused(Errno::NoSpace),
+        ),
+        (
+            ask(Kind::Zero, 0, 0),
+            None,
+            read_only,
+            Said::Refused(Errno::Perm),
+        ),
+        (
+            ask(Kind::Trim, 4095, 2),
+            None,
+            WAY,
+            Said::Refused(Errno::Inval),
+        ),
+        (
+            ask(Kind::Trim, 0, 1),
+            None,
+            read_only,
+            Said::Refused(Errno::Perm),
+        ),
+        (ask(Kind::Trim, 0, 4096), None, WAY, Said::Fine),
     ];
     for (ask, body, way, answer) in rows {
         let mut req = made(&rt, rt.alloc(), ask, body)?;
@@ -372,8 +459,8 @@ fn requests_are_refused(rt: HostRuntime) -> Result<(), Fail> {
 #[test]
 fn requests_are_answered_at_once(rt: HostRuntime) -> Result<(), Fail> {
     let flagged = Ask {
-        fua: true,
-        ..ask(Kind::Write, 0, 1)
+        flags_fit: false,
+        ..ask(Kind::Flush, 0, 0)
     };
     let rows = [
         (
@@ -381,7 +468,11 @@ fn requests_are_answered_at_once(rt: HostRuntime) -> Result<(), Fail> {
             NEVER,
             Said::Refused(Errno::Inval),
         ),
-        (ask(Kind::Flush, 0, 0), NEVER, Said::Refused(Errno::Inval)),
+        (
+            ask(Kind::Unknown(7), 0, 0),
+            NEVER,
+            Said::Refused(Errno::Inval),
+        ),
         (flagged, NEVER, Said::Refused(Errno::Inval)),
         (ask(Kind::Write, 0, 1), NEVER, Said::Refused(Errno::NoMem)),
         (ask(Kind::Write, 0, 0), 0, Said::Dropped),

@@ -9,9 +9,7 @@ pub enum Todo {
     /// An operation of the tracker of requests.
     Tracker(TrackerOp),
     /// The graph's operation Route, for the export at place `e`.
-    Route {
-        e: u8,
-    },
+    Route { e: u8 },
     /// An operation of the stripe with this number.
     Stripe(u8, StripeOp),
     /// The request is answered so. Nothing more is asked of it.

@@ -7,7 +7,7 @@ use Rattle.qs_part.specs.declared.event.Actor.TheVariants.{Session as ASession, 
 use Rattle.qs_part.specs.declared.event.Event.{Event}
 use Rattle.qs_part.specs.declared.event.Event.TheVariants.{Attach, Leave, Ask, Step}
 use Rattle.qs_part.specs.declared.event.OpKind.{OpKind}
-use Rattle.qs_part.specs.declared.event.OpKind.TheVariants.{Load as LoadKind, Hold as HoldKind, Store as StoreKind, Free as FreeKind}
+use Rattle.qs_part.specs.declared.event.OpKind.TheVariants.{Load as LoadKind, Hold as HoldKind, Store as StoreKind, Free as FreeKind, Sync as SyncKind}
 use Rattle.qs_part.specs.declared.event.Outcome.{Outcome}
 use Rattle.qs_part.specs.declared.event.Outcome.TheVariants.{NotNext, Memory, Moved}
 use Rattle.qs_part.specs.declared.event.NoteReply.TheVariants.{Stripe}
@@ -81,12 +81,13 @@ IsNotNext w (Ask session ask body) = ((e : ℕ) → session_at w.sessions sessio
 IsNotNext w (Step (ARequest r) now) = request_at w.requests r ≡ None
 IsNotNext w (Step (ASession s) now) = ((e : ℕ) → session_at w.sessions s ≢ Leaving e) ⊎ HasRequest w s
 
--- the stripe whose disk an operation is on, by its kind and what it stands on: the stripe of a block
+-- the stripe whose disk an operation is on, by its kind and what it stands on: the stripe of a block, or the stripe itself
 abbrev pub stripe_by : OpKind → Option ℕ → Option ℕ
 stripe_by LoadKind (Some b) = Some (stripe_of b)
 stripe_by HoldKind (Some b) = Some (stripe_of b)
 stripe_by StoreKind (Some b) = Some (stripe_of b)
 stripe_by FreeKind (Some b) = Some (stripe_of b)
+stripe_by SyncKind (Some s) = Some s
 stripe_by _ _ = None
 
 -- a fault of a disk comes only where its count rose

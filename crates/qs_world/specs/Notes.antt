@@ -1,9 +1,9 @@
--- The note of an operation: its kind, its block, and its answer without buffers and tables.
+-- The note of an operation: its kind, its block or stripe, and its answer without buffers and tables.
 use Rattle.std.specs.Prelude.{ℕ, Some, None}
 use Rattle.qs_part.specs.declared.event.OpKind.{OpKind}
-use Rattle.qs_part.specs.declared.event.OpKind.TheVariants.{Enter, List, Start, End, Load, Hold, Store, Free, Route, Detach}
+use Rattle.qs_part.specs.declared.event.OpKind.TheVariants.{Enter, List, Start, End, Load, Hold, Store, Free, Sync, Route, Detach}
 use Rattle.qs_part.specs.declared.event.StripeNote.{StripeNote}
-use Rattle.qs_part.specs.declared.event.StripeNote.TheVariants.{Filled, Fault, HeldBy, Taken, Done, Freed, NotHeld}
+use Rattle.qs_part.specs.declared.event.StripeNote.TheVariants.{Filled, Fault, HeldBy, Taken, Done, Freed, NotHeld, Clean, Synced}
 use Rattle.qs_part.specs.declared.event.Note.{Note}
 use Rattle.qs_part.specs.declared.event.NoteReply.TheVariants.{Tracker as OfTracker, Graph as OfGraph, Stripe as OfStripe}
 use Rattle.qs_part.specs.declared.event.GraphNote.{GraphNote}
@@ -14,9 +14,9 @@ use Rattle.qs_part.specs.declared.tracker.TrackerOp.{TrackerOp}
 use Rattle.qs_part.specs.declared.tracker.TrackerOp.TheVariants.{Enter as EnterOp, List as ListOp, Start as StartOp}
 use Rattle.qs_part.specs.declared.tracker.TrackerReply.{TrackerReply}
 use Rattle.qs_part.specs.declared.stripe.StripeOp.{StripeOp}
-use Rattle.qs_part.specs.declared.stripe.StripeOp.TheVariants.{Load as LoadOp, Hold as HoldOp, Store as StoreOp, Free as FreeOp}
+use Rattle.qs_part.specs.declared.stripe.StripeOp.TheVariants.{Load as LoadOp, Hold as HoldOp, Store as StoreOp, Free as FreeOp, Sync as SyncOp}
 use Rattle.qs_part.specs.declared.stripe.StripeReply.{StripeReply}
-use Rattle.qs_part.specs.declared.stripe.StripeReply.TheVariants.{Filled as FilledReply, Fault as FaultReply, HeldBy as HeldByReply, Taken as TakenReply, Done as DoneReply, Freed as FreedReply, NotHeld as NotHeldReply}
+use Rattle.qs_part.specs.declared.stripe.StripeReply.TheVariants.{Filled as FilledReply, Fault as FaultReply, HeldBy as HeldByReply, Taken as TakenReply, Done as DoneReply, Freed as FreedReply, NotHeld as NotHeldReply, Clean as CleanReply, Synced as SyncedReply}
 
 -- a request does no other operation of the tracker
 abbrev pub tracker_kind : TrackerOp → OpKind
@@ -30,12 +30,15 @@ stripe_kind (LoadOp b k buf) = Load
 stripe_kind (HoldOp b k end buf) = Hold
 stripe_kind (StoreOp b k buf) = Store
 stripe_kind (FreeOp b k) = Free
+stripe_kind SyncOp = Sync
 
-abbrev pub block_of : StripeOp → ℕ
-block_of (LoadOp b k buf) = b
-block_of (HoldOp b k end buf) = b
-block_of (StoreOp b k buf) = b
-block_of (FreeOp b k) = b
+-- the block of an operation on stripe s, or the stripe where it is on no block
+abbrev pub place_of : ℕ → StripeOp → ℕ
+place_of s (LoadOp b k buf) = b
+place_of s (HoldOp b k end buf) = b
+place_of s (StoreOp b k buf) = b
+place_of s (FreeOp b k) = b
+place_of s SyncOp = s
 
 -- a stripe's answer without its buffer
 abbrev pub short : StripeReply → StripeNote
@@ -46,6 +49,8 @@ short (TakenReply b buf) = Taken b
 short (DoneReply buf) = Done
 short FreedReply = Freed
 short NotHeldReply = NotHeld
+short CleanReply = Clean
+short SyncedReply = Synced
 
 abbrev pub tracker_note : OpKind → TrackerReply → Note
 tracker_note kind reply = record { kind = kind; at = None; reply = OfTracker reply }
@@ -67,4 +72,4 @@ abbrev pub detach_note : GraphReply → Note
 detach_note reply = record { kind = Detach; at = None; reply = OfGraph (detach_answer reply) }
 
 abbrev pub stripe_note : OpKind → ℕ → StripeReply → Note
-stripe_note kind b reply = record { kind = kind; at = Some b; reply = OfStripe (short reply) }
+stripe_note kind at reply = record { kind = kind; at = Some at; reply = OfStripe (short reply) }

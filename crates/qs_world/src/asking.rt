@@ -10,7 +10,7 @@ ghost use Rattle.qs_world.specs.Sound.{IsSound};
 
 use crate::inner::Core;
 use crate::live::{Live, find_member};
-use qs_bytes::{Ask, Bytes};
+use qs_bytes::{Ask, Bytes, Kind};
 use qs_outside::Disk;
 use qs_part::event::Outcome;
 use qs_request::{Blocks, Req};
@@ -32,12 +32,14 @@ fn fitting(body: Option<Bytes>, length: u64) -> Option<Bytes>
     }
 }
 
-/// The blocks that a request works in; none where it has no length, or memory is refused.
+/// The blocks that a request works in; none where it has no length or doesn't read or store bytes, or
+/// memory is refused.
 fn blocks_for(alloc: Global, ask: &Ask, align: u32) -> Option<Blocks>
     requires { (align ≡ 512) ⊎ (align ≡ 4096) }
     ensures { ForSome result (IsRoom align) }
 {
-    if ask.length == 0 {
+    let works = matches!(ask.kind, Kind::Read | Kind::Write | Kind::Zero);
+    if ask.length == 0 || !works {
         return None;
     }
     match Blocks::new(alloc, align) {

@@ -54,15 +54,15 @@ impl<D: Disk + Drop> Core<D> {
                     tracker_note(kind, reply),
                 )
             }
-            Todo::Graph(op) => {
-                let reply = self.graph.step(op);
+            Todo::Route { e } => {
+                let reply = self.graph.step(GraphOp::Route { e });
                 let note = route_note(&reply);
                 follow(&mut self.requests, at, PartReply::Graph(reply), note)
             }
             Todo::Stripe(stripe, op) => {
-                let (kind, b) = stripe_kind(&op);
+                let (kind, at) = stripe_kind(stripe, &op);
                 let reply = self.stripes[usize::from(stripe)].step(op);
-                let note = stripe_note(kind, b, &reply);
+                let note = stripe_note(kind, at, &reply);
                 follow(&mut self.requests, at, PartReply::Stripe(reply), note)
             }
             Todo::Answer(verdict) => {

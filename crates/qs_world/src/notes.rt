@@ -1,5 +1,5 @@
 ghost use Rattle.std.specs.Prelude.{◌≡◌};
-ghost use Rattle.qs_world.specs.Notes.{block_of, detach_note, route_note, short, stripe_kind, stripe_note, tracker_kind, tracker_note};
+ghost use Rattle.qs_world.specs.Notes.{detach_note, place_of, route_note, short, stripe_kind, stripe_note, tracker_kind, tracker_note};
 
 use qs_part::event::{GraphNote, Note, NoteReply, OpKind, StripeNote};
 use qs_part::graph::GraphReply;
@@ -44,16 +44,17 @@ pub fn route_note(reply: &GraphReply) -> Note
     }
 }
 
-/// The kind of an operation on a stripe, and its block.
-pub fn stripe_kind(op: &StripeOp) -> (OpKind, u64)
+/// The kind of an operation on stripe `s`, and its block, or the stripe where it is on no block.
+pub fn stripe_kind(s: u8, op: &StripeOp) -> (OpKind, u64)
     ensures kind { result.0 ≡ stripe_kind op.now }
-    ensures block { result.1 ≡ block_of op.now }
+    ensures place { result.1 ≡ place_of s op.now }
 {
     match op {
         StripeOp::Load { b, .. } => (OpKind::Load, *b),
         StripeOp::Hold { b, .. } => (OpKind::Hold, *b),
         StripeOp::Store { b, .. } => (OpKind::Store, *b),
         StripeOp::Free { b, .. } => (OpKind::Free, *b),
+        StripeOp::Sync => (OpKind::Sync, u64::from(s)),
     }
 }
 
@@ -69,16 +70,18 @@ fn short(reply: &StripeReply) -> StripeNote
         StripeReply::Done(_) => StripeNote::Done,
         StripeReply::Freed => StripeNote::Freed,
         StripeReply::NotHeld => StripeNote::NotHeld,
+        StripeReply::Clean => StripeNote::Clean,
+        StripeReply::Synced => StripeNote::Synced,
     }
 }
 
-/// The note of an operation of this kind on block `b`.
-pub fn stripe_note(kind: OpKind, b: u64, reply: &StripeReply) -> Note
-    ensures { result ≡ stripe_note kind b reply.now }
+/// The note of an operation of this kind, on this block or stripe.
+pub fn stripe_note(kind: OpKind, at: u64, reply: &StripeReply) -> Note
+    ensures { result ≡ stripe_note kind at reply.now }
 {
     Note {
         kind,
-        at: Some(b),
+        at: Some(at),
         reply: NoteReply::Stripe(short(reply)),
     }
 }
