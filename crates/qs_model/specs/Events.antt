@@ -15,7 +15,7 @@ use Rattle.qs_part.specs.declared.tracker.TrackerReply.{TrackerReply}
 use Rattle.qs_part.specs.declared.tracker.TrackerReply.TheVariants.{Entered, Quiesced as QuiescedReply, Full as FullReply, Listed, Strange as StrangeReply, Started, NotYet as NotYetReply, Ended}
 use Rattle.qs_part.specs.declared.event.GraphNote.{GraphNote}
 use Rattle.qs_part.specs.declared.event.GraphNote.TheVariants.{NotAttached as NotAttachedNote, Detached as DetachedNote, Shutting, Routed}
-use Rattle.qs_model.specs.Requests.{Client, Stage, ToList, ToStart, ToHold, ToStore, ToFree, ToEnd, Entering, In, brings_bytes, edge, verdict, wants_buffers}
+use Rattle.qs_model.specs.Requests.{Client, Stage, ToList, ToStart, ToHold, ToStore, ToFree, ToEnd, Entering, In, brings_bytes, edge, verdict, wants_body}
 use Rattle.qs_model.specs.Acts.{Act, Answers, Waits, Enters, Routes, Shuts, Lists, Starts, Loads, LoadFails, Holds, HoldFails, Stores, StoreFails, Syncs, Cleans, SyncFails, Frees, Ends, Wait, Quiesced, Full, NotYet, HeldBy, Taken, Strange, NotHeld, Element, Attached, NoExport, Crowded, Left, Detached, NotAttached, Asked, Did}
 
 -- one operation, the block or the stripe that it stands on, and its answer
@@ -85,9 +85,9 @@ outcome_of A (Asked r c) = Some (Made r)
 outcome_of A (Did r q act) = row_outcome A q.client q.dropped act
 outcome_of A _ = None
 
--- no buffer is wanted, or it was refused; the request has no bytes
+-- no body is wanted, or buffers were refused; the request has no bytes
 pub record HasNone (c : Client) : Type 0 where
-  pub wanted : (wants_buffers c.ask ≡ false) ⊎ (c.buffered ≡ false)
+  pub wanted : (wants_body c.ask ≡ false) ⊎ (c.buffered ≡ false)
   pub empty : c.body ≡ []
 
 -- The body that came with an Ask: none where a buffer was refused or none is wanted, else a WRITE's

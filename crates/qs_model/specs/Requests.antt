@@ -131,6 +131,13 @@ abbrev pub keep : Pads → Side → List ℕ → Pads
 keep p Head bytes = record p { head = bytes }
 keep p Tail bytes = record p { tail = bytes }
 
+-- a READ takes a buffer for its bytes, and a WRITE has its bytes in one
+abbrev pub takes_body : Kind → Bool
+takes_body kind = is_read kind || brings_bytes kind
+
+abbrev pub wants_body : Ask → Bool
+wants_body a = not (a.length == 0) && takes_body a.kind
+
 -- it works in blocks of memory: it reads or stores some bytes
 abbrev pub wants_buffers : Ask → Bool
 wants_buffers a = not (a.length == 0) && (is_read a.kind || stores_bytes a.kind)

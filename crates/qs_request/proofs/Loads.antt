@@ -7,7 +7,7 @@ use Rattle.qs_bytes.specs.declared.ask.Kind.{Kind}
 use Rattle.qs_bytes.specs.declared.ask.Kind.TheVariants.{Read}
 use Rattle.qs_bytes.specs.declared.ask.Verdict.TheVariants.{Got, Fine}
 use Rattle.qs_part.specs.declared.stripe.Side.TheVariants.{Head, Tail}
-use Rattle.qs_model.specs.Requests.{Client, Step, In, ToLoad, ToEnd, edge, is_read, reads, span_of, piece, loaded, started, success}
+use Rattle.qs_model.specs.Requests.{Client, Step, In, ToLoad, ToEnd, edge, is_read, reads, span_of, piece, loaded, started, success, takes_body}
 use Rattle.qs_model.proofs.Basics.{blocks_lt}
 use Rattle.qs_model.proofs.Machine.{length-piece, other_block}
 use Rattle.qs_model.proofs.Geometry.{head_low, tail_low, tail_high, same_eqb}
@@ -19,7 +19,7 @@ use Rattle.qs_request.specs.declared.stage.Step.TheVariants.{Load as LoadNext, E
 use Rattle.qs_request.specs.declared.machine.Machine.{Machine}
 use Rattle.qs_request.specs.Shapes.{IsShape}
 use Rattle.qs_request.specs.Inside.{IsLoading, IsPlaced, HasBuffers, before, client_of, stage_of, step_of, way_of}
-use Rattle.qs_request.specs.Value.{bytes_of, wants_body}
+use Rattle.qs_request.specs.Value.{bytes_of}
 use Rattle.qs_request.proofs.Reached.{some_bytes, reaches, placed, one_more}
 
 -- the kinds by their tests
@@ -118,7 +118,7 @@ same_client m body stage reading =
 module _ (m n : Machine) (b : ℕ) (is : IsShape m.shape) (l : IsLoading m b) (has_buffers : HasBuffers m false)
     (copied : n ≡ record m { body = overlay m.body (before m b) (piece m.shape.align (client_of m) b m.work) }) where
   body_is : length m.body ≡ m.ask.length
-  body_is = has_buffers.body l.reached.going.asked.buffered (ap (λ (k : Kind). wants_body k) l.reading)
+  body_is = has_buffers.body l.reached.going.asked.buffered (ap (λ (k : Kind). takes_body k) l.reading)
 
   work_is : length m.work ≡ m.shape.align
   work_is = has_buffers.work l.reached.going.asked.buffered l.reached.going.works refl

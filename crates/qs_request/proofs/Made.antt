@@ -6,7 +6,7 @@ use Rattle.qs_bytes.specs.declared.ask.Errno.TheVariants.{Inval, NoMem}
 use Rattle.qs_bytes.specs.declared.ask.Verdict.TheVariants.{Refused}
 use Rattle.qs_bytes.specs.declared.ask.Kind.{Kind}
 use Rattle.qs_bytes.specs.declared.ask.Kind.TheVariants.{Read, Write, Zero, Trim, Flush, Unknown}
-use Rattle.qs_model.specs.Requests.{Client, Pads, Req, Ready, Entering, Stage, asked, brings_bytes, form_error, is_read, no_route, stores_bytes, wants_buffers}
+use Rattle.qs_model.specs.Requests.{Client, Pads, Req, Ready, Entering, Stage, asked, brings_bytes, form_error, is_read, no_route, stores_bytes, takes_body, wants_buffers}
 use Rattle.qs_model.proofs.Kept.{kind_of}
 use Rattle.qs_request.specs.declared.shape.Blocks.{Blocks}
 use Rattle.qs_request.specs.declared.stage.Ending.TheVariants.{Failed}
@@ -14,7 +14,7 @@ use Rattle.qs_request.specs.declared.stage.Stage.{Stage as At}
 use Rattle.qs_request.specs.declared.stage.Stage.TheVariants.{Ready as ReadyAt, Entering as EnteringAt}
 use Rattle.qs_request.specs.declared.machine.Machine.{Machine}
 use Rattle.qs_request.specs.Shapes.{IsShape}
-use Rattle.qs_request.specs.Value.{bytes_of, given_bytes, has_buffers, client_for, wants_body}
+use Rattle.qs_request.specs.Value.{bytes_of, given_bytes, has_buffers, client_for}
 use Rattle.qs_request.specs.Inside.{IsFree, IsAtStage, client_of, first_stage, request_of, stage_of}
 
 pub first_is : (m : Machine) (a : Ask) (buffered : Bool) →
@@ -75,8 +75,17 @@ unbrought Trim bytes is = refl
 unbrought Flush bytes is = refl
 unbrought (Unknown n) bytes is = refl
 
--- what wants a body reads or stores
-pub body_works : (k : Kind) → wants_body k ≡ true → is_read k || stores_bytes k ≡ true
+-- it takes a body
+pub brings_takes : (k : Kind) → brings_bytes k ≡ true → takes_body k ≡ true
+brings_takes Write is = refl
+brings_takes Read is = refl
+brings_takes Zero is = absurd (true≢false (sym is))
+brings_takes Trim is = absurd (true≢false (sym is))
+brings_takes Flush is = absurd (true≢false (sym is))
+brings_takes (Unknown n) is = absurd (true≢false (sym is))
+
+-- what takes a body reads or stores
+pub body_works : (k : Kind) → takes_body k ≡ true → is_read k || stores_bytes k ≡ true
 body_works Read is = refl
 body_works Write is = refl
 body_works Zero is = absurd (true≢false (sym is))
@@ -85,8 +94,8 @@ body_works Flush is = absurd (true≢false (sym is))
 body_works (Unknown n) is = absurd (true≢false (sym is))
 
 pub given_length : (ask : Ask) (body : Option (List ℕ)) (blocks : Option Blocks) → ForSome body (λ bytes. length bytes ≡ ask.length) →
-    has_buffers ask body blocks ≡ true → wants_body ask.kind ≡ true → length (given_bytes body) ≡ ask.length
-given_length ask None blocks given is wants = go (ask.length == 0) (is_read ask.kind || stores_bytes ask.kind) (is_some blocks) (wants_body ask.kind) refl (body_works ask.kind wants) wants is
+    has_buffers ask body blocks ≡ true → takes_body ask.kind ≡ true → length (given_bytes body) ≡ ask.length
+given_length ask None blocks given is wants = go (ask.length == 0) (is_read ask.kind || stores_bytes ask.kind) (is_some blocks) (takes_body ask.kind) refl (body_works ask.kind wants) wants is
   where
     go : (t w s b : Bool) → (ask.length == 0) ≡ t → w ≡ true → b ≡ true → not (not t && w) || (s && (false || not b)) ≡ true → 0 ≡ ask.length
     go true w s b e f g h = grind (arith, e)
@@ -105,7 +114,7 @@ some_blocks ask body blocks wants is = go (wants_buffers ask) _ blocks wants is
     go false s given e f = absurd (true≢false (sym e))
 
 pub made_free : (m : Machine) → IsShape m.shape → m.waits ≡ false → m.answered ≡ false → m.stage ≡ first_stage m.ask m.buffered →
-    (m.buffered ≡ true → wants_body m.ask.kind ≡ true → length m.body ≡ m.ask.length) →
+    (m.buffered ≡ true → takes_body m.ask.kind ≡ true → length m.body ≡ m.ask.length) →
     (m.buffered ≡ true → wants_buffers m.ask ≡ true → m.pads.align ≡ m.shape.align) →
     (m.buffered ≡ true → wants_buffers m.ask ≡ true → length m.work ≡ m.shape.align) → IsFree m
 made_free m shape waits answered stage body pads work = record {

@@ -9,7 +9,7 @@ use Rattle.qs_bytes.specs.Spans.{Places}
 use Rattle.qs_part.specs.declared.graph.Route.{Route}
 use Rattle.qs_part.specs.declared.stripe.Side.{Side}
 use Rattle.qs_part.specs.declared.stripe.Side.TheVariants.{Head, Tail}
-use Rattle.qs_model.specs.Requests.{Client, Req, Step, Stage, ToRoute, ToList, ToStart, ToLoad, ToHold, ToStore, ToSync, ToFree, ToEnd, Ready, Entering, In, edge, has, span_of, pad, no_route, success, form_error, is_flush, is_known, is_read, stores_bytes, wants_buffers}
+use Rattle.qs_model.specs.Requests.{Client, Req, Step, Stage, ToRoute, ToList, ToStart, ToLoad, ToHold, ToStore, ToSync, ToFree, ToEnd, Ready, Entering, In, edge, has, span_of, pad, no_route, success, form_error, is_flush, is_known, is_read, stores_bytes, takes_body, wants_buffers}
 use Rattle.qs_request.specs.declared.stage.Ending.{Ending}
 use Rattle.qs_request.specs.declared.stage.Ending.TheVariants.{Success, Failed, Dropped as Left}
 use Rattle.qs_request.specs.declared.stage.Step.{Step as Next}
@@ -20,7 +20,7 @@ use Rattle.qs_request.specs.declared.machine.Machine.{Machine}
 use Rattle.qs_request.specs.declared.todo.PartReply.{PartReply}
 use Rattle.qs_request.specs.Shapes.{IsShape}
 use Rattle.qs_request.specs.Table.{MayAnswer, followed}
-use Rattle.qs_request.specs.Value.{RequestValue, bytes_of, wants_body}
+use Rattle.qs_request.specs.Value.{RequestValue, bytes_of}
 
 -- the way of a request, which has none before Route
 abbrev pub way_of : Option Route → Route
@@ -168,7 +168,7 @@ lends_at _ = false
 -- the buffers of a request that has those it wants: the body, room for the pads, and the block to
 -- work in where it isn't lent
 pub record HasBuffers (m : Machine) (lent : Bool) : Type 0 where
-  pub body : m.buffered ≡ true → wants_body m.ask.kind ≡ true → length m.body ≡ m.ask.length
+  pub body : m.buffered ≡ true → takes_body m.ask.kind ≡ true → length m.body ≡ m.ask.length
   pub pads : m.buffered ≡ true → wants_buffers m.ask ≡ true → m.pads.align ≡ m.shape.align
   pub work : m.buffered ≡ true → wants_buffers m.ask ≡ true → lent ≡ false → length m.work ≡ m.shape.align
 

@@ -3,7 +3,7 @@ use Rattle.std.specs.Prelude.{◌≡◌, ℕ, Bool, true, not, ◌&&◌, ◌||�
 use Rattle.qs_bytes.specs.declared.ask.Ask.{Ask}
 use Rattle.qs_bytes.specs.declared.ask.Kind.{Kind}
 use Rattle.qs_bytes.specs.declared.ask.Kind.TheVariants.{Write}
-use Rattle.qs_model.specs.Requests.{Client, Req, Stage, Ready, brings_bytes, is_read, no_route, wants_buffers}
+use Rattle.qs_model.specs.Requests.{Client, Req, Stage, Ready, no_route, takes_body, wants_buffers}
 use Rattle.qs_request.specs.declared.shape.Shape.{Shape}
 use Rattle.qs_request.specs.declared.shape.Blocks.{Blocks}
 use Rattle.qs_request.specs.declared.todo.Todo.{Todo}
@@ -26,13 +26,9 @@ abbrev pub given_bytes : Option (List ℕ) → List ℕ
 given_bytes None = []
 given_bytes (Some bytes) = bytes
 
--- a READ wants a buffer for its bytes, and a WRITE has its bytes in one
-abbrev pub wants_body : Kind → Bool
-wants_body kind = is_read kind || brings_bytes kind
-
 -- it has the buffers that it wants: a body and blocks, or blocks alone for a WRITE_ZEROES
 abbrev pub has_buffers : Ask → Option (List ℕ) → Option Blocks → Bool
-has_buffers ask body blocks = not (wants_buffers ask) || (is_some blocks && (is_some body || not (wants_body ask.kind)))
+has_buffers ask body blocks = not (wants_buffers ask) || (is_some blocks && (is_some body || not (takes_body ask.kind)))
 
 -- the client of a request as it is made
 abbrev pub client_for : ℕ → Ask → ℕ → Option (List ℕ) → Option Blocks → Client

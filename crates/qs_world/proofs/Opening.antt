@@ -56,8 +56,16 @@ hold_of : {D : Type 0} (seen : D → Seen) (ss : List (StripeState D)) (j k : �
     (stripe_at (map (stripe_value seen) ss) j).hold k side ≡ None
 hold_of seen [] zero k side free = refl
 hold_of seen [] (suc j) k side free = refl
-hold_of seen (s ∷ ss) zero k side free = free.0 k side
+hold_of seen (s ∷ ss) zero k side free = free.0.free k side
 hold_of seen (s ∷ ss) (suc j) k side free = hold_of seen ss j k side free.1
+
+-- nothing was stored
+clean_of : {D : Type 0} (seen : D → Seen) (ss : List (StripeState D)) (j : ℕ) → AllByRecursion (λ s. Opened (stripe_value seen s)) ss →
+    (stripe_at (map (stripe_value seen) ss) j).clean ≡ true
+clean_of seen [] zero all = refl
+clean_of seen [] (suc j) all = refl
+clean_of seen (s ∷ ss) zero all = all.0.clean
+clean_of seen (s ∷ ss) (suc j) all = clean_of seen ss j all.1
 
 none_some : (b : ℕ) → None ≡ Some b → ⊥
 none_some b e = cc
@@ -91,6 +99,7 @@ fresh_stands seen disks file read_only w f = record {
       λ e. absurd (none_some b (sym (hold_of seen w.stripes (stripe_of b) h.place h.side f.free) ∙ e)),
     );
     here = λ j k side b e. absurd (none_some b (sym (hold_of seen w.stripes j k side f.free) ∙ e));
+    clean = λ j. sym (clean_of seen w.stripes j f.free);
   };
   plans = λ j. sym (ap (λ (d : Seen). plans_of d.planned) (disk_here seen disks w j f.stripes));
 }

@@ -8,27 +8,26 @@ use Rattle.qs_outside.specs.Faults.{Rose}
 use Rattle.qs_part.specs.declared.event.Note.{Note}
 use Rattle.qs_part.specs.declared.event.NoteReply.TheVariants.{Stripe as OfStripe}
 use Rattle.qs_part.specs.declared.event.OpKind.{OpKind}
-use Rattle.qs_part.specs.declared.event.OpKind.TheVariants.{Load as LoadKind, Hold as HoldKind, Store as StoreKind, Free as FreeKind}
+use Rattle.qs_part.specs.declared.event.OpKind.TheVariants.{Load as LoadKind, Hold as HoldKind, Store as StoreKind, Free as FreeKind, Sync as SyncKind}
 use Rattle.qs_part.specs.declared.event.Outcome.{Outcome}
 use Rattle.qs_part.specs.declared.event.Outcome.TheVariants.{Moved}
 use Rattle.qs_part.specs.declared.event.StripeNote.{StripeNote}
 use Rattle.qs_part.specs.declared.event.StripeNote.TheVariants.{Fault as FaultNote}
-use Rattle.qs_part.specs.declared.graph.GraphOp.{GraphOp}
+use Rattle.qs_part.specs.declared.graph.GraphOp.TheVariants.{Route as RouteOp}
 use Rattle.qs_part.specs.declared.graph.GraphReply.{GraphReply}
 use Rattle.qs_part.specs.declared.stripe.StripeOp.{StripeOp}
-use Rattle.qs_part.specs.declared.stripe.StripeOp.TheVariants.{Load as LoadOp, Hold as HoldOp, Store as StoreOp, Free as FreeOp}
+use Rattle.qs_part.specs.declared.stripe.StripeOp.TheVariants.{Load as LoadOp, Hold as HoldOp, Store as StoreOp, Free as FreeOp, Sync as SyncOp}
 use Rattle.qs_part.specs.declared.stripe.StripeReply.{StripeReply}
-use Rattle.qs_part.specs.declared.stripe.StripeReply.TheVariants.{Filled, Fault, HeldBy, Taken, Done, Freed, NotHeld}
+use Rattle.qs_part.specs.declared.stripe.StripeReply.TheVariants.{Filled, Fault, HeldBy, Taken, Done, Freed, NotHeld, Clean, Synced}
 use Rattle.qs_part.specs.declared.tracker.TrackerOp.{TrackerOp}
 use Rattle.qs_part.specs.declared.tracker.TrackerReply.{TrackerReply}
 use Rattle.qs_model.specs.Requests.{Client, Pads, Stage, Ready}
-use Rattle.qs_bytes.specs.Geometry.{stripe_of}
 use Rattle.qs_model.proofs.Basics.{same_or}
 use Rattle.qs_graph.specs.Table.{answers as graph_answers}
 use Rattle.qs_request.specs.declared.shape.Shape.{Shape}
 use Rattle.qs_request.specs.declared.todo.PartReply.{PartReply}
 use Rattle.qs_request.specs.declared.todo.PartReply.TheVariants.{Tracker as ByTracker, Graph as ByGraph, Stripe as ByStripe}
-use Rattle.qs_request.specs.declared.todo.Todo.TheVariants.{Tracker as OnTracker, Graph as OnGraph, Stripe as OnStripe, Answer}
+use Rattle.qs_request.specs.declared.todo.Todo.TheVariants.{Tracker as OnTracker, Route as OnRoute, Stripe as OnStripe, Answer}
 use Rattle.qs_request.specs.Table.{WantsAt, FitsStripe}
 use Rattle.qs_request.specs.Value.{IsReady}
 use Rattle.qs_stripe.specs.Table.{StripeState, StripeValue, answers as stripe_answers, geometry, value_of as stripe_value}
@@ -38,11 +37,11 @@ use Rattle.qs_world.specs.Cores.{StepsRequest}
 use Rattle.qs_world.specs.Events.{HasCause, stripe_by}
 use Rattle.qs_world.specs.Follows.{Follows, IsElement, waiting}
 use Rattle.qs_world.specs.Images.{Changed, stripe_at, all_tell, no_stripe}
-use Rattle.qs_world.specs.Notes.{tracker_note, tracker_kind, route_note, stripe_note, stripe_kind, block_of, short}
+use Rattle.qs_world.specs.Notes.{tracker_note, tracker_kind, route_note, stripe_note, stripe_kind, place_of, short}
 use Rattle.qs_world.specs.Sound.{IsSound, IsStripe}
 use Rattle.qs_world.specs.Values.{WorldValue, stripes_of}
 use Rattle.qs_world.proofs.Answering.{did_answers, req}
-use Rattle.qs_world.proofs.RequestRows.{Steps, tracker_row, graph_row, stripe_row}
+use Rattle.qs_world.proofs.RequestRows.{Steps, block_of, tracker_row, graph_row, stripe_row}
 use Rattle.qs_tracker.proofs.Rows.{after_length}
 
 -- a request that wants an operation isn't ready to answer
@@ -50,27 +49,28 @@ tracker_going : (A : ℕ) (c : Client) (p : Pads) (stage : Stage) (op : TrackerO
 tracker_going A c p (Ready v) op w h = let e : OnTracker op ≡ Answer v = w in absurd (cc)
 tracker_going A c p _ op w h = h
 
-graph_going : (A : ℕ) (c : Client) (p : Pads) (stage : Stage) (op : GraphOp) → WantsAt A c p stage (OnGraph op) → IsReady stage → ⊥
-graph_going A c p (Ready v) op w h = let e : OnGraph op ≡ Answer v = w in absurd (cc)
-graph_going A c p _ op w h = h
+graph_going : (A : ℕ) (c : Client) (p : Pads) (stage : Stage) (e : ℕ) → WantsAt A c p stage (OnRoute e) → IsReady stage → ⊥
+graph_going A c p (Ready v) e w h = let f : OnRoute e ≡ Answer v = w in absurd (cc)
+graph_going A c p _ e w h = h
 
 stripe_going : (A : ℕ) (c : Client) (p : Pads) (stage : Stage) (z : ℕ) (op : StripeOp) → WantsAt A c p stage (OnStripe z op) → IsReady stage → ⊥
 stripe_going A c p (Ready v) z op w h = let e : OnStripe z op ≡ Answer v = w in absurd (cc)
 stripe_going A c p _ z op w h = h
 
--- an operation is on a block of the stripe that it is by
-pub by_block : (kind : OpKind) (at : Option ℕ) (j : ℕ) → stripe_by kind at ≡ Some j → (b : ℕ) × ((at ≡ Some b) × (stripe_of b ≡ j))
-by_block LoadKind (Some b) j is = (b, (refl, cc))
-by_block HoldKind (Some b) j is = (b, (refl, cc))
-by_block StoreKind (Some b) j is = (b, (refl, cc))
-by_block FreeKind (Some b) j is = (b, (refl, cc))
-by_block _ _ j is = absurd (cc)
+-- an operation of a stripe stands on something
+pub by_place : (kind : OpKind) (at : Option ℕ) (j : ℕ) → stripe_by kind at ≡ Some j → (b : ℕ) × (at ≡ Some b)
+by_place LoadKind (Some b) j is = (b, refl)
+by_place HoldKind (Some b) j is = (b, refl)
+by_place StoreKind (Some b) j is = (b, refl)
+by_place FreeKind (Some b) j is = (b, refl)
+by_place SyncKind (Some b) j is = (b, refl)
+by_place _ _ j is = absurd (cc)
 
 -- an answer of a part that has no disk
 no_cause : {D : Type 0} (seen : D → Seen) (old new : WorldValue D) (l : Live) (reply : PartReply) (note : Note) (at : ℕ) (requests : List Live) (outcome : Outcome) →
     note.at ≡ None → Follows l reply note at requests outcome new.requests → HasCause seen old outcome new
 no_cause seen old new l reply note at requests (Moved n) none follows = λ j is fault.
-    let (b, (there, _)) = by_block n.kind n.at j is in
+    let (b, there) = by_place n.kind n.at j is in
     absurd (never b (sym (ap (λ (i : Note). i.at) follows.0 ∙ none) ∙ there))
   where
     never : (b : ℕ) → None ≡ Some b → ⊥
@@ -79,6 +79,9 @@ no_cause seen old new l reply note at requests _ none follows = tt
 
 no_block : (b : ℕ) → None ≡ Some b → ⊥
 no_block b e = cc
+
+one_number : (x y : ℕ) → Some x ≡ Some y → x ≡ y
+one_number x y e = cc
 
 -- the disks of a core whose stripes are as they were
 pub same_stripes : {D : Type 0} (seen : D → Seen) (old new : WorldValue D) → new.shape ≡ old.shape → new.stripes ≡ old.stripes → (j : ℕ) → IsStripe seen old j → IsStripe seen new j
@@ -104,16 +107,16 @@ tracker_steps seen old new at l op reply outcome sound e wants row shape next se
     (λ b is. absurd (no_block b (sym r.off ∙ is))) follows
     (no_cause seen old new (waiting l) (ByTracker reply) (tracker_note (tracker_kind op) reply) at (slice_set old.requests at (waiting l)) outcome refl follows)
 
-pub graph_steps : {D : Type 0} (seen : D → Seen) (old new : WorldValue D) (at : ℕ) (l : Live) (op : GraphOp) (reply : GraphReply) (outcome : Outcome) →
-    IsSound seen old → IsElement old.requests at l → WantsAt old.shape.align (req l).client (req l).pads (req l).stage (OnGraph op) →
-    graph_answers old.graph op reply new.graph → new.shape ≡ old.shape → new.next ≡ old.next → new.sessions ≡ old.sessions → new.tracker ≡ old.tracker → new.stripes ≡ old.stripes →
+pub graph_steps : {D : Type 0} (seen : D → Seen) (old new : WorldValue D) (at : ℕ) (l : Live) (place : ℕ) (reply : GraphReply) (outcome : Outcome) →
+    IsSound seen old → IsElement old.requests at l → WantsAt old.shape.align (req l).client (req l).pads (req l).stage (OnRoute place) →
+    graph_answers old.graph (RouteOp place) reply new.graph → new.shape ≡ old.shape → new.next ≡ old.next → new.sessions ≡ old.sessions → new.tracker ≡ old.tracker → new.stripes ≡ old.stripes →
     Follows (waiting l) (ByGraph reply) (route_note reply) at (slice_set old.requests at (waiting l)) outcome new.requests →
     StepsRequest seen old l.number outcome new
-graph_steps seen old new at l op reply outcome sound e wants row shape next sessions tracker stripes follows =
-    let both = graph_row old.shape.align (req l).client (req l).pads (req l).stage op reply old.graph new.graph wants row in
+graph_steps seen old new at l place reply outcome sound e wants row shape next sessions tracker stripes follows =
+    let both = graph_row old.shape.align (req l).client (req l).pads (req l).stage place reply old.graph new.graph wants row in
     let r = both.0 in
     did_answers seen old new at l r.act (ByGraph reply) (route_note reply) outcome sound e
-    (graph_going old.shape.align (req l).client (req l).pads (req l).stage op wants) r.is_row r.note
+    (graph_going old.shape.align (req l).client (req l).pads (req l).stage place wants) r.is_row r.note
     (record {
       leaves = record { shape = shape; next = next; sessions = sessions; graph = both.1; tells = ap (λ (s : List (StripeState _)). all_tell (map (stripe_value seen) s)) stripes };
       count = rw stripes sound.count;
@@ -161,6 +164,9 @@ tells_same old new (StoreOp b k buf) (Done back) row = row.1.fixed.tells
 tells_same old new (StoreOp b k buf) (Fault (Some back)) row = row.1.fixed.tells
 tells_same old new (FreeOp b k) Freed row = ap (λ (d : Seen). d.tells) row.1
 tells_same old new (FreeOp b k) NotHeld row = ap (λ (v : StripeValue). v.disk.tells) row.1
+tells_same old new SyncOp Clean row = ap (λ (v : StripeValue). v.disk.tells) row.1
+tells_same old new SyncOp Synced row = row.1.fixed.tells
+tells_same old new SyncOp (Fault None) row = row.1.fixed.tells
 tells_same old new _ _ row = absurd row
 
 -- a fault has a raised count
@@ -176,20 +182,29 @@ rose_at old new (StoreOp b k buf) (HeldBy j back) row is = cc
 rose_at old new (StoreOp b k buf) (Done back) row is = cc
 rose_at old new (FreeOp b k) Freed row is = cc
 rose_at old new (FreeOp b k) NotHeld row is = cc
+rose_at old new SyncOp (Fault None) row is = row.2.rose
+rose_at old new SyncOp Clean row is = cc
+rose_at old new SyncOp Synced row is = cc
 rose_at old new _ _ row is = absurd row
 
--- an operation is on a block of its stripe
-pub stripe_is : (shape : Shape) (z : ℕ) (op : StripeOp) → FitsStripe shape z op → z ≡ stripe_of (block_of op)
-stripe_is shape z (LoadOp b k buf) fits = fits.0.stripe
-stripe_is shape z (HoldOp b k end buf) fits = fits.0.stripe
-stripe_is shape z (StoreOp b k buf) fits = fits.0.stripe
-stripe_is shape z (FreeOp b k) fits = fits.0.stripe
+same_inside : (shape : Shape) (b d : ℕ) → Some b ≡ Some d → (b + 1) * shape.align ≤ shape.size → (d + 1) * shape.align ≤ shape.size
+same_inside shape b d is inside = subst (λ (x : ℕ). (x + 1) * shape.align ≤ shape.size) (one_number b d is) inside
 
-pub block_inside : (shape : Shape) (z : ℕ) (op : StripeOp) → FitsStripe shape z op → (block_of op + 1) * shape.align ≤ shape.size
-block_inside shape z (LoadOp b k buf) fits = fits.0.inside
-block_inside shape z (HoldOp b k end buf) fits = fits.0.inside
-block_inside shape z (StoreOp b k buf) fits = fits.0.inside
-block_inside shape z (FreeOp b k) fits = fits.0.inside
+-- an operation is on its stripe
+pub stripe_is : (shape : Shape) (z : ℕ) (op : StripeOp) → FitsStripe shape z op → stripe_by (stripe_kind op) (Some (place_of z op)) ≡ Some z
+stripe_is shape z (LoadOp b k buf) fits = ap Some (sym fits.0.stripe)
+stripe_is shape z (HoldOp b k end buf) fits = ap Some (sym fits.0.stripe)
+stripe_is shape z (StoreOp b k buf) fits = ap Some (sym fits.0.stripe)
+stripe_is shape z (FreeOp b k) fits = ap Some (sym fits.0.stripe)
+stripe_is shape z SyncOp fits = refl
+
+-- and on a block inside the image, or on none
+pub block_inside : (shape : Shape) (z : ℕ) (op : StripeOp) (d : ℕ) → FitsStripe shape z op → block_of op ≡ Some d → (d + 1) * shape.align ≤ shape.size
+block_inside shape z (LoadOp b k buf) d fits is = same_inside shape b d is fits.0.inside
+block_inside shape z (HoldOp b k end buf) d fits is = same_inside shape b d is fits.0.inside
+block_inside shape z (StoreOp b k buf) d fits is = same_inside shape b d is fits.0.inside
+block_inside shape z (FreeOp b k) d fits is = same_inside shape b d is fits.0.inside
+block_inside shape z SyncOp d fits is = absurd (no_block d is)
 
 -- a block has bytes
 some_bytes : (align : ℕ) → (align ≡ 512) ⊎ (align ≡ 4096) → 0 < align
@@ -229,28 +244,25 @@ changed_stripes seen old new z s t c shape same j is =
     ])
 
 -- a fault of a stripe comes only where its disk's count rose
-stripe_cause : {D : Type 0} (seen : D → Seen) (old new : WorldValue D) (l : Live) (reply : PartReply) (kind : _) (b : ℕ) (answer : StripeReply) (at : ℕ) (requests : List Live) (outcome : Outcome) →
-    (short answer ≡ FaultNote → Rose (stripe_at (stripes_of seen old) (stripe_of b)).disk.faults (stripe_at (stripes_of seen new) (stripe_of b)).disk.faults) →
-    Follows l reply (stripe_note kind b answer) at requests outcome new.requests → HasCause seen old outcome new
-stripe_cause seen old new l reply kind b answer at requests (Moved n) rose follows = λ j is fault.
-    let (d, (there, here)) = by_block n.kind n.at j is in
+stripe_cause : {D : Type 0} (seen : D → Seen) (old new : WorldValue D) (l : Live) (reply : PartReply) (kind : OpKind) (place z : ℕ) (answer : StripeReply) (at : ℕ) (requests : List Live)
+    (outcome : Outcome) → stripe_by kind (Some place) ≡ Some z →
+    (short answer ≡ FaultNote → Rose (stripe_at (stripes_of seen old) z).disk.faults (stripe_at (stripes_of seen new) z).disk.faults) →
+    Follows l reply (stripe_note kind place answer) at requests outcome new.requests → HasCause seen old outcome new
+stripe_cause seen old new l reply kind place z answer at requests (Moved n) by rose follows = λ j is fault.
     subst (λ (x : ℕ). Rose (stripe_at (stripes_of seen old) x).disk.faults (stripe_at (stripes_of seen new) x).disk.faults)
-    (ap (λ (x : ℕ). stripe_of x) (one_block b d (sym (ap (λ (i : Note). i.at) follows.0) ∙ there)) ∙ here)
+    (one_number z j (sym by ∙ sym (ap (λ (i : Note). stripe_by i.kind i.at) follows.0) ∙ is))
     (rose (one_note (short answer) FaultNote (sym (ap (λ (i : Note). i.reply) follows.0) ∙ fault)))
   where
-    one_block : (x y : ℕ) → Some x ≡ Some y → x ≡ y
-    one_block x y e = cc
-
     one_note : (x y : StripeNote) → OfStripe x ≡ OfStripe y → x ≡ y
     one_note x y e = cc
-stripe_cause seen old new l reply kind b answer at requests _ rose follows = tt
+stripe_cause seen old new l reply kind place z answer at requests _ by rose follows = tt
 
 pub stripe_steps : {D : Type 0} (seen : D → Seen) (old new : WorldValue D) (at : ℕ) (l : Live) (z : ℕ) (op : StripeOp) (reply : StripeReply) (s t : StripeState D) (outcome : Outcome) →
     IsSound seen old → IsElement old.requests at l → WantsAt old.shape.align (req l).client (req l).pads (req l).stage (OnStripe z op) → FitsStripe old.shape z op → z < 8 →
     stripe_at (stripes_of seen old) z ≡ stripe_value seen s → new.stripes ≡ slice_set old.stripes z t →
     stripe_answers (stripe_value seen s) op reply (stripe_value seen t) → geometry (stripe_value seen t) ≡ geometry (stripe_value seen s) →
     new.shape ≡ old.shape → new.next ≡ old.next → new.sessions ≡ old.sessions → new.graph ≡ old.graph → new.tracker ≡ old.tracker →
-    Follows (waiting l) (ByStripe reply) (stripe_note (stripe_kind op) (block_of op) reply) at (slice_set old.requests at (waiting l)) outcome new.requests →
+    Follows (waiting l) (ByStripe reply) (stripe_note (stripe_kind op) (place_of z op) reply) at (slice_set old.requests at (waiting l)) outcome new.requests →
     StepsRequest seen old l.number outcome new
 stripe_steps seen old new at l z op reply s t outcome sound e wants fits below was is row same shape next sessions graph tracker follows =
     let c : StripeChanged seen old new z s t = record { inside = omega (arith, below, sound.count); was = was; is = is } in
@@ -266,7 +278,7 @@ stripe_steps seen old new at l z op reply s t outcome sound e wants fits below w
     } in
     let r = stripe_row old.shape.align (req l).client (req l).pads (req l).stage z op reply (all_tell (stripes_of seen old))
     (stripe_at (stripes_of seen old)) (stripe_at (stripes_of seen new)) wants step in
-    did_answers seen old new at l r.act (ByStripe reply) (stripe_note (stripe_kind op) (block_of op) reply) outcome sound e
+    did_answers seen old new at l r.act (ByStripe reply) (stripe_note (stripe_kind op) (place_of z op) reply) outcome sound e
     (stripe_going old.shape.align (req l).client (req l).pads (req l).stage z op wants) r.is_row r.note
     (record {
       leaves = record {
@@ -285,9 +297,8 @@ stripe_steps seen old new at l z op reply s t outcome sound e wants fits below w
     (λ m stands. r.guard m stands.tells stands.image stands.plans)
     (r.tracks old.tracker ∙ sym tracker)
     r.images r.plans r.as_planned
-    (λ b on. (some_bytes old.shape.align sound.shape.align, subst (λ (x : ℕ). (x + 1) * old.shape.align ≤ old.shape.size) (sym (r.on b on)) (block_inside old.shape z op fits))) follows
-    (stripe_cause seen old new (waiting l) (ByStripe reply) (stripe_kind op) (block_of op) reply at (slice_set old.requests at (waiting l)) outcome
-    (λ fault. subst (λ (j : ℕ). Rose (stripe_at (stripes_of seen old) j).disk.faults (stripe_at (stripes_of seen new) j).disk.faults)
+    (λ b on. (some_bytes old.shape.align sound.shape.align, block_inside old.shape z op b fits (r.on b on))) follows
+    (stripe_cause seen old new (waiting l) (ByStripe reply) (stripe_kind op) (place_of z op) z reply at (slice_set old.requests at (waiting l)) outcome
     (stripe_is old.shape z op fits)
-    (subst (λ (v : StripeValue). Rose (stripe_at (stripes_of seen old) z).disk.faults v.disk.faults) (sym change.this)
-    (rose_at (stripe_at (stripes_of seen old) z) (stripe_value seen t) op reply here fault))) follows)
+    (λ fault. subst (λ (v : StripeValue). Rose (stripe_at (stripes_of seen old) z).disk.faults v.disk.faults) (sym change.this)
+    (rose_at (stripe_at (stripes_of seen old) z) (stripe_value seen t) op reply here fault)) follows)

@@ -1,5 +1,5 @@
 -- A planned failure is a step of the model.
-use Rattle.std.proofs.Common.{◌≡◌, ◌↔◌, ℕ, ◌<◌, length, get_or, Bool, refl, sym, ◌∙◌, ap, subst, arith}
+use Rattle.std.proofs.Common.{◌≡◌, ℕ, ◌<◌, length, get_or, refl, sym, ◌∙◌, ap, arith}
 use Rattle.std.specs.Prelude.{Some}
 use Rattle.std.specs.List.{slice_set}
 use Rattle.std.proofs.lemmas.List.{length-set}
@@ -8,42 +8,26 @@ use Rattle.qs_outside.specs.declared.rigged_disk.Fail.{Fail}
 use Rattle.qs_outside.specs.Rigged.{planned_too, plans_of}
 use Rattle.qs_model.specs.Acts.{Planned as PlannedStep}
 use Rattle.qs_model.specs.Steps.{happens}
-use Rattle.qs_model.specs.Worlds.{Image}
-use Rattle.qs_bytes.specs.Geometry.{stripe_of}
 use Rattle.qs_stripe.specs.Holds.{holds_of}
 use Rattle.qs_stripe.specs.Table.{StripeState, StripeValue, value_of as stripe_value}
-use Rattle.qs_world.specs.Images.{StandsImage, Changed, stripe_at, all_tell}
+use Rattle.qs_world.specs.Images.{stripe_at, all_tell}
 use Rattle.qs_world.specs.Events.{Does}
 use Rattle.qs_world.specs.Openings.{Planned}
 use Rattle.qs_world.specs.Sound.{IsSound}
 use Rattle.qs_world.specs.Values.{WorldValue, stripes_of}
 use Rattle.qs_world.proofs.Indexing.{stripe_here}
 use Rattle.qs_world.proofs.PartSteps.{StripeChanged, changed_of, changed_values, changed_stripes, many_values, all_tell_set}
-use Rattle.qs_world.proofs.StripeRows.{changed}
+use Rattle.qs_world.proofs.StripeRows.{kept_stands}
 use Rattle.qs_world.proofs.PlanRows.{plans_planned}
-
--- the blocks' contents and holds are as they were
-kept_image : (z : ℕ) (v : StripeValue) (s t : ℕ → StripeValue) (tells : Bool) (i : Image) → Changed z v s t → ((b : ℕ) → v.disk.now b ≡ (s z).disk.now b) →
-    ((b : ℕ) → v.disk.past b ≡ (s z).disk.past b) → v.hold ≡ (s z).hold → StandsImage s tells i → StandsImage t tells i
-kept_image z v s t tells i change nows pasts same stands = record {
-  now = λ tell b. changed (λ x. i.now b ≡ x.disk.now b) z v s t change (stripe_of b)
-      (λ e. stands.now tell b ∙ ap (λ (j : ℕ). (s j).disk.now b) e ∙ sym (nows b)) (λ n. stands.now tell b);
-  past = λ tell b. changed (λ x. i.past b ≡ x.disk.past b) z v s t change (stripe_of b)
-      (λ e. stands.past tell b ∙ ap (λ (j : ℕ). (s j).disk.past b) e ∙ sym (pasts b)) (λ n. stands.past tell b);
-  held = λ b h. changed (λ x. (i.holder b ≡ Some h) ↔ (x.hold h.place h.side ≡ Some b)) z v s t change (stripe_of b)
-      (λ e. rw same (subst (λ (j : ℕ). (i.holder b ≡ Some h) ↔ ((s j).hold h.place h.side ≡ Some b)) e (stands.held b h))) (λ n. stands.held b h);
-  here = λ j k side b. changed (λ x. x.hold k side ≡ Some b → stripe_of b ≡ j) z v s t change j
-      (λ e. rw (same, e) (stands.here z k side b)) (λ n. stands.here j k side b);
-}
 
 -- a disk with a failure planned
 abbrev pub with_plan : Seen → Fail → Seen
 with_plan d fail = record d { planned = Some (planned_too fail (plans_of d.planned)) }
 
 pub planned_all : {D : Type 0} (seen : D → Seen) (old : WorldValue D) (z : ℕ) (s t : StripeState D) (fail : Fail) → IsSound seen old → z < 8 → s ≡ get_or old.stripes z s →
-    t.places ≡ s.places → seen t.disk ≡ with_plan (seen s.disk) fail →
+    t.places ≡ s.places → t.clean ≡ s.clean → seen t.disk ≡ with_plan (seen s.disk) fail →
     Planned seen old z fail (record old { stripes = slice_set old.stripes z t }) × IsSound seen (record old { stripes = slice_set old.stripes z t })
-planned_all {D = D} seen old z s t fail sound below at places disk =
+planned_all {D = D} seen old z s t fail sound below at places clean disk =
     let new : WorldValue D = record old { stripes = slice_set old.stripes z t } in
     let inside : z < length old.stripes = omega (arith, below, sound.count) in
     let here : stripe_at (stripes_of seen old) z ≡ stripe_value seen s = stripe_here seen old z s inside at in
@@ -63,9 +47,10 @@ planned_all {D = D} seen old z s t fail sound below at places disk =
         session = st.session;
         graph = st.graph;
         tracker = st.tracker;
-        image = kept_image z (stripe_value seen t) (stripe_at (stripes_of seen old)) (stripe_at (stripes_of seen new)) m.tells m.image change
-            (λ b. ap (λ (d : Seen). d.now b) disk ∙ sym (ap (λ (v : StripeValue). v.disk.now b) here))
-            (λ b. ap (λ (d : Seen). d.past b) disk ∙ sym (ap (λ (v : StripeValue). v.disk.past b) here)) holds st.image;
+        image = kept_stands z (stripe_value seen t) (stripe_at (stripes_of seen old)) (stripe_at (stripes_of seen new)) m.tells m.image change st.image
+            (λ tell b. ap (λ (d : Seen). d.now b) disk ∙ sym (ap (λ (v : StripeValue). v.disk.now b) here))
+            (λ tell b. ap (λ (d : Seen). d.past b) disk ∙ sym (ap (λ (v : StripeValue). v.disk.past b) here)) holds
+            (clean ∙ sym (ap (λ (v : StripeValue). v.clean) here));
         plans = plans_planned z (stripe_value seen t) (stripe_at (stripes_of seen old)) (stripe_at (stripes_of seen new)) m.plans fail change st.plans
             (ap (λ (d : Seen). d.planned) disk ∙ ap (λ (v : StripeValue). Some (planned_too fail (plans_of v.disk.planned))) (sym here));
       },

@@ -6,10 +6,10 @@ use Rattle.qs_bytes.specs.declared.ask.Verdict.{Verdict}
 use Rattle.qs_outside.specs.Blocks.{Seen}
 use Rattle.qs_part.specs.declared.event.Outcome.TheVariants.{Answered}
 use Rattle.qs_part.specs.declared.graph.GraphOp.TheVariants.{Route as RouteOp}
-use Rattle.qs_part.specs.declared.stripe.StripeOp.TheVariants.{Load as LoadOp, Hold as HoldOp, Store as StoreOp, Free as FreeOp}
+use Rattle.qs_part.specs.declared.stripe.StripeOp.TheVariants.{Load as LoadOp, Hold as HoldOp, Store as StoreOp, Free as FreeOp, Sync as SyncOp}
 use Rattle.qs_part.specs.declared.tracker.TrackerOp.TheVariants.{Enter as EnterOp, List as ListOp, Start as StartOp, End as EndOp}
 use Rattle.qs_bytes.specs.Spans.{aligned_out}
-use Rattle.qs_model.specs.Requests.{Client, Pads, Stage, ToRoute, ToList, ToStart, ToLoad, ToHold, ToStore, ToFree, ToEnd, Ready, Entering, In, edge, span_of, serial}
+use Rattle.qs_model.specs.Requests.{Client, Pads, Stage, ToRoute, ToList, ToStart, ToLoad, ToHold, ToStore, ToSync, ToFree, ToEnd, Ready, Entering, In, edge, span_of, serial}
 use Rattle.qs_tracker.specs.Table.{TrackerValue}
 use Rattle.qs_model.specs.Worlds.{Image, World}
 use Rattle.qs_bytes.specs.Geometry.{stripe_of}
@@ -19,7 +19,7 @@ use Rattle.qs_outside.specs.declared.rigged_disk.Plans.{Plans}
 use Rattle.qs_model.specs.Steps.{moved, tracked, imaged, spent}
 use Rattle.qs_stripe.specs.Table.{StripeValue}
 use Rattle.qs_model.specs.Events.{row_outcome}
-use Rattle.qs_request.specs.declared.todo.Todo.TheVariants.{Tracker as OnTracker, Graph as OnGraph, Stripe as OnStripe, Answer}
+use Rattle.qs_request.specs.declared.todo.Todo.TheVariants.{Tracker as OnTracker, Route as OnRoute, Stripe as OnStripe, Answer}
 use Rattle.qs_request.specs.Table.{WantsAt}
 use Rattle.qs_world.specs.declared.live.Live.{Live}
 use Rattle.qs_world.specs.Cores.{StepsRequest}
@@ -59,12 +59,13 @@ answer_row A c d p (Ready u) v w = record {
     same : (x y : Verdict) → Answer y ≡ Answer x → x ≡ y
     same x y e = cc
 answer_row A c d p Entering v w = let e : Answer v ≡ OnTracker EnterOp = w in absurd (cc)
-answer_row A c d p (In k ToRoute) v w = let e : Answer v ≡ OnGraph (RouteOp c.export) = w in absurd (cc)
+answer_row A c d p (In k ToRoute) v w = let e : Answer v ≡ OnRoute c.export = w in absurd (cc)
 answer_row A c d p (In k ToList) v w = let e : Answer v ≡ OnTracker (ListOp k (aligned_out (span_of c) A) (serial A c)) = w in absurd (cc)
 answer_row A c d p (In k ToStart) v w = let e : Answer v ≡ OnTracker (StartOp k) = w in absurd (cc)
 answer_row A c d p (In k (ToLoad b got)) v w = let e : Answer v ≡ OnStripe (stripe_of b) (LoadOp b k w.0) = w.1.1 in absurd (cc)
 answer_row A c d p (In k (ToHold side)) v w = let e : Answer v ≡ OnStripe (stripe_of (edge A c side)) (HoldOp (edge A c side) k side w.0) = w.1.1 in absurd (cc)
 answer_row A c d p (In k (ToStore b)) v w = let e : Answer v ≡ OnStripe (stripe_of b) (StoreOp b k w.0) = w.1.1.0 in absurd (cc)
+answer_row A c d p (In k (ToSync n)) v w = let e : Answer v ≡ OnStripe n SyncOp = w in absurd (cc)
 answer_row A c d p (In k (ToFree side)) v w = let e : Answer v ≡ OnStripe (stripe_of (edge A c side)) (FreeOp (edge A c side) k) = w in absurd (cc)
 answer_row A c d p (In k (ToEnd u)) v w = let e : Answer v ≡ OnTracker (EndOp k) = w in absurd (cc)
 

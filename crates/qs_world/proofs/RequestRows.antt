@@ -1,29 +1,28 @@
 -- An answer of a part to a request's operation is a row of the model.
 use Rattle.std.proofs.Common.{◌≡◌, ℕ, List, length, Bool, cond, refl, sym, ◌∙◌, ap, subst}
-use Rattle.std.specs.Prelude.{Some, None, IsTrue}
+use Rattle.std.specs.Prelude.{Option, Some, None, IsTrue}
 use Rattle.qs_part.specs.declared.graph.GraphOp.TheVariants.{Route as RouteOp}
 use Rattle.qs_part.specs.declared.graph.GraphReply.{GraphReply}
 use Rattle.qs_part.specs.declared.graph.GraphReply.TheVariants.{Shutting, Routed}
 use Rattle.qs_part.specs.declared.stripe.Side.{Side}
 use Rattle.qs_part.specs.declared.stripe.StripeOp.{StripeOp}
-use Rattle.qs_part.specs.declared.stripe.StripeOp.TheVariants.{Load as LoadOp, Hold as HoldOp, Store as StoreOp, Free as FreeOp}
+use Rattle.qs_part.specs.declared.stripe.StripeOp.TheVariants.{Load as LoadOp, Hold as HoldOp, Store as StoreOp, Free as FreeOp, Sync as SyncOp}
 use Rattle.qs_part.specs.declared.stripe.StripeReply.{StripeReply}
-use Rattle.qs_part.specs.declared.stripe.StripeReply.TheVariants.{Filled, Fault, HeldBy as HeldByReply, Taken as TakenReply, Done, Freed, NotHeld as NotHeldReply}
+use Rattle.qs_part.specs.declared.stripe.StripeReply.TheVariants.{Filled, Fault, HeldBy as HeldByReply, Taken as TakenReply, Done, Freed, NotHeld as NotHeldReply, Clean, Synced}
 use Rattle.qs_part.specs.declared.tracker.TrackerOp.{TrackerOp}
 use Rattle.qs_part.specs.declared.tracker.TrackerOp.TheVariants.{Enter as EnterOp, List as ListOp, Start as StartOp, End as EndOp}
 use Rattle.qs_part.specs.declared.tracker.TrackerReply.{TrackerReply}
 use Rattle.qs_part.specs.declared.tracker.TrackerReply.TheVariants.{Entered, Quiesced as QuiescedReply, Full as FullReply, Listed, Strange as StrangeReply, Started, NotYet as NotYetReply, Ended}
-use Rattle.qs_model.specs.Requests.{Client, Pads, Stage, ToRoute, ToList, ToStart, ToLoad, ToHold, ToStore, ToFree, ToEnd, Ready, Entering, In, edge, span_of, serial}
+use Rattle.qs_model.specs.Requests.{Client, Pads, Stage, ToRoute, ToList, ToStart, ToLoad, ToHold, ToStore, ToSync, ToFree, ToEnd, Ready, Entering, In, edge, span_of, serial}
 use Rattle.qs_model.specs.Worlds.{Image, World}
 use Rattle.qs_bytes.specs.Geometry.{stripe_of}
-use Rattle.qs_model.specs.Acts.{block_of as act_block, Act, Waits, Enters, Routes, Shuts, Lists, Starts, Loads, LoadFails, Holds, HoldFails, Stores, StoreFails, Frees, Ends, Quiesced, Full, NotYet, HeldBy, Taken, Strange, NotHeld}
+use Rattle.qs_model.specs.Acts.{block_of as act_block, Act, Waits, Enters, Routes, Shuts, Lists, Starts, Loads, LoadFails, Holds, HoldFails, Stores, StoreFails, Syncs, Cleans, SyncFails, Frees, Ends, Quiesced, Full, NotYet, HeldBy, Taken, Strange, NotHeld}
 use Rattle.qs_model.specs.Guards.{MayDo}
 use Rattle.qs_model.specs.Steps.{tracked, imaged, spent}
 use Rattle.qs_outside.specs.Blocks.{Seen}
 use Rattle.qs_outside.specs.declared.rigged_disk.Plans.{Plans}
 use Rattle.qs_model.specs.Events.{note_of}
 use Rattle.qs_bytes.specs.Spans.{aligned_out}
-use Rattle.qs_part.specs.declared.graph.GraphOp.{GraphOp}
 use Rattle.qs_graph.specs.Table.{GraphValue, May as MayGraph, after as after_graph, answers as graph_answers}
 use Rattle.qs_request.specs.declared.todo.PartReply.TheVariants.{Tracker as ByTracker, Graph as ByGraph, Stripe as ByStripe}
 use Rattle.qs_request.specs.Rows.{IsRow}
@@ -35,14 +34,14 @@ use Rattle.qs_tracker.specs.declared.seat.Seat.{Seat}
 use Rattle.qs_tracker.specs.declared.seat.Seat.TheVariants.{Vacant, Present, Has}
 use Rattle.qs_tracker.specs.Seats.{seat_at}
 use Rattle.qs_tracker.specs.Table.{TrackerValue, May, MayStart, after, answers}
-use Rattle.qs_request.specs.declared.todo.Todo.TheVariants.{Tracker as OnTracker, Graph as OnGraph, Stripe as OnStripe, Answer}
+use Rattle.qs_request.specs.declared.todo.Todo.TheVariants.{Tracker as OnTracker, Route as OnRoute, Stripe as OnStripe, Answer}
 use Rattle.qs_request.specs.Table.{WantsAt}
 use Rattle.qs_world.specs.Events.{IsRowAsPlanned}
 use Rattle.qs_world.specs.Images.{StandsImage, StandsPlans, Changed}
-use Rattle.qs_world.specs.Notes.{tracker_note, tracker_kind, route_note, stripe_note, stripe_kind, block_of}
+use Rattle.qs_world.specs.Notes.{tracker_note, tracker_kind, route_note, stripe_note, stripe_kind, place_of}
 use Rattle.qs_world.proofs.Coming.{graph_may}
-use Rattle.qs_world.proofs.StripeRows.{reads_stands, takes_stands, frees_stands, written_stands, told_past, can_read, can_hold, can_free, held_at, same_stands, holder_is, alone, not_held, can_store, may_keep, took, took_now, took_as_planned}
-use Rattle.qs_world.proofs.PlanRows.{plans_same, plans_load, plans_store}
+use Rattle.qs_world.proofs.StripeRows.{kept_stands, reads_stands, settled_stands, takes_stands, frees_stands, written_stands, told_past, can_read, can_hold, can_free, held_at, same_stands, holder_is, alone, not_held, can_store, may_keep, took, took_now, took_as_planned}
+use Rattle.qs_world.proofs.PlanRows.{plans_same, plans_load, plans_store, plans_sync}
 
 -- an answer of the tracker, as a row: what the tracker was and is
 pub record TrackerRow (A : ℕ) (c : Client) (p : Pads) (stage : Stage) (op : TrackerOp) (reply : TrackerReply) (old new : TrackerValue) : Type 0 where
@@ -210,12 +209,13 @@ tracker_row A c p stage op reply old new wants row =
     go : (stage : Stage) → WantsAt A c p stage (OnTracker op) → TrackerRow A c p stage op reply old (after old op reply)
     go (Ready v) w = let e : OnTracker op ≡ Answer v = w in absurd (cc)
     go Entering w = by Entering EnterOp (tracker_todo op _ w) (λ may. enter_row A c p reply old may)
-    go (In k ToRoute) w = let e : OnTracker op ≡ OnGraph (RouteOp c.export) = w in absurd (cc)
+    go (In k ToRoute) w = let e : OnTracker op ≡ OnRoute c.export = w in absurd (cc)
     go (In k ToList) w = by (In k ToList) (ListOp k (aligned_out (span_of c) A) (serial A c)) (tracker_todo op _ w) (λ may. list_row A c p k reply old may)
     go (In k ToStart) w = by (In k ToStart) (StartOp k) (tracker_todo op _ w) (λ may. start_row A c p k reply old may)
     go (In k (ToLoad b got)) w = let e : OnTracker op ≡ OnStripe (stripe_of b) (LoadOp b k w.0) = w.1.1 in absurd (cc)
     go (In k (ToHold side)) w = let e : OnTracker op ≡ OnStripe (stripe_of (edge A c side)) (HoldOp (edge A c side) k side w.0) = w.1.1 in absurd (cc)
     go (In k (ToStore b)) w = let e : OnTracker op ≡ OnStripe (stripe_of b) (StoreOp b k w.0) = w.1.1.0 in absurd (cc)
+    go (In k (ToSync n)) w = let e : OnTracker op ≡ OnStripe n SyncOp = w in absurd (cc)
     go (In k (ToFree side)) w = let e : OnTracker op ≡ OnStripe (stripe_of (edge A c side)) (FreeOp (edge A c side) k) = w in absurd (cc)
     go (In k (ToEnd v)) w = by (In k (ToEnd v)) (EndOp k) (tracker_todo op _ w) (λ may. end_row A c p k v reply old may)
 
@@ -257,41 +257,50 @@ route_row A c p k Shutting v may = record {
 }
 route_row A c p k _ v may = absurd may
 
-pub graph_todo : (op other : GraphOp) → OnGraph op ≡ OnGraph other → op ≡ other
-graph_todo op other e = cc
+pub route_todo : (e other : ℕ) → OnRoute e ≡ OnRoute other → e ≡ other
+route_todo e other f = cc
 
--- the graph answered the operation that a request wanted, and is as it was
-pub graph_row : (A : ℕ) (c : Client) (p : Pads) (stage : Stage) (op : GraphOp) (reply : GraphReply) (old new : GraphValue) →
-    WantsAt A c p stage (OnGraph op) → graph_answers old op reply new → GraphRow A c p stage reply old × (new ≡ old)
-graph_row A c p stage op reply old new wants row = go stage wants
+-- the graph told the way that a request asked for, and is as it was
+pub graph_row : (A : ℕ) (c : Client) (p : Pads) (stage : Stage) (e : ℕ) (reply : GraphReply) (old new : GraphValue) →
+    WantsAt A c p stage (OnRoute e) → graph_answers old (RouteOp e) reply new → GraphRow A c p stage reply old × (new ≡ old)
+graph_row A c p stage e reply old new wants row = go stage wants
   where
-    go : (stage : Stage) → WantsAt A c p stage (OnGraph op) → GraphRow A c p stage reply old × (new ≡ old)
-    go (Ready v) w = let e : OnGraph op ≡ Answer v = w in absurd (cc)
-    go Entering w = let e : OnGraph op ≡ OnTracker EnterOp = w in absurd (cc)
+    go : (stage : Stage) → WantsAt A c p stage (OnRoute e) → GraphRow A c p stage reply old × (new ≡ old)
+    go (Ready v) w = let f : OnRoute e ≡ Answer v = w in absurd (cc)
+    go Entering w = let f : OnRoute e ≡ OnTracker EnterOp = w in absurd (cc)
     go (In k ToRoute) w =
-        let is : op ≡ RouteOp c.export = graph_todo op (RouteOp c.export) w in (
-          route_row A c p k reply old (subst (λ (o : GraphOp). MayGraph old o reply) is row.0),
-          row.1 ∙ ap (λ (o : GraphOp). after_graph old o reply) is,
+        let is : e ≡ c.export = route_todo e c.export w in (
+          route_row A c p k reply old (subst (λ (x : ℕ). MayGraph old (RouteOp x) reply) is row.0),
+          row.1 ∙ ap (λ (x : ℕ). after_graph old (RouteOp x) reply) is,
         )
-    go (In k ToList) w = let e : OnGraph op ≡ OnTracker (ListOp k (aligned_out (span_of c) A) (serial A c)) = w in absurd (cc)
-    go (In k ToStart) w = let e : OnGraph op ≡ OnTracker (StartOp k) = w in absurd (cc)
-    go (In k (ToLoad b got)) w = let e : OnGraph op ≡ OnStripe (stripe_of b) (LoadOp b k w.0) = w.1.1 in absurd (cc)
-    go (In k (ToHold side)) w = let e : OnGraph op ≡ OnStripe (stripe_of (edge A c side)) (HoldOp (edge A c side) k side w.0) = w.1.1 in absurd (cc)
-    go (In k (ToStore b)) w = let e : OnGraph op ≡ OnStripe (stripe_of b) (StoreOp b k w.0) = w.1.1.0 in absurd (cc)
-    go (In k (ToFree side)) w = let e : OnGraph op ≡ OnStripe (stripe_of (edge A c side)) (FreeOp (edge A c side) k) = w in absurd (cc)
-    go (In k (ToEnd v)) w = let e : OnGraph op ≡ OnTracker (EndOp k) = w in absurd (cc)
+    go (In k ToList) w = let f : OnRoute e ≡ OnTracker (ListOp k (aligned_out (span_of c) A) (serial A c)) = w in absurd (cc)
+    go (In k ToStart) w = let f : OnRoute e ≡ OnTracker (StartOp k) = w in absurd (cc)
+    go (In k (ToLoad b got)) w = let f : OnRoute e ≡ OnStripe (stripe_of b) (LoadOp b k w.0) = w.1.1 in absurd (cc)
+    go (In k (ToHold side)) w = let f : OnRoute e ≡ OnStripe (stripe_of (edge A c side)) (HoldOp (edge A c side) k side w.0) = w.1.1 in absurd (cc)
+    go (In k (ToStore b)) w = let f : OnRoute e ≡ OnStripe (stripe_of b) (StoreOp b k w.0) = w.1.1.0 in absurd (cc)
+    go (In k (ToSync n)) w = let f : OnRoute e ≡ OnStripe n SyncOp = w in absurd (cc)
+    go (In k (ToFree side)) w = let f : OnRoute e ≡ OnStripe (stripe_of (edge A c side)) (FreeOp (edge A c side) k) = w in absurd (cc)
+    go (In k (ToEnd v)) w = let f : OnRoute e ≡ OnTracker (EndOp k) = w in absurd (cc)
 
--- an answer of a stripe, as a row: what the stripes were and are
-pub record StripeRow (A : ℕ) (c : Client) (p : Pads) (stage : Stage) (op : StripeOp) (reply : StripeReply) (tells : Bool) (s t : ℕ → StripeValue) : Type 0 where
+-- the block of an operation on one
+abbrev pub block_of : StripeOp → Option ℕ
+block_of (LoadOp b k buf) = Some b
+block_of (HoldOp b k end buf) = Some b
+block_of (StoreOp b k buf) = Some b
+block_of (FreeOp b k) = Some b
+block_of SyncOp = None
+
+-- an answer of stripe z, as a row: what the stripes were and are
+pub record StripeRow (A : ℕ) (c : Client) (p : Pads) (stage : Stage) (z : ℕ) (op : StripeOp) (reply : StripeReply) (tells : Bool) (s t : ℕ → StripeValue) : Type 0 where
   pub act : Act stage
   pub is_row : IsRow (ByStripe reply) act
-  pub note : note_of A c act ≡ Some (stripe_note (stripe_kind op) (block_of op) reply)
+  pub note : note_of A c act ≡ Some (stripe_note (stripe_kind op) (place_of z op) reply)
   pub guard : (w : World) → w.tells ≡ tells → StandsImage s w.tells w.image → StandsPlans s w.plans → MayDo A w c p act
   pub images : (i : Image) → StandsImage s tells i → StandsImage t tells (imaged A i c act)
   pub tracks : (r : TrackerValue) → tracked A r c act ≡ r
   pub plans : (q : ℕ → Plans) → StandsPlans s q → StandsPlans t (spent A q c act)
   pub as_planned : IsRowAsPlanned s act
-  pub on : (d : ℕ) → act_block A c act ≡ Some d → d ≡ block_of op
+  pub on : (d : ℕ) → act_block A c act ≡ Some d → block_of op ≡ Some d
 
 -- a stripe of the right shape did an operation on one of its blocks, and the others did nothing
 pub record Steps (A z : ℕ) (op : StripeOp) (reply : StripeReply) (tells : Bool) (s t : ℕ → StripeValue) : Type 0 where
@@ -305,13 +314,13 @@ told_for : (tells : Bool) (w : World) (d : Bool) → w.tells ≡ tells → (IsTr
 told_for tells w d same told is = told (subst (λ (b : Bool). IsTrue b) same is)
 
 load_row : (A : ℕ) (c : Client) (p : Pads) (k b : ℕ) (got buf : List ℕ) (reply : StripeReply) (tells : Bool) (s t : ℕ → StripeValue) →
-    Steps A (stripe_of b) (LoadOp b k buf) reply tells s t → StripeRow A c p (In k (ToLoad b got)) (LoadOp b k buf) reply tells s t
+    Steps A (stripe_of b) (LoadOp b k buf) reply tells s t → StripeRow A c p (In k (ToLoad b got)) (stripe_of b) (LoadOp b k buf) reply tells s t
 load_row A c p k b got buf (Filled bytes) tells s t step = record {
   act = Loads bytes;
   is_row = refl;
   note = refl;
   guard = λ w same stands plans. can_read A b bytes s w stands plans (told_for tells w (s (stripe_of b)).disk.tells same step.told) step.align step.row.1;
-  images = λ i stands. reads_stands (stripe_of b) step.new s t tells i step.change stands step.told step.row.0 step.row.2;
+  images = λ i stands. reads_stands (stripe_of b) step.new s t tells i step.change stands step.told step.row.0 step.row.2 step.row.3;
   tracks = λ r. refl;
   plans = λ q stands. plans_load b step.new s t q step.change stands step.row.0.planned;
   as_planned = tt;
@@ -322,7 +331,7 @@ load_row A c p k b got buf (Fault (Some back)) tells s t step = record {
   is_row = tt;
   note = refl;
   guard = λ w same stands plans. tt;
-  images = λ i stands. reads_stands (stripe_of b) step.new s t tells i step.change stands step.told step.row.0 step.row.2;
+  images = λ i stands. reads_stands (stripe_of b) step.new s t tells i step.change stands step.told step.row.0 step.row.2 step.row.3;
   tracks = λ r. refl;
   plans = λ q stands. plans_load b step.new s t q step.change stands step.row.0.planned;
   as_planned = tt;
@@ -337,7 +346,7 @@ still z v s t tells i change same stands = same_stands z v s t tells i change sa
 
 hold_row : (A : ℕ) (c : Client) (p : Pads) (k : ℕ) (side : Side) (buf : List ℕ) (reply : StripeReply) (tells : Bool) (s t : ℕ → StripeValue) →
     Steps A (stripe_of (edge A c side)) (HoldOp (edge A c side) k side buf) reply tells s t →
-    StripeRow A c p (In k (ToHold side)) (HoldOp (edge A c side) k side buf) reply tells s t
+    StripeRow A c p (In k (ToHold side)) (stripe_of (edge A c side)) (HoldOp (edge A c side) k side buf) reply tells s t
 hold_row A c p k side buf (HeldByReply j back) tells s t step = record {
   act = Waits (HeldBy j);
   is_row = refl;
@@ -373,7 +382,7 @@ hold_row A c p k side buf (Filled bytes) tells s t step = record {
     can_read A (edge A c side) bytes s w stands plans (told_for tells w (s (stripe_of (edge A c side))).disk.tells same step.told) step.align step.row.3,
   );
   images = λ i stands. takes_stands (stripe_of (edge A c side)) k (edge A c side) side step.new s t tells i refl step.change stands step.told
-      step.row.2 step.row.4 step.row.0 step.row.1;
+      step.row.2 step.row.4 step.row.0 step.row.1 step.row.5;
   tracks = λ r. refl;
   plans = λ q stands. plans_load (edge A c side) step.new s t q step.change stands step.row.2.planned;
   as_planned = tt;
@@ -384,7 +393,7 @@ hold_row A c p k side buf (Fault (Some back)) tells s t step = record {
   is_row = tt;
   note = refl;
   guard = λ w same stands plans. can_hold k (edge A c side) side s w.tells w.image stands step.row.0 step.row.1;
-  images = λ i stands. reads_stands (stripe_of (edge A c side)) step.new s t tells i step.change stands step.told step.row.2 step.row.4;
+  images = λ i stands. reads_stands (stripe_of (edge A c side)) step.new s t tells i step.change stands step.told step.row.2 step.row.4 step.row.5;
   tracks = λ r. refl;
   plans = λ q stands. plans_load (edge A c side) step.new s t q step.change stands step.row.2.planned;
   as_planned = tt;
@@ -395,7 +404,7 @@ hold_row A c p k side buf _ tells s t step = absurd step.row
 
 store_row : (A : ℕ) (c : Client) (p : Pads) (k b : ℕ) (buf : List ℕ) (reply : StripeReply) (tells : Bool) (s t : ℕ → StripeValue) →
     length buf ≡ A → IsMerged A c p b buf → Steps A (stripe_of b) (StoreOp b k buf) reply tells s t →
-    StripeRow A c p (In k (ToStore b)) (StoreOp b k buf) reply tells s t
+    StripeRow A c p (In k (ToStore b)) (stripe_of b) (StoreOp b k buf) reply tells s t
 store_row A c p k b buf (HeldByReply j back) tells s t whole merged step = record {
   act = Waits (HeldBy j);
   is_row = refl;
@@ -413,7 +422,7 @@ store_row A c p k b buf (Done back) tells s t whole merged step = record {
   note = refl;
   guard = λ w same stands plans. guarded w same stands plans;
   images = λ i stands. written_stands (stripe_of b) k b buf buf step.new s t tells i refl step.change stands step.told step.row.1
-      (λ tell. let is = step.row.2.now (step.told tell) in (is.here, is.others)) step.row.4 step.row.0;
+      (λ tell. let is = step.row.2.now (step.told tell) in (is.here, is.others)) step.row.4 step.row.0 step.row.5;
   tracks = λ r. refl;
   plans = λ q stands. plans_store b step.new s t q step.change stands step.row.1.planned;
   as_planned = tt;
@@ -435,7 +444,7 @@ store_row A c p k b buf (Fault (Some back)) tells s t whole merged step = record
   guard = λ w same stands plans. guarded w same stands plans;
   images = λ i stands. written_stands (stripe_of b) k b buf (cond (took tells b buf (s (stripe_of b)).disk step.new.disk step.told step.row.2) buf (i.now b))
       step.new s t tells i refl step.change stands step.told step.row.1
-      (took_now tells b buf (i.now b) (s (stripe_of b)).disk step.new.disk step.told step.row.2 (λ tell. stands.now tell b)) step.row.4 step.row.0;
+      (took_now tells b buf (i.now b) (s (stripe_of b)).disk step.new.disk step.told step.row.2 (λ tell. stands.now tell b)) step.row.4 step.row.0 step.row.5;
   tracks = λ r. refl;
   plans = λ q stands. plans_store b step.new s t q step.change stands step.row.1.planned;
   as_planned = took_as_planned tells b buf (s (stripe_of b)).disk step.new.disk step.told step.row.2;
@@ -457,14 +466,14 @@ store_row A c p k b buf _ tells s t whole merged step = absurd step.row
 
 free_row : (A : ℕ) (c : Client) (p : Pads) (k : ℕ) (side : Side) (reply : StripeReply) (tells : Bool) (s t : ℕ → StripeValue) →
     Steps A (stripe_of (edge A c side)) (FreeOp (edge A c side) k) reply tells s t →
-    StripeRow A c p (In k (ToFree side)) (FreeOp (edge A c side) k) reply tells s t
+    StripeRow A c p (In k (ToFree side)) (stripe_of (edge A c side)) (FreeOp (edge A c side) k) reply tells s t
 free_row A c p k side Freed tells s t step = record {
   act = Frees;
   is_row = tt;
   note = refl;
   guard = λ w same stands plans. holder_is k (edge A c side) s w.tells w.image stands step.row.0;
   images = λ i stands. frees_stands (stripe_of (edge A c side)) k (edge A c side) step.new s t tells i refl step.change stands step.row.1 step.row.2
-      (alone k (edge A c side) s tells i stands step.row.0);
+      (alone k (edge A c side) s tells i stands step.row.0) step.row.3;
   tracks = λ r. refl;
   plans = λ q stands. plans_same (stripe_of (edge A c side)) step.new s t q step.change stands (ap (λ (d : Seen). d.planned) step.row.1);
   as_planned = tt;
@@ -483,25 +492,63 @@ free_row A c p k side NotHeldReply tells s t step = record {
 }
 free_row A c p k side _ tells s t step = absurd step.row
 
+sync_row : (A : ℕ) (c : Client) (p : Pads) (k n : ℕ) (reply : StripeReply) (tells : Bool) (s t : ℕ → StripeValue) →
+    Steps A n SyncOp reply tells s t → StripeRow A c p (In k (ToSync n)) n SyncOp reply tells s t
+sync_row A c p k n Clean tells s t step = record {
+  act = Cleans;
+  is_row = tt;
+  note = refl;
+  guard = λ w same stands plans. stands.clean n ∙ step.row.0;
+  images = λ i stands. still n step.new s t tells i step.change step.row.1 stands;
+  tracks = λ r. refl;
+  plans = λ q stands. plans_same n step.new s t q step.change stands (ap (λ (v : StripeValue). v.disk.planned) step.row.1);
+  as_planned = tt;
+  on = λ d is. is;
+}
+sync_row A c p k n Synced tells s t step = record {
+  act = Syncs;
+  is_row = tt;
+  note = refl;
+  guard = λ w same stands plans. (stands.clean n ∙ step.row.0, ap (λ (x : Plans). x.sync) (plans n) ∙ step.row.2.works);
+  images = λ i stands. settled_stands n step.new s t tells i step.change stands step.told step.row.1 step.row.2 step.row.3 step.row.4;
+  tracks = λ r. refl;
+  plans = λ q stands. plans_sync n step.new s t q step.change stands step.row.1.planned;
+  as_planned = tt;
+  on = λ d is. is;
+}
+sync_row A c p k n (Fault None) tells s t step = record {
+  act = SyncFails;
+  is_row = refl;
+  note = refl;
+  guard = λ w same stands plans. stands.clean n ∙ step.row.0;
+  images = λ i stands. kept_stands n step.new s t tells i step.change stands (λ tell. step.row.1.now (step.told tell)) (λ tell. step.row.2.past (step.told tell))
+      step.row.3 (step.row.4 ∙ sym step.row.0);
+  tracks = λ r. refl;
+  plans = λ q stands. plans_sync n step.new s t q step.change stands step.row.1.planned;
+  as_planned = tt;
+  on = λ d is. is;
+}
+sync_row A c p k n _ tells s t step = absurd step.row
+
 pub stripe_todo : (y z : ℕ) (op other : StripeOp) → OnStripe y op ≡ OnStripe z other → (y ≡ z) × (op ≡ other)
 stripe_todo y z op other e = (cc, cc)
 
 -- a stripe answered the operation that a request wanted
 pub stripe_row : (A : ℕ) (c : Client) (p : Pads) (stage : Stage) (z : ℕ) (op : StripeOp) (reply : StripeReply) (tells : Bool) (s t : ℕ → StripeValue) →
-    WantsAt A c p stage (OnStripe z op) → Steps A z op reply tells s t → StripeRow A c p stage op reply tells s t
+    WantsAt A c p stage (OnStripe z op) → Steps A z op reply tells s t → StripeRow A c p stage z op reply tells s t
 stripe_row A c p stage z op reply tells s t wants step = go stage wants
   where
     by : (stage : Stage) (y : ℕ) (wanted : StripeOp) → OnStripe z op ≡ OnStripe y wanted →
-        (Steps A y wanted reply tells s t → StripeRow A c p stage wanted reply tells s t) → StripeRow A c p stage op reply tells s t
+        (Steps A y wanted reply tells s t → StripeRow A c p stage y wanted reply tells s t) → StripeRow A c p stage z op reply tells s t
     by stage y wanted e row =
         let is = stripe_todo z y op wanted e in
-        subst (λ (o : StripeOp). StripeRow A c p stage o reply tells s t) (sym is.1)
-        (row (subst (λ (o : StripeOp). Steps A y o reply tells s t) is.1 (subst (λ (x : ℕ). Steps A x op reply tells s t) is.0 step)))
+        subst (λ (x : ℕ). StripeRow A c p stage x op reply tells s t) (sym is.0) (subst (λ (o : StripeOp). StripeRow A c p stage y o reply tells s t) (sym is.1)
+        (row (subst (λ (o : StripeOp). Steps A y o reply tells s t) is.1 (subst (λ (x : ℕ). Steps A x op reply tells s t) is.0 step))))
 
-    go : (stage : Stage) → WantsAt A c p stage (OnStripe z op) → StripeRow A c p stage op reply tells s t
+    go : (stage : Stage) → WantsAt A c p stage (OnStripe z op) → StripeRow A c p stage z op reply tells s t
     go (Ready v) w = let e : OnStripe z op ≡ Answer v = w in absurd (cc)
     go Entering w = let e : OnStripe z op ≡ OnTracker EnterOp = w in absurd (cc)
-    go (In k ToRoute) w = let e : OnStripe z op ≡ OnGraph (RouteOp c.export) = w in absurd (cc)
+    go (In k ToRoute) w = let e : OnStripe z op ≡ OnRoute c.export = w in absurd (cc)
     go (In k ToList) w = let e : OnStripe z op ≡ OnTracker (ListOp k (aligned_out (span_of c) A) (serial A c)) = w in absurd (cc)
     go (In k ToStart) w = let e : OnStripe z op ≡ OnTracker (StartOp k) = w in absurd (cc)
     go (In k (ToLoad b got)) w = by (In k (ToLoad b got)) (stripe_of b) (LoadOp b k w.0) w.1.1 (λ steps. load_row A c p k b got w.0 reply tells s t steps)
@@ -509,6 +556,7 @@ stripe_row A c p stage z op reply tells s t wants step = go stage wants
         by (In k (ToHold side)) (stripe_of (edge A c side)) (HoldOp (edge A c side) k side w.0) w.1.1 (λ steps. hold_row A c p k side w.0 reply tells s t steps)
     go (In k (ToStore b)) w =
         by (In k (ToStore b)) (stripe_of b) (StoreOp b k w.0) w.1.1.0 (λ steps. store_row A c p k b w.0 reply tells s t w.1.0 w.1.1.1 steps)
+    go (In k (ToSync n)) w = by (In k (ToSync n)) n SyncOp w (λ steps. sync_row A c p k n reply tells s t steps)
     go (In k (ToFree side)) w =
         by (In k (ToFree side)) (stripe_of (edge A c side)) (FreeOp (edge A c side) k) w (λ steps. free_row A c p k side reply tells s t steps)
     go (In k (ToEnd v)) w = let e : OnStripe z op ≡ OnTracker (EndOp k) = w in absurd (cc)

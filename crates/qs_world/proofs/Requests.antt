@@ -41,62 +41,42 @@ bare_bytes _ = refl
 
 -- a request that has no body of its own wants none, or memory was refused
 lacks : (ask : Ask) (session e : ℕ) (blocks : Option Blocks) → HasNone (client_for session ask e None blocks)
-lacks ask session e blocks = record { wanted = go (ask.length == 0) refl; empty = bare_bytes ask.kind }
+lacks ask session e blocks = record { wanted = go (ask.length == 0) (takes_body ask.kind) (is_read ask.kind || stores_bytes ask.kind) (is_some blocks) (body_works ask.kind); empty = bare_bytes ask.kind }
   where
-    go : (b : Bool) → (ask.length == 0) ≡ b → (ask.length ≡ 0) ⊎ ((b || (is_some {T = List ℕ} None && is_some blocks)) ≡ false)
-    go true is = inl (grind (arith, is))
-    go false is = inr refl
+    go : (z t w s : Bool) → (t ≡ true → w ≡ true) → ((not z && t) ≡ false) ⊎ ((not (not z && w) || (s && (is_some {T = List ℕ} None || not t))) ≡ false)
+    go true t w s works = inl refl
+    go false false w s works = inl refl
+    go false true true true works = inr refl
+    go false true true false works = inr refl
+    go false true false s works = absurd (true≢false (sym (works refl)))
 
--- a WRITE writes its body
-write_bytes : (kind : Kind) (body : List ℕ) → is_write kind ≡ true → body ≡ bytes_of kind body
-write_bytes Write body is = refl
-write_bytes Read body is = cc
-write_bytes Zero body is = cc
-write_bytes Trim body is = cc
-write_bytes Flush body is = cc
-write_bytes (Unknown n) body is = cc
+-- a body of the right length
+fits : (body : Option (List ℕ)) (n : ℕ) → ForSome (fitted body n) (λ bytes. length bytes ≡ n)
+fits None n = tt
+fits (Some body) n = go (length body == n) refl
+  where
+    go : (b : Bool) → (length body == n) ≡ b → ForSome (cond b (Some body) None) (λ bytes. length bytes ≡ n)
+    go true is = λ _. grind (arith, is)
+    go false is = tt
 
 brings : (session e : ℕ) (ask : Ask) (body : Option (List ℕ)) (blocks : Option Blocks) → Brings body (client_for session ask e (fitted body ask.length) blocks)
 brings session e ask None blocks = lacks ask session e blocks
 brings session e ask (Some body) blocks = go (length body == ask.length) refl
   where
     go : (b : Bool) → (length body == ask.length) ≡ b → Brings (Some body) (client_for session ask e (cond b (Some body) None) blocks)
-    go true is = inl (grind (arith, is), λ writing. write_bytes ask.kind body writing)
-    go false is = inr (λ same. no (sym (eq-eqb (length body) ask.length same) ∙ is), lacks ask session e blocks)
-      where
-        no : true ≡ false → ⊥
-        no f = cc
+    go true is = inl (grind (arith, is), λ writing. brought ask.kind body writing)
+    go false is = inr (λ same. true≢false (sym (eq-eqb (length body) ask.length same) ∙ is), lacks ask session e blocks)
 
--- a request of no length has all that it wants
-buffered : (ask : Ask) (body : Option (List ℕ)) (blocks : Option Blocks) → ask.length ≡ 0 → has_buffers ask body blocks ≡ true
-buffered ask body blocks none = ap (λ (b : Bool). b || (is_some body && is_some blocks)) (eq-eqb ask.length 0 none)
-
--- no other request has bytes
-other_bytes : (k : Kind) (bytes : List ℕ) → is_write k ≡ false → bytes_of k bytes ≡ []
-other_bytes Write bytes e = absurd (cc)
-other_bytes _ bytes e = refl
+-- a request that wants no buffers has all that it wants
+buffered : (ask : Ask) (body : Option (List ℕ)) (blocks : Option Blocks) → wants_buffers ask ≡ false → has_buffers ask body blocks ≡ true
+buffered ask body blocks none = ap (λ (b : Bool). not b || (is_some blocks && (is_some body || not (takes_body ask.kind)))) none
 
 -- a WRITE that has its buffers has its bytes
-whole_body : (ask : Ask) (body : Option (List ℕ)) (blocks : Option Blocks) → is_write ask.kind ≡ true → has_buffers ask (fitted body ask.length) blocks ≡ true →
+whole_body : (ask : Ask) (body : Option (List ℕ)) (blocks : Option Blocks) → brings_bytes ask.kind ≡ true → has_buffers ask (fitted body ask.length) blocks ≡ true →
     length (bytes_of ask.kind (given_bytes (fitted body ask.length))) ≡ ask.length
-whole_body ask None blocks writing has = empty (write_bytes ask.kind [] writing) (go (ask.length == 0) refl has)
-  where
-    go : (b : Bool) → (ask.length == 0) ≡ b → (b || (is_some {T = List ℕ} None && is_some blocks)) ≡ true → ask.length ≡ 0
-    go true is f = grind (arith, is)
-    go false is f = cc
-
-    empty : [] ≡ bytes_of ask.kind [] → ask.length ≡ 0 → length (bytes_of ask.kind []) ≡ ask.length
-    empty is none = sym (ap length is) ∙ sym none
-whole_body ask (Some body) blocks writing has = go (length body == ask.length) refl has
-  where
-    some : (b : Bool) → (ask.length == 0) ≡ b → (b || (is_some {T = List ℕ} None && is_some blocks)) ≡ true → ask.length ≡ 0
-    some true is f = grind (arith, is)
-    some false is f = cc
-
-    go : (b : Bool) → (length body == ask.length) ≡ b → has_buffers ask (cond b (Some body) None) blocks ≡ true →
-        length (bytes_of ask.kind (given_bytes (cond b (Some body) None))) ≡ ask.length
-    go true is f = sym (ap length (write_bytes ask.kind body writing)) ∙ grind (arith, is)
-    go false is f = sym (ap length (write_bytes ask.kind [] writing)) ∙ sym (some (ask.length == 0) refl f)
+whole_body ask body blocks writing has =
+    ap length (sym (brought ask.kind (given_bytes (fitted body ask.length)) writing))
+    ∙ given_length ask (fitted body ask.length) blocks (fits body ask.length) has (brings_takes ask.kind writing)
 
 -- one that was refused them has its bytes all the same, or none
 refused_body : (ask : Ask) (body : Option (List ℕ)) (blocks : Option Blocks) →
@@ -106,9 +86,9 @@ refused_body ask (Some body) blocks = go (length body == ask.length) refl
   where
     go : (b : Bool) → (length body == ask.length) ≡ b →
         (bytes_of ask.kind (given_bytes (cond b (Some body) None)) ≡ []) ⊎ (length (bytes_of ask.kind (given_bytes (cond b (Some body) None))) ≡ ask.length)
-    go true is = elim (either (is_write ask.kind)) [
-      | inl writing ↦ inr (sym (ap length (write_bytes ask.kind body writing)) ∙ grind (arith, is))
-      | inr reading ↦ inl (other_bytes ask.kind body reading)
+    go true is = elim (either (brings_bytes ask.kind)) [
+      | inl writing ↦ inr (sym (ap length (brought ask.kind body writing)) ∙ grind (arith, is))
+      | inr other ↦ inl (unbrought ask.kind body other)
     ]
     go false is = inl (bare_bytes ask.kind)
 
@@ -135,7 +115,7 @@ asked_handled {D = D} seen old new at m ask body blocks l sound el here room is 
     let never : HasKey (λ l. l.number) old.requests old.next → ⊥ = never_next old old.requests sound.requests in
     let does : Does seen old (Asked old.next c) new =
     asked_does seen old new c keeps next graph sessions room live refl (λ none. buffered ask (fitted body ask.length) blocks none)
-    (λ writing has. whole_body ask body blocks writing has) (λ writing bare. refused_body ask body blocks) (λ reading. other_bytes ask.kind (given_bytes (fitted body ask.length)) reading)
+    (λ writing has. whole_body ask body blocks writing has) (λ writing bare. refused_body ask body blocks) (λ other. unbrought ask.kind (given_bytes (fitted body ask.length)) other)
     (λ r. ap (λ (ls : List Live). request_at ls r) requests ∙ find_more (λ l. l.number) (λ l. l.request.value.request) old.requests (made_live old c l) never r) in
     handled seen old new (AskEvent m.session ask body) (Made old.next) (Asked old.next c) (refl, refl, brings m.session m.e ask body blocks) refl
     (λ h. not_now h live) does tt tt keeps.shape tt

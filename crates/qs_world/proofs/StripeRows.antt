@@ -1,5 +1,5 @@
 -- The answers of a stripe are rows of the model.
-use Rattle.std.proofs.Common.{◌≡◌, ◌≢◌, ◌↔◌, ℕ, ◌<◌, ◌⊎◌, inl, inr, List, [], length, Bool, true, false, cond, refl, sym, ◌∙◌, ap, subst}
+use Rattle.std.proofs.Common.{◌≡◌, ◌≢◌, ◌↔◌, ℕ, ◌<◌, ◌⊎◌, inl, inr, List, [], ◌∷◌, length, Bool, true, false, ◌==◌, cond, eq-eqb, ne_eqb, refl, sym, ◌∙◌, ap, subst}
 use Rattle.std.specs.Prelude.{Option, Some, None, IsTrue, get_or, Contains}
 use Rattle.std.specs.List.{AllByRecursion}
 use Rattle.qs_outside.specs.Blocks.{Seen, StoredOrNot}
@@ -12,10 +12,10 @@ use Rattle.qs_model.specs.Requests.{Client, Pads, merged_at}
 use Rattle.qs_model.specs.Worlds.{Hold, Image, World}
 use Rattle.qs_bytes.specs.Geometry.{stripe_of}
 use Rattle.qs_model.specs.Guards.{CanHold, CanRead, CanStore, MayKeep}
-use Rattle.qs_model.specs.Steps.{written}
+use Rattle.qs_model.specs.Steps.{settled, written}
 use Rattle.qs_model.proofs.Basics.{put_here, put_other, put_tells, same_or}
 use Rattle.qs_stripe.specs.Holds.{IsHeld, IsFree, IsFreeFor, Takes, LetsGo}
-use Rattle.qs_stripe.specs.Table.{StripeValue, Reads, Writes, IsContent, MayBeStored}
+use Rattle.qs_stripe.specs.Table.{StripeValue, Reads, Writes, Syncs, IsContent, IsSettled, MayBeStored}
 use Rattle.qs_world.specs.Images.{StandsImage, StandsPlans, Changed}
 
 abbrev Holders : Type 0
@@ -61,18 +61,58 @@ changed P z v old new change j this other =
       | inr n ↦ subst P (sym (change.others j n)) (other n)
     ]
 
+-- a stripe is clean as it was
+clean_kept : (z : ℕ) (v : StripeValue) (s t : ℕ → StripeValue) (i : Image) → Changed z v s t → ((j : ℕ) → i.clean j ≡ (s j).clean) → v.clean ≡ (s z).clean →
+    (j : ℕ) → i.clean j ≡ (t j).clean
+clean_kept z v s t i change stands same j =
+    changed (λ x. i.clean j ≡ x.clean) z v s t change j (λ e. stands j ∙ ap (λ (n : ℕ). (s n).clean) e ∙ sym same) (λ n. stands j)
+
+-- or it is clean now, or isn't any more
+clean_put : (z : ℕ) (v : StripeValue) (s t : ℕ → StripeValue) (i : Image) (clean : Bool) → Changed z v s t → ((j : ℕ) → i.clean j ≡ (s j).clean) → v.clean ≡ clean →
+    (j : ℕ) → put i.clean z clean j ≡ (t j).clean
+clean_put z v s t i clean change stands is j =
+    elim (same_or j z) [
+      | inl e ↦ ap (put i.clean z clean) e ∙ put_here i.clean z clean ∙ sym is ∙ sym (ap (λ (x : StripeValue). x.clean) (ap t e ∙ change.this))
+      | inr n ↦ put_other i.clean z clean j n ∙ stands j ∙ sym (ap (λ (x : StripeValue). x.clean) (change.others j n))
+    ]
+
 -- the blocks' contents and holds are as they were
-pub reads_stands : (z : ℕ) (v : StripeValue) (s t : ℕ → StripeValue) (tells : Bool) (i : Image) → Changed z v s t → StandsImage s tells i →
-    (IsTrue tells → IsTrue (s z).disk.tells) → Reads (s z).disk v.disk → v.hold ≡ (s z).hold → StandsImage t tells i
-reads_stands z v s t tells i change stands told reads same = record {
+pub kept_stands : (z : ℕ) (v : StripeValue) (s t : ℕ → StripeValue) (tells : Bool) (i : Image) → Changed z v s t → StandsImage s tells i →
+    (IsTrue tells → (b : ℕ) → v.disk.now b ≡ (s z).disk.now b) → (IsTrue tells → (b : ℕ) → v.disk.past b ≡ (s z).disk.past b) → v.hold ≡ (s z).hold →
+    v.clean ≡ (s z).clean → StandsImage t tells i
+kept_stands z v s t tells i change stands nows pasts same clean = record {
   now = λ tell b. changed (λ x. i.now b ≡ x.disk.now b) z v s t change (stripe_of b)
-      (λ e. stands.now tell b ∙ ap (λ (j : ℕ). (s j).disk.now b) e ∙ sym (reads.now (told tell) b)) (λ n. stands.now tell b);
+      (λ e. stands.now tell b ∙ ap (λ (j : ℕ). (s j).disk.now b) e ∙ sym (nows tell b)) (λ n. stands.now tell b);
   past = λ tell b. changed (λ x. i.past b ≡ x.disk.past b) z v s t change (stripe_of b)
-      (λ e. stands.past tell b ∙ ap (λ (j : ℕ). (s j).disk.past b) e ∙ sym (reads.past (told tell) b)) (λ n. stands.past tell b);
+      (λ e. stands.past tell b ∙ ap (λ (j : ℕ). (s j).disk.past b) e ∙ sym (pasts tell b)) (λ n. stands.past tell b);
   held = λ b h. changed (λ x. (i.holder b ≡ Some h) ↔ (x.hold h.place h.side ≡ Some b)) z v s t change (stripe_of b)
       (λ e. rw same (subst (λ (j : ℕ). (i.holder b ≡ Some h) ↔ ((s j).hold h.place h.side ≡ Some b)) e (stands.held b h))) (λ n. stands.held b h);
   here = λ j k side b. changed (λ x. x.hold k side ≡ Some b → stripe_of b ≡ j) z v s t change j
       (λ e. rw (same, e) (stands.here z k side b)) (λ n. stands.here j k side b);
+  clean = clean_kept z v s t i change stands.clean clean;
+}
+
+pub reads_stands : (z : ℕ) (v : StripeValue) (s t : ℕ → StripeValue) (tells : Bool) (i : Image) → Changed z v s t → StandsImage s tells i →
+    (IsTrue tells → IsTrue (s z).disk.tells) → Reads (s z).disk v.disk → v.hold ≡ (s z).hold → v.clean ≡ (s z).clean → StandsImage t tells i
+reads_stands z v s t tells i change stands told reads same clean =
+    kept_stands z v s t tells i change stands (λ tell. reads.now (told tell)) (λ tell. reads.past (told tell)) same clean
+
+-- the stripe was synced: a crash leaves what its blocks hold now
+pub settled_stands : (z : ℕ) (v : StripeValue) (s t : ℕ → StripeValue) (tells : Bool) (i : Image) → Changed z v s t → StandsImage s tells i →
+    (IsTrue tells → IsTrue (s z).disk.tells) → Syncs (s z).disk v.disk → IsSettled (s z).disk v.disk → v.hold ≡ (s z).hold → v.clean ≡ true →
+    StandsImage t tells (settled i z)
+settled_stands z v s t tells i change stands told syncs past same clean = record {
+  now = λ tell b. changed (λ x. i.now b ≡ x.disk.now b) z v s t change (stripe_of b)
+      (λ e. stands.now tell b ∙ ap (λ (j : ℕ). (s j).disk.now b) e ∙ sym (syncs.now (told tell) b)) (λ n. stands.now tell b);
+  past = λ tell b. changed (λ x. cond (stripe_of b == z) (i.now b ∷ []) (i.past b) ≡ x.disk.past b) z v s t change (stripe_of b)
+      (λ e. ap (λ (c : Bool). cond c (i.now b ∷ []) (i.past b)) (eq-eqb (stripe_of b) z e)
+      ∙ ap (λ (x : List ℕ). x ∷ []) (stands.now tell b ∙ ap (λ (j : ℕ). (s j).disk.now b) e) ∙ sym (past.past (told tell) b))
+      (λ n. ap (λ (c : Bool). cond c (i.now b ∷ []) (i.past b)) (ne_eqb (stripe_of b) z n) ∙ stands.past tell b);
+  held = λ b h. changed (λ x. (i.holder b ≡ Some h) ↔ (x.hold h.place h.side ≡ Some b)) z v s t change (stripe_of b)
+      (λ e. rw same (subst (λ (j : ℕ). (i.holder b ≡ Some h) ↔ ((s j).hold h.place h.side ≡ Some b)) e (stands.held b h))) (λ n. stands.held b h);
+  here = λ j k side b. changed (λ x. x.hold k side ≡ Some b → stripe_of b ≡ j) z v s t change j
+      (λ e. rw (same, e) (stands.here z k side b)) (λ n. stands.here j k side b);
+  clean = clean_put z v s t i true change stands.clean clean;
 }
 
 -- one place took a free block
@@ -237,28 +277,30 @@ goes_here z k b v s t tells i change stands goes j l end c =
 -- a place took a free block: the image of the model
 pub takes_stands : (z k b : ℕ) (side : Side) (v : StripeValue) (s t : ℕ → StripeValue) (tells : Bool) (i : Image) → stripe_of b ≡ z →
     Changed z v s t → StandsImage s tells i → (IsTrue tells → IsTrue (s z).disk.tells) → Reads (s z).disk v.disk →
-    Takes k side b (s z).hold v.hold → IsFree (s z).hold b → (s z).hold k side ≡ None →
+    Takes k side b (s z).hold v.hold → IsFree (s z).hold b → (s z).hold k side ≡ None → v.clean ≡ (s z).clean →
     StandsImage t tells (record i { holder = put i.holder b (Some (hold k side)) })
-takes_stands z k b side v s t tells i at change stands told reads takes free open_ = record {
+takes_stands z k b side v s t tells i at change stands told reads takes free open_ clean = record {
   now = λ tell c. changed (λ x. i.now c ≡ x.disk.now c) z v s t change (stripe_of c)
       (λ e. stands.now tell c ∙ ap (λ (j : ℕ). (s j).disk.now c) e ∙ sym (reads.now (told tell) c)) (λ n. stands.now tell c);
   past = λ tell c. changed (λ x. i.past c ≡ x.disk.past c) z v s t change (stripe_of c)
       (λ e. stands.past tell c ∙ ap (λ (j : ℕ). (s j).disk.past c) e ∙ sym (reads.past (told tell) c)) (λ n. stands.past tell c);
   held = takes_held z k b side v s t tells i at change stands takes free open_;
   here = takes_here z k b side v s t tells i at change stands takes;
+  clean = clean_kept z v s t i change stands.clean clean;
 }
 
 -- a place gave its block up: the image of the model
 pub frees_stands : (z k b : ℕ) (v : StripeValue) (s t : ℕ → StripeValue) (tells : Bool) (i : Image) → stripe_of b ≡ z →
     Changed z v s t → StandsImage s tells i → v.disk ≡ (s z).disk → LetsGo k b (s z).hold v.hold → IsFreeFor (s z).hold k b →
-    StandsImage t tells (record i { holder = put i.holder b None })
-frees_stands z k b v s t tells i at change stands same goes free = record {
+    v.clean ≡ (s z).clean → StandsImage t tells (record i { holder = put i.holder b None })
+frees_stands z k b v s t tells i at change stands same goes free clean = record {
   now = λ tell c. changed (λ x. i.now c ≡ x.disk.now c) z v s t change (stripe_of c)
       (λ e. stands.now tell c ∙ ap (λ (j : ℕ). (s j).disk.now c) e ∙ sym (ap (λ (d : Seen). d.now c) same)) (λ n. stands.now tell c);
   past = λ tell c. changed (λ x. i.past c ≡ x.disk.past c) z v s t change (stripe_of c)
       (λ e. stands.past tell c ∙ ap (λ (j : ℕ). (s j).disk.past c) e ∙ sym (ap (λ (d : Seen). d.past c) same)) (λ n. stands.past tell c);
   held = goes_held z k b v s t tells i at change stands goes free;
   here = goes_here z k b v s t tells i change stands goes;
+  clean = clean_kept z v s t i change stands.clean clean;
 }
 
 -- what a block's stripe says of its past, where it is told
@@ -269,9 +311,9 @@ told_past tells v b = cond tells (v.disk.past b) []
 pub written_stands : (z k b : ℕ) (bytes now : List ℕ) (v : StripeValue) (s t : ℕ → StripeValue) (tells : Bool) (i : Image) → stripe_of b ≡ z →
     Changed z v s t → StandsImage s tells i → (IsTrue tells → IsTrue (s z).disk.tells) → Writes b bytes (s z).disk v.disk →
     (IsTrue tells → (v.disk.now b ≡ now) × ((c : ℕ) → c ≢ b → v.disk.now c ≡ (s z).disk.now c)) →
-    LetsGo k b (s z).hold v.hold → IsFreeFor (s z).hold k b →
+    LetsGo k b (s z).hold v.hold → IsFreeFor (s z).hold k b → v.clean ≡ false →
     StandsImage t tells (written i b now (told_past tells v b))
-written_stands z k b bytes now v s t tells i at change stands told writes nows goes free = record {
+written_stands z k b bytes now v s t tells i at change stands told writes nows goes free dirty = record {
   now = λ tell c. here_or b c (put i.now b now) (λ x. (t (stripe_of x)).disk.now x)
       (put_here i.now b now ∙ sym ((nows tell).0) ∙ sym (ap (λ (x : StripeValue). x.disk.now b) (ap t at ∙ change.this)))
       (λ n. put_other i.now b now c n ∙ changed (λ x. i.now c ≡ x.disk.now c) z v s t change (stripe_of c)
@@ -282,6 +324,7 @@ written_stands z k b bytes now v s t tells i at change stands told writes nows g
       (λ e. stands.past tell c ∙ ap (λ (j : ℕ). (s j).disk.past c) e ∙ sym ((writes.past (told tell)).others c n)) (λ m. stands.past tell c));
   held = goes_held z k b v s t tells i at change stands goes free;
   here = goes_here z k b v s t tells i change stands goes;
+  clean = subst (λ (y : ℕ). (j : ℕ) → put i.clean y false j ≡ (t j).clean) (sym at) (clean_put z v s t i false change stands.clean dirty);
 }
   where
     here_or : {X : Type 0} (b c : ℕ) (f g : ℕ → X) → f b ≡ g b → (c ≢ b → f c ≡ g c) → f c ≡ g c
@@ -323,16 +366,9 @@ held_at k b side s tells i stands at is = (stands.held b (hold k side)).1 (subst
 
 -- nothing changed
 pub same_stands : (z : ℕ) (v : StripeValue) (s t : ℕ → StripeValue) (tells : Bool) (i : Image) → Changed z v s t → v ≡ s z → StandsImage s tells i → StandsImage t tells i
-same_stands z v s t tells i change same stands = record {
-  now = λ tell b. changed (λ x. i.now b ≡ x.disk.now b) z v s t change (stripe_of b)
-      (λ e. stands.now tell b ∙ ap (λ (j : ℕ). (s j).disk.now b) e ∙ sym (ap (λ (x : StripeValue). x.disk.now b) same)) (λ n. stands.now tell b);
-  past = λ tell b. changed (λ x. i.past b ≡ x.disk.past b) z v s t change (stripe_of b)
-      (λ e. stands.past tell b ∙ ap (λ (j : ℕ). (s j).disk.past b) e ∙ sym (ap (λ (x : StripeValue). x.disk.past b) same)) (λ n. stands.past tell b);
-  held = λ b h. changed (λ x. (i.holder b ≡ Some h) ↔ (x.hold h.place h.side ≡ Some b)) z v s t change (stripe_of b)
-      (λ e. rw same (subst (λ (j : ℕ). (i.holder b ≡ Some h) ↔ ((s j).hold h.place h.side ≡ Some b)) e (stands.held b h))) (λ n. stands.held b h);
-  here = λ j k side b. changed (λ x. x.hold k side ≡ Some b → stripe_of b ≡ j) z v s t change j
-      (λ e. rw (same, e) (stands.here z k side b)) (λ n. stands.here j k side b);
-}
+same_stands z v s t tells i change same stands =
+    kept_stands z v s t tells i change stands (λ tell b. ap (λ (x : StripeValue). x.disk.now b) same) (λ tell b. ap (λ (x : StripeValue). x.disk.past b) same)
+    (ap (λ (x : StripeValue). x.hold) same) (ap (λ (x : StripeValue). x.clean) same)
 
 pub can_hold : (k b : ℕ) (side : Side) (s : ℕ → StripeValue) (tells : Bool) (i : Image) → StandsImage s tells i →
     IsFree (s (stripe_of b)).hold b → (s (stripe_of b)).hold k side ≡ None → CanHold i k b side

@@ -5,13 +5,13 @@ use Rattle.qs_part.specs.declared.event.Outcome.TheVariants.{Answered}
 use Rattle.qs_part.specs.declared.event.OpKind.{OpKind}
 use Rattle.qs_request.specs.declared.shape.Shape.{Shape}
 use Rattle.qs_request.specs.declared.todo.PartReply.TheVariants.{Tracker as ByTracker, Graph as ByGraph, Stripe as ByStripe}
-use Rattle.qs_request.specs.declared.todo.Todo.TheVariants.{Tracker as OnTracker, Graph as OnGraph, Stripe as OnStripe, Answer}
+use Rattle.qs_request.specs.declared.todo.Todo.TheVariants.{Tracker as OnTracker, Route as OnRoute, Stripe as OnStripe, Answer}
 use Rattle.qs_request.specs.Table.{WantsAt, FitsStripe}
 use Rattle.qs_stripe.specs.Table.{value_of as stripe_value, geometry, Fits as FitsHere}
 use Rattle.qs_stripe.specs.declared.geometry.Geometry.{Geometry}
 use Rattle.qs_world.specs.declared.live.Live.{Live}
 use Rattle.qs_world.specs.Cores.{StepsRequest, value_of}
-use Rattle.qs_world.specs.Notes.{tracker_note, tracker_kind, stripe_note, stripe_kind, block_of}
+use Rattle.qs_world.specs.Notes.{tracker_note, tracker_kind, stripe_note, stripe_kind, place_of}
 use Rattle.qs_world.proofs.Answering.{idle_at}
 use Rattle.qs_world.proofs.Indexing.{awaits_reply, follow_tells, one_element, stripe_here}
 use Rattle.qs_world.proofs.Keyed.{element, remove_set}
@@ -30,15 +30,15 @@ follow-requires-clause-awaits g c = λ l e.
     c.args.self.now.tracker c.step-reply.new.self c.requires.sound.seats
     c.in-Tracker.ensures.wants c.step-reply.ensures.legal) e
 
-pub follow-requires-in-Graph-clause-awaits : goal.follow-requires-in-Graph-clause-awaits
-follow-requires-in-Graph-clause-awaits g c = λ l e.
+pub follow-requires-in-Route-clause-awaits : goal.follow-requires-in-Route-clause-awaits
+follow-requires-in-Route-clause-awaits g c = λ l e.
     let x : Live = c.index_mut.result.now in
     let at = element c.args.self.now.requests.items c.args.at x c.requires.inside c.index_mut.ensures.value in
     let idle = idle_at (value_of c.args.self.now) c.args.at x c.requires.sound.requests at in
-    awaits_reply c.args.self.now.requests.items c.args.at x l c.next.new.self (ByGraph c.step-reply-in-Graph.result) c.requires.inside c.in-Graph.ensures.gives idle.answered
-    (graph_may x.request.value.shape.align x.request.value.request.client x.request.value.request.pads x.request.value.request.stage x.request.value.shape c.in-Graph.op c.step-reply-in-Graph.result
-    c.args.self.now.graph c.step-reply-in-Graph.new.self (c.requires.sound.size ∙ ap (λ (s : Shape). s.size) (sym idle.shape_is))
-    c.in-Graph.ensures.wants c.step-reply-in-Graph.ensures.legal) e
+    awaits_reply c.args.self.now.requests.items c.args.at x l c.next.new.self (ByGraph c.step-reply-in-Route.result) c.requires.inside c.in-Route.ensures.gives idle.answered
+    (graph_may x.request.value.shape.align x.request.value.request.client x.request.value.request.pads x.request.value.request.stage x.request.value.shape c.in-Route.e c.step-reply-in-Route.result
+    c.args.self.now.graph c.step-reply-in-Route.new.self (c.requires.sound.size ∙ ap (λ (s : Shape). s.size) (sym idle.shape_is))
+    c.in-Route.ensures.wants c.step-reply-in-Route.ensures.legal) e
 
 pub step-reply-requires-in-Stripe : goal.step-reply-requires-in-Stripe
 step-reply-requires-in-Stripe g c =
@@ -89,23 +89,23 @@ returns-in-Tracker g c = λ l e.
     c.tracker_note.result c.follow.result c.follow.new.requests.items c.requires.inside c.in-Tracker.ensures.gives
     (c.tracker_note.ensures ∙ ap (λ (k : OpKind). tracker_note k c.step-reply.result) c.tracker_kind-kind.ensures) c.follow.ensures))
 
-pub returns-in-Graph : goal.returns-in-Graph
-returns-in-Graph g c = λ l e.
+pub returns-in-Route : goal.returns-in-Route
+returns-in-Route g c = λ l e.
     let x : Live = c.index_mut.result.now in
     let at = element c.args.self.now.requests.items c.args.at x c.requires.inside c.index_mut.ensures.value in
     let idle = idle_at (value_of c.args.self.now) c.args.at x c.requires.sound.requests at in
-    let wants : WantsAt c.args.self.now.shape.align x.request.value.request.client x.request.value.request.pads x.request.value.request.stage (OnGraph c.in-Graph.op) =
-    subst (λ (s : Shape). WantsAt s.align x.request.value.request.client x.request.value.request.pads x.request.value.request.stage (OnGraph c.in-Graph.op)) idle.shape_is
-    c.in-Graph.ensures.wants in
-    subst (λ (y : Live). StepsRequest g.D.Disk.seen (value_of c.args.self.now) y.number c.follow-in-Graph.result
-    (record (value_of c.args.self.now) { requests = c.follow-in-Graph.new.requests.items; graph = c.step-reply-in-Graph.new.self }))
+    let wants : WantsAt c.args.self.now.shape.align x.request.value.request.client x.request.value.request.pads x.request.value.request.stage (OnRoute c.in-Route.e) =
+    subst (λ (s : Shape). WantsAt s.align x.request.value.request.client x.request.value.request.pads x.request.value.request.stage (OnRoute c.in-Route.e)) idle.shape_is
+    c.in-Route.ensures.wants in
+    subst (λ (y : Live). StepsRequest g.D.Disk.seen (value_of c.args.self.now) y.number c.follow-in-Route.result
+    (record (value_of c.args.self.now) { requests = c.follow-in-Route.new.requests.items; graph = c.step-reply-in-Route.new.self }))
     (one_element c.args.self.now.requests.items c.args.at x l at e)
-    (graph_steps g.D.Disk.seen (value_of c.args.self.now) (record (value_of c.args.self.now) { requests = c.follow-in-Graph.new.requests.items; graph = c.step-reply-in-Graph.new.self })
-    c.args.at x c.in-Graph.op c.step-reply-in-Graph.result c.follow-in-Graph.result c.requires.sound at wants
-    c.step-reply-in-Graph.ensures.legal refl refl refl refl refl
-    (follow_tells c.args.self.now.requests.items c.args.at x c.next.new.self (ByGraph c.step-reply-in-Graph.result) _
-    c.route_note-note.result c.follow-in-Graph.result c.follow-in-Graph.new.requests.items c.requires.inside c.in-Graph.ensures.gives
-    c.route_note-note.ensures c.follow-in-Graph.ensures))
+    (graph_steps g.D.Disk.seen (value_of c.args.self.now) (record (value_of c.args.self.now) { requests = c.follow-in-Route.new.requests.items; graph = c.step-reply-in-Route.new.self })
+    c.args.at x c.in-Route.e c.step-reply-in-Route.result c.follow-in-Route.result c.requires.sound at wants
+    c.step-reply-in-Route.ensures.legal refl refl refl refl refl
+    (follow_tells c.args.self.now.requests.items c.args.at x c.next.new.self (ByGraph c.step-reply-in-Route.result) _
+    c.route_note-note.result c.follow-in-Route.result c.follow-in-Route.new.requests.items c.requires.inside c.in-Route.ensures.gives
+    c.route_note-note.ensures c.follow-in-Route.ensures))
 
 pub returns-in-Stripe : goal.returns-in-Stripe
 returns-in-Stripe g c = λ l e.
@@ -134,10 +134,11 @@ returns-in-Stripe g c = λ l e.
     c.args.at x c.from.result c.in-Stripe.op c.step-reply-in-Stripe.result c.index_mut-in-Stripe.result.now c.step-reply-in-Stripe.new.self c.follow-in-Stripe.result
     c.requires.sound at wants fits below here refl c.step-reply-in-Stripe.ensures.legal c.step-reply-in-Stripe.ensures.same refl refl refl refl refl
     (follow_tells c.args.self.now.requests.items c.args.at x c.next.new.self (ByStripe c.step-reply-in-Stripe.result)
-    (stripe_note (stripe_kind c.in-Stripe.op) (block_of c.in-Stripe.op) c.step-reply-in-Stripe.result)
+    (stripe_note (stripe_kind c.in-Stripe.op) (place_of c.from.result c.in-Stripe.op) c.step-reply-in-Stripe.result)
     c.stripe_note-note.result c.follow-in-Stripe.result c.follow-in-Stripe.new.requests.items c.requires.inside c.in-Stripe.ensures.gives
     (c.stripe_note-note.ensures ∙ ap (λ (k : OpKind). stripe_note k c.stripe_kind-kind.result.1 c.step-reply-in-Stripe.result) c.stripe_kind-kind.ensures.kind
-    ∙ ap (λ (b : ℕ). stripe_note (stripe_kind c.in-Stripe.op) b c.step-reply-in-Stripe.result) c.stripe_kind-kind.ensures.block) c.follow-in-Stripe.ensures))
+    ∙ ap (λ (b : ℕ). stripe_note (stripe_kind c.in-Stripe.op) b c.step-reply-in-Stripe.result)
+    (c.stripe_kind-kind.ensures.place ∙ ap (λ (z : ℕ). place_of z c.in-Stripe.op) (sym c.from.ensures))) c.follow-in-Stripe.ensures))
 
 pub returns-in-Answer : goal.returns-in-Answer
 returns-in-Answer g c = λ l e.
