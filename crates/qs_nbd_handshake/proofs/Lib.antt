@@ -1,5 +1,4 @@
 pub mod Naming
-pub mod Overlays
 pub mod Sizes
 pub mod Reading
 pub mod Asking

@@ -7,8 +7,9 @@ use Rattle.qs_bytes.specs.Numbers.{bytes16, bytes32, bytes64, number16, number32
 use Rattle.qs_bytes.specs.Pieces.{part, overlay}
 use Rattle.qs_nbd_transmission.specs.declared.head.Head.{Head}
 use Rattle.qs_nbd_transmission.specs.Heads.{request_magic, FitsHead, head_bytes, head_of, IsHead, IsHeadFront}
-use Rattle.qs_nbd_transmission.proofs.Widths.{AreBytes, length-bytes16, length-bytes32, length-bytes64, number16_at, number32_at, number64_at, bytes16-number16, bytes32-number32, bytes64-number64, number32-take}
-use Rattle.qs_nbd_transmission.proofs.Overlays.{take-overlay_below, take-overlay_within}
+use Rattle.qs_nbd_wire.specs.Options.{AreBytes}
+use Rattle.qs_nbd_wire.proofs.Widths.{length-bytes16, length-bytes32, length-bytes64, number16_at, number32_at, number64_at, bytes16-number16, bytes32-number32, bytes64-number64, number32-take}
+use Rattle.qs_nbd_wire.proofs.Overlays.{take-overlay_below, take-overlay_within}
 
 pub length-head_bytes : (h : Head) → length (head_bytes h) ≡ 28
 unfolding head_bytes

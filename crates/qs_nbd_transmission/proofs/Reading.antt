@@ -15,7 +15,7 @@ use Rattle.qs_bytes.specs.declared.ask.Kind.{Kind}
 use Rattle.qs_bytes.specs.declared.ask.Kind.TheVariants.{Read, Zero, Trim, Flush, Unknown}
 use Rattle.qs_nbd_transmission.specs.Phases.{Phase, InHead, Wants, Fills, Skips, Over, Stuck, Reaches, HeadTells, KeptTell, PassedTell, behind_head}
 use Rattle.qs_nbd_transmission.specs.Laws.{AsksRoom, JoinsPieces, ReadsOnce, WantsLess}
-use Rattle.qs_nbd_transmission.proofs.Widths.{number32-append}
+use Rattle.qs_nbd_wire.proofs.Widths.{number32-append}
 use Rattle.qs_nbd_transmission.proofs.HeadLaws.{length-head_bytes, magic-head_bytes}
 
 pub behind_wants : (h : Head) → has_body h ≡ true → Wants h ≡ behind_head h

@@ -21,7 +21,7 @@ use Rattle.qs_nbd_transmission.specs.Heads.{request_magic, head_bytes, head_of, 
 use Rattle.qs_nbd_transmission.specs.Phases.{Over, Stuck}
 use Rattle.qs_nbd_transmission.specs.Messages.{Message, IsMessage, BeginsNone, spelling}
 use Rattle.qs_nbd_transmission.proofs.HeadLaws.{length-head_bytes, magic-head_bytes}
-use Rattle.qs_nbd_transmission.proofs.Widths.{number32-append}
+use Rattle.qs_nbd_wire.proofs.Widths.{number32-append}
 use Rattle.qs_nbd_transmission.proofs.Streams.{same_head, message_once, first_of_all, rest_of_all, one_reading, rests_begin, tells_messages}
 use Rattle.qs_outside.specs.Blocks.{Seen}
 use Rattle.qs_image.specs.Image.{align_of, size_of}

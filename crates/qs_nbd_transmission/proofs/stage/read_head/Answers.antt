@@ -5,7 +5,7 @@ use Rattle.qs_bytes.specs.Pieces.{overlay}
 use Rattle.qs_nbd_transmission.specs.Phases.{Reaches, InHead}
 use Rattle.qs_nbd_transmission.specs.Stages.{phase_of}
 use Rattle.qs_bytes.proofs.Overlays.{length-overlay}
-use Rattle.qs_nbd_transmission.proofs.Overlays.{take-overlay}
+use Rattle.qs_nbd_wire.proofs.Overlays.{take-overlay}
 use Rattle.qs_nbd_transmission.proofs.HeadLaws.{below_four, first_four, front_more}
 use Rattle.qs_nbd_transmission.proofs.stage.read_head.Goals as goal
 use Rattle.qs_nbd_transmission.proofs.stage.read_head.Goals.{then-now-ge4+else-found-ne-REQUEST_MAGIC, else-now-ge4}
