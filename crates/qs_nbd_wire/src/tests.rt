@@ -1,6 +1,7 @@
 use crate::{
-    ClientFlags, ExportInfo2, OptionError, OptionHead, OptionReply, client_flags, flags_told,
-    greeting, laws, option_head, put_export_answer, put_option_reply, put_reply,
+    ClientFlags, ExportInfo2, FUA, OptionError, OptionHead, OptionReply, RequestHead, WRITE,
+    client_flags, flags_told, greeting, laws, option_head, put_export_answer, put_option_reply,
+    put_reply, request_head,
 };
 use qs_bytes::{Bytes, Mode, Name};
 use std::test::Fail;
@@ -39,6 +40,21 @@ fn heads_of_options(rt: HostRuntime) {
     assert_eq!(rt; option_head(&go[..15]), None);
     assert_eq!(rt; option_head(&go[..16]), Some(head));
     assert_eq!(rt; option_head(go), Some(head));
+}
+
+#[test]
+fn heads_of_requests(rt: HostRuntime) {
+    let write = b"\x25\x60\x95\x13\0\x01\0\x01\0\0\0\0\0\0\0\x09\0\0\0\0\0\0\x01\xfc\0\0\x02\0";
+    assert_eq!(rt;
+        request_head(write),
+        RequestHead {
+            flags: FUA,
+            kind: WRITE,
+            cookie: 9,
+            offset: 508,
+            size: 512,
+        }
+    );
 }
 
 #[test]
@@ -138,5 +154,6 @@ fn answers_to_export_name(rt: HostRuntime) -> Result<(), Fail> {
     laws::one_option();
     laws::replies_apart();
     laws::answers_apart();
+    laws::one_head();
     Ok(())
 }
