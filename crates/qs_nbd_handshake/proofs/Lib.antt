@@ -2,6 +2,7 @@ pub mod Naming
 pub mod Sizes
 pub mod Reading
 pub mod Asking
+pub mod Questions
 pub mod Going
 pub mod Served
 pub mod Histories

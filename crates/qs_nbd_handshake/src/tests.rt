@@ -450,4 +450,5 @@ fn the_greeting(rt: HostRuntime) {
     laws::one_spelling();
     laws::whole_sessions();
     laws::one_reading();
+    laws::one_question();
 }
