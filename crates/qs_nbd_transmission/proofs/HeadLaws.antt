@@ -1,15 +1,12 @@
 -- Laws of heads and their bytes.
-use Rattle.std.proofs.Common.{◌≡◌, ◌≢◌, ℕ, ◌+◌, ◌-◌, ◌<◌, ◌≤◌, List, [], ◌++◌, length, take, refl, ap, sym, ◌∙◌, append_assoc, arith, inl, inr, lit<, lit≤}
+use Rattle.std.proofs.Common.{◌≡◌, ◌≢◌, ℕ, ◌+◌, ◌-◌, ◌<◌, ◌≤◌, List, ◌++◌, length, take, ap, sym, ◌∙◌, arith, inl, inr, lit≤}
 use Rattle.std.proofs.lemmas.Bool.{cases_lt}
-use Rattle.std.proofs.Math.Seq.{take-add}
-use Rattle.std.proofs.lemmas.List.{length-append, length-take, length-take-le, take_all}
-use Rattle.qs_bytes.specs.Numbers.{bytes16, bytes32, bytes64, number16, number32, number64}
-use Rattle.qs_bytes.specs.Pieces.{part, overlay}
-use Rattle.qs_nbd_wire.specs.declared.request.RequestHead.{RequestHead}
-use Rattle.qs_nbd_wire.specs.Requests.{request_magic, FitsHead, head_bytes, head_of, IsHead}
+use Rattle.std.proofs.lemmas.List.{length-take, length-take-le}
+use Rattle.qs_bytes.specs.Numbers.{number32}
+use Rattle.qs_bytes.specs.Pieces.{overlay}
+use Rattle.qs_nbd_wire.specs.Requests.{request_magic}
 use Rattle.qs_nbd_transmission.specs.Heads.{IsHeadFront}
-use Rattle.qs_nbd_wire.specs.Options.{AreBytes}
-use Rattle.qs_nbd_wire.proofs.Widths.{length-bytes16, length-bytes32, length-bytes64, number16_at, number32_at, number64_at, bytes16-number16, bytes32-number32, bytes64-number64, number32-take}
+use Rattle.qs_nbd_wire.proofs.Widths.{number32-take}
 use Rattle.qs_nbd_wire.proofs.Overlays.{take-overlay_below, take-overlay_within}
 
 -- a front of a head's bytes is less than a head, or the magic stands before it

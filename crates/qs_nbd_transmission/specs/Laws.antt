@@ -7,7 +7,7 @@ use Rattle.qs_nbd_wire.specs.declared.request.RequestHead.{RequestHead}
 use Rattle.qs_nbd_transmission.specs.declared.event.Room.TheVariants.{Keep, Drop}
 use Rattle.qs_nbd_transmission.specs.declared.event.WireEvent.{WireEvent}
 use Rattle.qs_nbd_transmission.specs.declared.event.WireEvent.TheVariants as event
-use Rattle.qs_nbd_wire.specs.Requests.{FitsHead, IsHead, head_bytes, head_of, disc, has_body, Message, IsMessage, BeginsNone, spelling}
+use Rattle.qs_nbd_wire.specs.Requests.{FitsHead, head_bytes, disc, has_body, Message, IsMessage, BeginsNone, spelling}
 use Rattle.qs_nbd_transmission.specs.Heads.{IsHeadFront, ask_of, has_data}
 use Rattle.qs_nbd_transmission.specs.Phases.{Phase, InHead, Wants, Fills, Skips, Over, Reaches, IsServed, behind_head, need}
 use Rattle.qs_nbd_transmission.specs.Replies.{CanReply, reply_of}
