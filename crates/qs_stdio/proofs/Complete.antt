@@ -18,7 +18,6 @@ use Rattle.qs_status.specs.declared.status.SessionEnd.TheVariants as end
 use Rattle.qs_nbd_wire.specs.declared.request.RequestHead.{RequestHead}
 use Rattle.qs_nbd_transmission.specs.declared.event.WireEvent.TheVariants as event
 use Rattle.qs_nbd_wire.specs.Requests.{request_magic, head_bytes, head_of, disc, has_body, is_too_long, IsHead, Message, IsMessage, BeginsNone, spelling}
-use Rattle.qs_nbd_transmission.specs.Heads.{IsHeadFront}
 use Rattle.qs_nbd_transmission.specs.Phases.{Over, Stuck}
 use Rattle.qs_nbd_wire.proofs.Requests.{length-head_bytes, magic-head_bytes}
 use Rattle.qs_nbd_wire.proofs.Widths.{number32-append}
