@@ -19,53 +19,58 @@ fn reading(alloc: Global, word: &str, implied: Option<&str>) -> Result<String, F
     }
 }
 
+const LONG: &str =
+    "node-name=aaaaaaaaaaaaaaaaaaaaaaaaaaaaaaaaaaaaaaaaaaaaaaaaaaaaaaaaaaaaaaaaaaaaaaaa";
+
+const LONG_READ: &str =
+    r#"{"node-name":"aaaaaaaaaaaaaaaaaaaaaaaaaaaaaaaaaaaaaaaaaaaaaaaaaaaaaaaaaaaaaaaaaaaaaaaa"}"#;
+
+/// Words, and what each reads as where no key is implied.
+const WORDS: [(&str, &str); 36] = [
+    (
+        "driver=raw,node-name=r0,file=f0,offset=512",
+        r#"{"driver":"raw","file":"f0","node-name":"r0","offset":"512"}"#,
+    ),
+    ("a=x,,y", r#"{"a":"x,y"}"#),
+    ("a.b=1,a.c=2", r#"{"a":{"b":"1","c":"2"}}"#),
+    ("a", "no value at 0"),
+    ("=1", "bad key at 0"),
+    ("a=1,=2", "bad key at 4"),
+    ("a=1,", r#"{"a":"1"}"#),
+    ("a=1,a=2", r#"{"a":"2"}"#),
+    ("a=1,a.b=2", "clash at a"),
+    ("a.b=2,a=1", "clash at a"),
+    ("a.b.c=1,a.b=2", "clash at a.b"),
+    ("a.b=1,a.b.c=2", "clash at a.b"),
+    ("", "{}"),
+    (",", "bad key at 0"),
+    ("a=1,,", r#"{"a":"1,"}"#),
+    ("a=1,,,", r#"{"a":"1,"}"#),
+    ("a=1,,,b=2", r#"{"a":"1,","b":"2"}"#),
+    ("a=1,,,,b=2", r#"{"a":"1,,b=2"}"#),
+    ("a,,b=1", "bad key at 0"),
+    ("a=1,b,,c=2", "bad key at 4"),
+    ("x=,,,b", "no value at 5"),
+    ("a=", r#"{"a":""}"#),
+    ("a=b=c", r#"{"a":"b=c"}"#),
+    (".a=1", "bad key at 0"),
+    ("a.=1", "bad key at 0"),
+    ("a..b=1", "bad key at 0"),
+    ("a b=1", "bad key at 0"),
+    ("\u{e9}=1", "bad key at 0"),
+    ("a=\u{e9}", "{\"a\":\"\u{e9}\"}"),
+    ("a-Z_9=1", r#"{"a-Z_9":"1"}"#),
+    ("a=1,b", "no value at 4"),
+    ("b,a=1,=", "no value at 0"),
+    (r#"{"a":"#, "bad JSON"),
+    (r#"{"a":[1,true]} "#, r#"{"a":[1,true]}"#),
+    (r#"{"a":1},b=2"#, "bad JSON"),
+    (LONG, LONG_READ),
+];
+
 #[test]
 fn words_are_read(rt: HostRuntime) -> Result<(), Fail> {
-    let long = "node-name=aaaaaaaaaaaaaaaaaaaaaaaaaaaaaaaaaaaaaaaaaaaaaaaaaaaaaaaaaaaaaaaaaaaaaaaa";
-    let long_read =
-        r#"{"node-name":"aaaaaaaaaaaaaaaaaaaaaaaaaaaaaaaaaaaaaaaaaaaaaaaaaaaaaaaaaaaaaaaaaaaaaaaa"}"#;
-    let rows = [
-        (
-            "driver=raw,node-name=r0,file=f0,offset=512",
-            r#"{"driver":"raw","file":"f0","node-name":"r0","offset":"512"}"#,
-        ),
-        ("a=x,,y", r#"{"a":"x,y"}"#),
-        ("a.b=1,a.c=2", r#"{"a":{"b":"1","c":"2"}}"#),
-        ("a", "no value at 0"),
-        ("=1", "bad key at 0"),
-        ("a=1,=2", "bad key at 4"),
-        ("a=1,", r#"{"a":"1"}"#),
-        ("a=1,a=2", r#"{"a":"2"}"#),
-        ("a=1,a.b=2", "clash at a"),
-        ("a.b=2,a=1", "clash at a"),
-        ("a.b.c=1,a.b=2", "clash at a.b"),
-        ("a.b=1,a.b.c=2", "clash at a.b"),
-        ("", "{}"),
-        (",", "bad key at 0"),
-        ("a=1,,", r#"{"a":"1,"}"#),
-        ("a=1,,,", r#"{"a":"1,"}"#),
-        ("a=1,,,b=2", r#"{"a":"1,","b":"2"}"#),
-        ("a=1,,,,b=2", r#"{"a":"1,,b=2"}"#),
-        ("a,,b=1", "bad key at 0"),
-        ("a=1,b,,c=2", "bad key at 4"),
-        ("x=,,,b", "no value at 5"),
-        ("a=", r#"{"a":""}"#),
-        ("a=b=c", r#"{"a":"b=c"}"#),
-        (".a=1", "bad key at 0"),
-        ("a.=1", "bad key at 0"),
-        ("a..b=1", "bad key at 0"),
-        ("a b=1", "bad key at 0"),
-        ("\u{e9}=1", "bad key at 0"),
-        ("a=\u{e9}", "{\"a\":\"\u{e9}\"}"),
-        ("a-Z_9=1", r#"{"a-Z_9":"1"}"#),
-        ("a=1,b", "no value at 4"),
-        ("b,a=1,=", "no value at 0"),
-        (r#"{"a":"#, "bad JSON"),
-        (r#"{"a":[1,true]} "#, r#"{"a":[1,true]}"#),
-        (r#"{"a":1},b=2"#, "bad JSON"),
-        (long, long_read),
-    ];
-    for (word, read) in rows {
+    for (word, read) in WORDS {
         assert_eq!(rt; reading(rt.alloc(), word, None)?.as_str(), read, "{word}");
     }
     Ok(())

@@ -1,8 +1,8 @@
 pub mod Naming
-pub mod Overlays
 pub mod Sizes
 pub mod Reading
 pub mod Asking
+pub mod Questions
 pub mod Going
 pub mod Served
 pub mod Histories

@@ -1,9 +1,8 @@
 -- A stream has one reading.
-use Rattle.std.proofs.Common.{◌≡◌, ℕ, suc, ◌≤◌, Bool, List, [], ◌∷◌, ◌++◌, length, Option, Some, None, refl, ap, sym, ◌∙◌, subst, append_assoc, arith}
+use Rattle.std.proofs.Common.{◌≡◌, ℕ, suc, ◌≤◌, Bool, List, [], ◌∷◌, ◌++◌, length, Some, None, refl, ap, sym, ◌∙◌, subst, append_assoc, arith}
 use Rattle.std.specs.List.{All, flat_map}
 use Rattle.std.proofs.lemmas.List.{length-append, append_cancel_left}
 use Rattle.qs_bytes.specs.Numbers.{number32}
-use Rattle.qs_status.specs.declared.status.SessionEnd.{SessionEnd}
 use Rattle.qs_nbd_wire.specs.declared.opening.ClientFlags.{ClientFlags}
 use Rattle.qs_nbd_wire.specs.declared.option.OptionHead.{OptionHead}
 use Rattle.qs_nbd_wire.specs.Greetings.{flags_of}

@@ -4,8 +4,8 @@ use Rattle.std.proofs.lemmas.Bool.{eqb-true}
 use Rattle.std.proofs.lemmas.List.{drop_at}
 use Rattle.qs_status.specs.declared.status.SessionEnd.{SessionEnd}
 use Rattle.qs_nbd_wire.specs.declared.option.OptionHead.{OptionHead}
-use Rattle.qs_nbd_wire.specs.Options.{ClientOption, FitsOption, head_bytes, option_bytes, option_head_of, option_magic}
-use Rattle.qs_nbd_wire.proofs.Spelling.{length-head_bytes, length-option_bytes, option_head-head_bytes, option_spelled}
+use Rattle.qs_nbd_wire.specs.Options.{ClientOption, FitsOption, option_head_bytes, option_bytes, option_head_of, option_magic}
+use Rattle.qs_nbd_wire.proofs.Spelling.{length-option_head_bytes, length-option_bytes, option_head_of-option_head_bytes, option_spelled}
 use Rattle.qs_nbd_handshake.specs.Phases.{data_size, option_size}
 use Rattle.qs_nbd_handshake.specs.Sessions.{IsOption, SpellsServed, head_for}
 use Rattle.qs_nbd_handshake.specs.Wishes.{fault_of, wish_of}
@@ -25,10 +25,10 @@ served_size fixed bytes is =
     ∙ ap (λ (o : Option SessionEnd). 16 + data_size o (option_head_of bytes).length) is.served
 
 head_read : (o : ClientOption) → FitsOption o → option_head_of (option_bytes o) ≡ head_for o
-head_read o fits = option_head-head_bytes o.number (length o.content) o.content fits.number fits.content
+head_read o fits = option_head_of-option_head_bytes o.number (length o.content) o.content fits.number fits.content
 
 content_read : (o : ClientOption) → drop 16 (option_bytes o) ≡ o.content
-content_read o = drop_at (head_bytes o.number (length o.content)) o.content 16 (length-head_bytes o.number (length o.content))
+content_read o = drop_at (option_head_bytes o.number (length o.content)) o.content 16 (length-option_head_bytes o.number (length o.content))
 
 pub spells_served : SpellsServed
 spells_served = record {

@@ -1,5 +1,5 @@
 ghost use Rattle.std.specs.Prelude.{◌≡◌, ◌*◌, length};
-ghost use Rattle.qs_nbd_handshake.specs.Inquiries.{asks, inquiry_of, name_in};
+ghost use Rattle.qs_nbd_handshake.specs.Inquiries.{inquiry_of, is_among, name_in, numbers_in};
 
 use qs_bytes::{Name, u16_at, u32_at};
 
@@ -48,7 +48,7 @@ pub fn read_inquiry(bytes: &[u8]) -> Option<Inquiry>
 /// Whether the number is among so many of 16 bits.
 fn is_asked(requests: &[u8], count: usize, wanted: u16) -> bool
     requires { length requests.now ≡ 2 * count }
-    ensures { result ≡ asks wanted requests.now }
+    ensures { result ≡ is_among wanted (numbers_in requests.now) }
 {
     for at in 0..count {
         if u16_at(requests, 2 * at) == wanted {

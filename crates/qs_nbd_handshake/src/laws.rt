@@ -1,6 +1,6 @@
 //! Laws of the definitions, each the contract of a function with nothing to do.
 
-ghost use Rattle.qs_nbd_handshake.specs.Laws.{GoesOn, JoinsPieces, ReadsOnce};
+ghost use Rattle.qs_nbd_handshake.specs.Laws.{GoesOn, JoinsPieces, ReadsOnce, SpellsQuestions};
 ghost use Rattle.qs_nbd_handshake.specs.Sessions.{ReadsOneWay, ReadsSessions, SpellsServed};
 
 /// A piece that brought no event, and the next one, lead where both together do.
@@ -33,4 +33,10 @@ pub fn whole_sessions()
 /// A stream has one reading, however it is cut.
 pub fn one_reading()
     ensures { ReadsOneWay }
+{}
+
+/// The data that are taken of INFO and GO are the spellings of a name and a list of numbers of
+/// informations, and no others; each is read as what it spells.
+pub fn one_question()
+    ensures { SpellsQuestions }
 {}

@@ -177,8 +177,40 @@ const STRUCTURED: Mode = Mode {
     structured: true,
 };
 
+/// EXPORT_NAME where zeros are left out, and where there is no answer.
+const NAMED: [Row<'static>; 4] = [
+    Row {
+        name: "without zeros",
+        stream: b"\0\0\0\x03IHAVEOPT\0\0\0\x01\0\0\0\x04disk",
+        out: b"\0\0\0\0\0\0\x10\0\x01\x6d",
+        end: SessionEnd::Done,
+        mode: Some(NO_ZEROES),
+    },
+    Row {
+        name: "an unknown export",
+        stream: b"\0\0\0\x03IHAVEOPT\0\0\0\x01\0\0\0\x03foo",
+        out: b"",
+        end: SessionEnd::NoExport,
+        mode: None,
+    },
+    Row {
+        name: "no UTF-8",
+        stream: b"\0\0\0\x03IHAVEOPT\0\0\0\x01\0\0\0\x01\xff",
+        out: b"",
+        end: SessionEnd::NoExport,
+        mode: None,
+    },
+    Row {
+        name: "a crowded export",
+        stream: b"\0\0\0\x03IHAVEOPT\0\0\0\x01\0\0\0\x04full",
+        out: b"",
+        end: SessionEnd::Crowded,
+        mode: None,
+    },
+];
+
 #[test]
-fn export_name_is_answered_without_a_reply(rt: HostRuntime) -> Result<(), Fail> {
+fn zeros_end_the_answer_to_export_name(rt: HostRuntime) -> Result<(), Fail> {
     let alloc = rt.alloc();
     let mut zeros = b"\0\0\0\0\0\0\x10\0\x01\x6d".to_vec(alloc)?;
     zeros.extend_from_slice(&[0; 124])?;
@@ -197,36 +229,16 @@ fn export_name_is_answered_without_a_reply(rt: HostRuntime) -> Result<(), Fail> 
             end: SessionEnd::Done,
             mode: Some(PLAIN),
         },
-        Row {
-            name: "without zeros",
-            stream: b"\0\0\0\x03IHAVEOPT\0\0\0\x01\0\0\0\x04disk",
-            out: b"\0\0\0\0\0\0\x10\0\x01\x6d",
-            end: SessionEnd::Done,
-            mode: Some(NO_ZEROES),
-        },
-        Row {
-            name: "an unknown export",
-            stream: b"\0\0\0\x03IHAVEOPT\0\0\0\x01\0\0\0\x03foo",
-            out: b"",
-            end: SessionEnd::NoExport,
-            mode: None,
-        },
-        Row {
-            name: "no UTF-8",
-            stream: b"\0\0\0\x03IHAVEOPT\0\0\0\x01\0\0\0\x01\xff",
-            out: b"",
-            end: SessionEnd::NoExport,
-            mode: None,
-        },
-        Row {
-            name: "a crowded export",
-            stream: b"\0\0\0\x03IHAVEOPT\0\0\0\x01\0\0\0\x04full",
-            out: b"",
-            end: SessionEnd::Crowded,
-            mode: None,
-        },
     ] {
         holds(&rt, alloc, &row)?;
+    }
+    Ok(())
+}
+
+#[test]
+fn export_name_is_answered_without_a_reply(rt: HostRuntime) -> Result<(), Fail> {
+    for row in NAMED {
+        holds(&rt, rt.alloc(), &row)?;
     }
     Ok(())
 }
@@ -235,169 +247,167 @@ const UNKNOWN: &[u8] = b"\x00\x03\xe8\x89\x04\x55\x65\xa9\0\0\0\x07\x80\0\0\x06\
 
 const INVALID: &[u8] = b"\x00\x03\xe8\x89\x04\x55\x65\xa9\0\0\0\x07\x80\0\0\x03\0\0\0\0";
 
+/// GO and INFO.
+const INQUIRIES: [Row<'static>; 7] = [
+    Row {
+        name: "GO with block sizes",
+        stream: b"\0\0\0\x03IHAVEOPT\0\0\0\x07\0\0\0\x0c\0\0\0\x04disk\0\x01\0\x03",
+        out: b"\x00\x03\xe8\x89\x04\x55\x65\xa9\0\0\0\x07\0\0\0\x03\0\0\0\x0c\0\0\0\0\0\0\0\0\x10\0\x01\x6d\
+            \x00\x03\xe8\x89\x04\x55\x65\xa9\0\0\0\x07\0\0\0\x03\0\0\0\x0e\0\x03\0\0\0\x01\0\0\x10\0\x02\0\0\0\
+            \x00\x03\xe8\x89\x04\x55\x65\xa9\0\0\0\x07\0\0\0\x01\0\0\0\0",
+        end: SessionEnd::Done,
+        mode: Some(NO_ZEROES),
+    },
+    Row {
+        name: "INFO of another information, and cut",
+        stream: b"\0\0\0\x03IHAVEOPT\0\0\0\x06\0\0\0\x08\0\0\0\0\0\x01\0\x01IHAVEOPT",
+        out: b"\x00\x03\xe8\x89\x04\x55\x65\xa9\0\0\0\x06\0\0\0\x03\0\0\0\x0c\0\0\0\0\0\0\0\0\x10\0\x01\x6d\
+            \x00\x03\xe8\x89\x04\x55\x65\xa9\0\0\0\x06\0\0\0\x01\0\0\0\0",
+        end: SessionEnd::Truncated,
+        mode: None,
+    },
+    Row {
+        name: "an unknown export, and the session goes on",
+        stream: b"\0\0\0\x01IHAVEOPT\0\0\0\x07\0\0\0\x09\0\0\0\x03foo\0\0",
+        out: UNKNOWN,
+        end: SessionEnd::Done,
+        mode: None,
+    },
+    Row {
+        name: "a trailing byte",
+        stream: b"\0\0\0\x01IHAVEOPT\0\0\0\x07\0\0\0\x0a\0\0\0\x03foo\0\0\0",
+        out: INVALID,
+        end: SessionEnd::Done,
+        mode: None,
+    },
+    Row {
+        name: "a name longer than the data",
+        stream: b"\0\0\0\x01IHAVEOPT\0\0\0\x07\0\0\0\x0a\0\0\0\x07disk\0\0",
+        out: INVALID,
+        end: SessionEnd::Done,
+        mode: None,
+    },
+    Row {
+        name: "no data at all",
+        stream: b"\0\0\0\x01IHAVEOPT\0\0\0\x07\0\0\0\0",
+        out: INVALID,
+        end: SessionEnd::Done,
+        mode: None,
+    },
+    Row {
+        name: "a crowded export",
+        stream: b"\0\0\0\x01IHAVEOPT\0\0\0\x07\0\0\0\x0a\0\0\0\x04full\0\0",
+        out: b"\x00\x03\xe8\x89\x04\x55\x65\xa9\0\0\0\x07\x80\0\0\x02\0\0\0\0",
+        end: SessionEnd::Done,
+        mode: None,
+    },
+];
+
 #[test]
 fn go_and_info_tell_what_the_export_is(rt: HostRuntime) -> Result<(), Fail> {
-    let alloc = rt.alloc();
-    for row in [
-        Row {
-            name: "GO with block sizes",
-            stream: b"\0\0\0\x03IHAVEOPT\0\0\0\x07\0\0\0\x0c\0\0\0\x04disk\0\x01\0\x03",
-            out: b"\x00\x03\xe8\x89\x04\x55\x65\xa9\0\0\0\x07\0\0\0\x03\0\0\0\x0c\0\0\0\0\0\0\0\0\x10\0\x01\x6d\
-                \x00\x03\xe8\x89\x04\x55\x65\xa9\0\0\0\x07\0\0\0\x03\0\0\0\x0e\0\x03\0\0\0\x01\0\0\x10\0\x02\0\0\0\
-                \x00\x03\xe8\x89\x04\x55\x65\xa9\0\0\0\x07\0\0\0\x01\0\0\0\0",
-            end: SessionEnd::Done,
-            mode: Some(NO_ZEROES),
-        },
-        Row {
-            name: "INFO of another information, and cut",
-            stream: b"\0\0\0\x03IHAVEOPT\0\0\0\x06\0\0\0\x08\0\0\0\0\0\x01\0\x01IHAVEOPT",
-            out: b"\x00\x03\xe8\x89\x04\x55\x65\xa9\0\0\0\x06\0\0\0\x03\0\0\0\x0c\0\0\0\0\0\0\0\0\x10\0\x01\x6d\
-                \x00\x03\xe8\x89\x04\x55\x65\xa9\0\0\0\x06\0\0\0\x01\0\0\0\0",
-            end: SessionEnd::Truncated,
-            mode: None,
-        },
-        Row {
-            name: "an unknown export, and the session goes on",
-            stream: b"\0\0\0\x01IHAVEOPT\0\0\0\x07\0\0\0\x09\0\0\0\x03foo\0\0",
-            out: UNKNOWN,
-            end: SessionEnd::Done,
-            mode: None,
-        },
-        Row {
-            name: "a trailing byte",
-            stream: b"\0\0\0\x01IHAVEOPT\0\0\0\x07\0\0\0\x0a\0\0\0\x03foo\0\0\0",
-            out: INVALID,
-            end: SessionEnd::Done,
-            mode: None,
-        },
-        Row {
-            name: "a name longer than the data",
-            stream: b"\0\0\0\x01IHAVEOPT\0\0\0\x07\0\0\0\x0a\0\0\0\x07disk\0\0",
-            out: INVALID,
-            end: SessionEnd::Done,
-            mode: None,
-        },
-        Row {
-            name: "no data at all",
-            stream: b"\0\0\0\x01IHAVEOPT\0\0\0\x07\0\0\0\0",
-            out: INVALID,
-            end: SessionEnd::Done,
-            mode: None,
-        },
-        Row {
-            name: "a crowded export",
-            stream: b"\0\0\0\x01IHAVEOPT\0\0\0\x07\0\0\0\x0a\0\0\0\x04full\0\0",
-            out: b"\x00\x03\xe8\x89\x04\x55\x65\xa9\0\0\0\x07\x80\0\0\x02\0\0\0\0",
-            end: SessionEnd::Done,
-            mode: None,
-        },
-    ] {
-        holds(&rt, alloc, &row)?;
+    for row in INQUIRIES {
+        holds(&rt, rt.alloc(), &row)?;
     }
     Ok(())
 }
+
+/// Options that ask for no export.
+const OTHERS: [Row<'static>; 6] = [
+    Row {
+        name: "LIST",
+        stream: b"\0\0\0\x01IHAVEOPT\0\0\0\x03\0\0\0\0",
+        out: b"\x00\x03\xe8\x89\x04\x55\x65\xa9\0\0\0\x03\0\0\0\x02\0\0\0\x08\0\0\0\x04disk\
+            \x00\x03\xe8\x89\x04\x55\x65\xa9\0\0\0\x03\0\0\0\x01\0\0\0\0",
+        end: SessionEnd::Done,
+        mode: None,
+    },
+    Row {
+        name: "LIST with data",
+        stream: b"\0\0\0\x01IHAVEOPT\0\0\0\x03\0\0\0\x01x",
+        out: b"\x00\x03\xe8\x89\x04\x55\x65\xa9\0\0\0\x03\x80\0\0\x03\0\0\0\0",
+        end: SessionEnd::Done,
+        mode: None,
+    },
+    Row {
+        name: "structured replies, twice, and EXPORT_NAME",
+        stream: b"\0\0\0\x03IHAVEOPT\0\0\0\x08\0\0\0\0IHAVEOPT\0\0\0\x08\0\0\0\0IHAVEOPT\0\0\0\x01\0\0\0\0",
+        out: b"\x00\x03\xe8\x89\x04\x55\x65\xa9\0\0\0\x08\0\0\0\x01\0\0\0\0\
+            \x00\x03\xe8\x89\x04\x55\x65\xa9\0\0\0\x08\0\0\0\x01\0\0\0\0\
+            \0\0\0\0\0\0\x10\0\x01\xed",
+        end: SessionEnd::Done,
+        mode: Some(STRUCTURED),
+    },
+    Row {
+        name: "an option that isn't known",
+        stream: b"\0\0\0\x01IHAVEOPT\0\0\0\x0b\0\0\0\x01x",
+        out: b"\x00\x03\xe8\x89\x04\x55\x65\xa9\0\0\0\x0b\x80\0\0\x01\0\0\0\0",
+        end: SessionEnd::Done,
+        mode: None,
+    },
+    Row {
+        name: "ABORT with data, and more",
+        stream: b"\0\0\0\x01IHAVEOPT\0\0\0\x02\0\0\0\x02byIHAVEOPT",
+        out: b"\x00\x03\xe8\x89\x04\x55\x65\xa9\0\0\0\x02\0\0\0\x01\0\0\0\0",
+        end: SessionEnd::Aborted,
+        mode: None,
+    },
+    Row {
+        name: "ABORT whose data are cut",
+        stream: b"\0\0\0\x01IHAVEOPT\0\0\0\x02\0\0\0\x02b",
+        out: b"",
+        end: SessionEnd::Truncated,
+        mode: None,
+    },
+];
 
 #[test]
 fn other_options(rt: HostRuntime) -> Result<(), Fail> {
-    let alloc = rt.alloc();
-    for row in [
-        Row {
-            name: "LIST",
-            stream: b"\0\0\0\x01IHAVEOPT\0\0\0\x03\0\0\0\0",
-            out: b"\x00\x03\xe8\x89\x04\x55\x65\xa9\0\0\0\x03\0\0\0\x02\0\0\0\x08\0\0\0\x04disk\
-                \x00\x03\xe8\x89\x04\x55\x65\xa9\0\0\0\x03\0\0\0\x01\0\0\0\0",
-            end: SessionEnd::Done,
-            mode: None,
-        },
-        Row {
-            name: "LIST with data",
-            stream: b"\0\0\0\x01IHAVEOPT\0\0\0\x03\0\0\0\x01x",
-            out: b"\x00\x03\xe8\x89\x04\x55\x65\xa9\0\0\0\x03\x80\0\0\x03\0\0\0\0",
-            end: SessionEnd::Done,
-            mode: None,
-        },
-        Row {
-            name: "structured replies, twice, and EXPORT_NAME",
-            stream: b"\0\0\0\x03IHAVEOPT\0\0\0\x08\0\0\0\0IHAVEOPT\0\0\0\x08\0\0\0\0IHAVEOPT\0\0\0\x01\0\0\0\0",
-            out: b"\x00\x03\xe8\x89\x04\x55\x65\xa9\0\0\0\x08\0\0\0\x01\0\0\0\0\
-                \x00\x03\xe8\x89\x04\x55\x65\xa9\0\0\0\x08\0\0\0\x01\0\0\0\0\
-                \0\0\0\0\0\0\x10\0\x01\xed",
-            end: SessionEnd::Done,
-            mode: Some(STRUCTURED),
-        },
-        Row {
-            name: "an option that isn't known",
-            stream: b"\0\0\0\x01IHAVEOPT\0\0\0\x0b\0\0\0\x01x",
-            out: b"\x00\x03\xe8\x89\x04\x55\x65\xa9\0\0\0\x0b\x80\0\0\x01\0\0\0\0",
-            end: SessionEnd::Done,
-            mode: None,
-        },
-        Row {
-            name: "ABORT with data, and more",
-            stream: b"\0\0\0\x01IHAVEOPT\0\0\0\x02\0\0\0\x02byIHAVEOPT",
-            out: b"\x00\x03\xe8\x89\x04\x55\x65\xa9\0\0\0\x02\0\0\0\x01\0\0\0\0",
-            end: SessionEnd::Aborted,
-            mode: None,
-        },
-        Row {
-            name: "ABORT whose data are cut",
-            stream: b"\0\0\0\x01IHAVEOPT\0\0\0\x02\0\0\0\x02b",
-            out: b"",
-            end: SessionEnd::Truncated,
-            mode: None,
-        },
-    ] {
-        holds(&rt, alloc, &row)?;
+    for row in OTHERS {
+        holds(&rt, rt.alloc(), &row)?;
     }
     Ok(())
 }
 
+/// What is refused, or cut, before an option is whole, and how the session ends.
+const REFUSALS: [(&str, &[u8], SessionEnd); 9] = [
+    ("flags", b"\0\0\0\x04IHAVEOPT", SessionEnd::BadFlags(4)),
+    ("a cut of the flags", b"\0\0\0", SessionEnd::Truncated),
+    ("flags alone", b"\0\0\0\x01", SessionEnd::Done),
+    (
+        "LIST of another client",
+        b"\0\0\0\0IHAVEOPT\0\0\0\x03\0\0\0\0",
+        SessionEnd::NotFixed(3),
+    ),
+    (
+        "a magic",
+        b"\0\0\0\x01IHAVEOPU\0\0\0\x03\0\0\0\0",
+        SessionEnd::BadMagic(0x49484156454f5055),
+    ),
+    (
+        "a cut of such a magic",
+        b"\0\0\0\x01IHAVEOPU\0\0\0\x03\0\0\0",
+        SessionEnd::Truncated,
+    ),
+    (
+        "magic before length",
+        b"\0\0\0\0IHAVEOPU\0\0\0\x03\xff\0\0\0",
+        SessionEnd::BadMagic(0x49484156454f5055),
+    ),
+    (
+        "length before newstyle",
+        b"\0\0\0\0IHAVEOPT\0\0\0\x03\0\x01\0\x01",
+        SessionEnd::TooLong(65_537),
+    ),
+    (
+        "the longest of another client",
+        b"\0\0\0\0IHAVEOPT\0\0\0\x03\0\x01\0\0",
+        SessionEnd::NotFixed(3),
+    ),
+];
+
 #[test]
 fn refusals_by_their_field(rt: HostRuntime) -> Result<(), Fail> {
-    let alloc = rt.alloc();
-    for (name, stream, end) in [
-        (
-            "flags",
-            b"\0\0\0\x04IHAVEOPT".as_slice(),
-            SessionEnd::BadFlags(4),
-        ),
-        (
-            "a cut of the flags",
-            b"\0\0\0".as_slice(),
-            SessionEnd::Truncated,
-        ),
-        ("flags alone", b"\0\0\0\x01".as_slice(), SessionEnd::Done),
-        (
-            "LIST of another client",
-            b"\0\0\0\0IHAVEOPT\0\0\0\x03\0\0\0\0".as_slice(),
-            SessionEnd::NotFixed(3),
-        ),
-        (
-            "a magic",
-            b"\0\0\0\x01IHAVEOPU\0\0\0\x03\0\0\0\0".as_slice(),
-            SessionEnd::BadMagic(0x49484156454f5055),
-        ),
-        (
-            "a cut of such a magic",
-            b"\0\0\0\x01IHAVEOPU\0\0\0\x03\0\0\0".as_slice(),
-            SessionEnd::Truncated,
-        ),
-        (
-            "magic before length",
-            b"\0\0\0\0IHAVEOPU\0\0\0\x03\xff\0\0\0".as_slice(),
-            SessionEnd::BadMagic(0x49484156454f5055),
-        ),
-        (
-            "length before newstyle",
-            b"\0\0\0\0IHAVEOPT\0\0\0\x03\0\x01\0\x01".as_slice(),
-            SessionEnd::TooLong(65_537),
-        ),
-        (
-            "the longest of another client",
-            b"\0\0\0\0IHAVEOPT\0\0\0\x03\0\x01\0\0".as_slice(),
-            SessionEnd::NotFixed(3),
-        ),
-    ] {
+    for (name, stream, end) in REFUSALS {
         let row = Row {
             name,
             stream,
@@ -405,7 +415,7 @@ fn refusals_by_their_field(rt: HostRuntime) -> Result<(), Fail> {
             end,
             mode: None,
         };
-        holds(&rt, alloc, &row)?;
+        holds(&rt, rt.alloc(), &row)?;
     }
     Ok(())
 }
@@ -450,4 +460,5 @@ fn the_greeting(rt: HostRuntime) {
     laws::one_spelling();
     laws::whole_sessions();
     laws::one_reading();
+    laws::one_question();
 }

@@ -8,14 +8,14 @@ use Rattle.std.proofs.lemmas.Bool.{ltb-true}
 use Rattle.qs_bytes.specs.declared.ask.Ask.{Ask}
 use Rattle.qs_status.specs.declared.status.SessionEnd.{SessionEnd}
 use Rattle.qs_status.specs.declared.status.SessionEnd.TheVariants.{BadMagic, TooLong}
-use Rattle.qs_nbd_transmission.specs.declared.head.Head.{Head}
+use Rattle.qs_nbd_wire.specs.declared.request.RequestHead.{RequestHead}
 use Rattle.qs_nbd_transmission.specs.declared.event.Room.{Room}
 use Rattle.qs_nbd_transmission.specs.declared.event.Room.TheVariants.{Keep, Drop}
 use Rattle.qs_nbd_transmission.specs.declared.event.WireEvent.{WireEvent}
 use Rattle.qs_nbd_transmission.specs.declared.event.WireEvent.TheVariants as event
-use Rattle.qs_nbd_transmission.specs.Heads.{IsHeadFront, head_bytes, head_of, ask_of, is_write_head, has_body}
+use Rattle.qs_nbd_wire.specs.Requests.{head_bytes, head_of, is_write_head, has_body, spelling}
+use Rattle.qs_nbd_transmission.specs.Heads.{IsHeadFront, ask_of}
 use Rattle.qs_nbd_transmission.specs.Phases.{Phase, InHead, Wants, Fills, Skips, Over, Stuck, phase_with_room, HeadTells, KeptTell, PassedTell, StaysStuck, IsServed, IsLeaving}
-use Rattle.qs_nbd_transmission.specs.Messages.{spelling}
 use Rattle.qs_nbd_transmission.specs.Sessions.{ReaderCall, Took, Gave, CallLeads, CallsLead, taken_by, told_by, Heard, IsHeard, events_of, IsAwaiting, EndsWith, TellsEvents, ReadsSessions}
 use Rattle.qs_nbd_transmission.proofs.Reading.{behind_wants, behind_none, kept_whole, passed_whole}
 use Rattle.qs_nbd_transmission.proofs.ReplyLaws.{second_of}
@@ -107,10 +107,10 @@ ends_head s held bytes more events (event.Bad (BadMagic found)) new p r =
     refuses s held bytes more events (BadMagic found) new r.stuck (record { four = r.four; told = r.told; bad = r.bad; stuck = refl }) p
 ends_head s held bytes more events told new p r = absurd r
 
-some_size : (h : Head) → has_body h ≡ true → 0 < h.size
+some_size : (h : RequestHead) → has_body h ≡ true → 0 < h.size
 some_size h e = ltb-true 0 h.size (second_of (is_write_head h) (nat_lt 0 h.size) e)
 
-room_given : (s : Bool) (h : Head) (bytes : List ℕ) (events : List WireEvent) (room : Room) (new : Phase) → TellsEvents s (Wants h) bytes events → new ≡ phase_with_room (Wants h) room → TellsEvents s new (bytes ++ []) (events ++ [])
+room_given : (s : Bool) (h : RequestHead) (bytes : List ℕ) (events : List WireEvent) (room : Room) (new : Phase) → TellsEvents s (Wants h) bytes events → new ≡ phase_with_room (Wants h) room → TellsEvents s new (bytes ++ []) (events ++ [])
 room_given s h bytes events (Keep buffer) new p r =
     let l = p.leaves in
     subst (λ (q : Phase). TellsEvents s q (bytes ++ []) (events ++ [])) (sym r)
@@ -122,16 +122,16 @@ room_given s h bytes events (Drop count) new p r =
     (longer s (Wants h) (Skips h h.size) bytes [] events [] p
     (l.0, ([], (append-nil p.rest ∙ l.1 ∙ sym (append-nil (head_bytes h)), omega arith)), some_size h l.0.body, append-nil p.last ∙ l.2))
 
-more_kept : (s : Bool) (h : Head) (got bytes more : List ℕ) (events : List WireEvent) (new : Phase) → TellsEvents s (Fills h got) bytes events → KeptTell h (got ++ more) None new → TellsEvents s new (bytes ++ more) (events ++ [])
+more_kept : (s : Bool) (h : RequestHead) (got bytes more : List ℕ) (events : List WireEvent) (new : Phase) → TellsEvents s (Fills h got) bytes events → KeptTell h (got ++ more) None new → TellsEvents s new (bytes ++ more) (events ++ [])
 more_kept s h got bytes more events (Fills g now) p r =
     let l = p.leaves in
     subst (λ (q : Phase). TellsEvents s q (bytes ++ more) (events ++ []))
-    (ap (λ (k : Head). Fills k (got ++ more)) (sym r.0) ∙ ap (λ (xs : List ℕ). Fills g xs) (sym r.1))
+    (ap (λ (k : RequestHead). Fills k (got ++ more)) (sym r.0) ∙ ap (λ (xs : List ℕ). Fills g xs) (sym r.1))
     (longer s (Fills h got) (Fills h (got ++ more)) bytes more events [] p
     (l.0, ap (λ xs. xs ++ more) l.1 ∙ append_assoc (head_bytes h) got more, subst (λ (xs : List ℕ). length xs < h.size) r.1 r.2, append-nil p.last ∙ l.3))
 more_kept s h got bytes more events new p r = absurd r
 
-all_kept : (s : Bool) (h : Head) (got bytes more : List ℕ) (events : List WireEvent) (told : WireEvent) (new : Phase) → TellsEvents s (Fills h got) bytes events → KeptTell h (got ++ more) (Some told) new → TellsEvents s new (bytes ++ more) (events ++ told ∷ [])
+all_kept : (s : Bool) (h : RequestHead) (got bytes more : List ℕ) (events : List WireEvent) (told : WireEvent) (new : Phase) → TellsEvents s (Fills h got) bytes events → KeptTell h (got ++ more) (Some told) new → TellsEvents s new (bytes ++ more) (events ++ told ∷ [])
 all_kept s h got bytes more events told new p r =
     let l = p.leaves in
     let k = kept_whole h (got ++ more) told new r in
@@ -142,16 +142,16 @@ all_kept s h got bytes more events told new p r =
     (ap (λ xs. xs ++ more) l.1 ∙ append_assoc (head_bytes h) got more)
     (ap (λ (xs : List WireEvent). xs ++ told ∷ []) l.3 ∙ ap (λ (e : WireEvent). event.Head (ask_of s h) ∷ (e ∷ [])) k.1))
 
-more_passed : (s : Bool) (h : Head) (left : ℕ) (bytes more : List ℕ) (events : List WireEvent) (new : Phase) → TellsEvents s (Skips h left) bytes events → PassedTell h left (length more) None new → TellsEvents s new (bytes ++ more) (events ++ [])
+more_passed : (s : Bool) (h : RequestHead) (left : ℕ) (bytes more : List ℕ) (events : List WireEvent) (new : Phase) → TellsEvents s (Skips h left) bytes events → PassedTell h left (length more) None new → TellsEvents s new (bytes ++ more) (events ++ [])
 more_passed s h left bytes more events (Skips g fewer) p r =
     let l = p.leaves in
     let got = l.1.0 in
-    subst (λ (q : Phase). TellsEvents s q (bytes ++ more) (events ++ [])) (ap (λ (k : Head). Skips k fewer) (sym r.0))
+    subst (λ (q : Phase). TellsEvents s q (bytes ++ more) (events ++ [])) (ap (λ (k : RequestHead). Skips k fewer) (sym r.0))
     (longer s (Skips h left) (Skips h fewer) bytes more events [] p
     (l.0, (got ++ more, (ap (λ xs. xs ++ more) l.1.1.0 ∙ append_assoc (head_bytes h) got more, omega (arith, length-append got more, l.1.1.1, r.1))), r.2, append-nil p.last ∙ l.3))
 more_passed s h left bytes more events new p r = absurd r
 
-all_passed : (s : Bool) (h : Head) (left : ℕ) (bytes more : List ℕ) (events : List WireEvent) (told : WireEvent) (new : Phase) → TellsEvents s (Skips h left) bytes events → PassedTell h left (length more) (Some told) new → TellsEvents s new (bytes ++ more) (events ++ told ∷ [])
+all_passed : (s : Bool) (h : RequestHead) (left : ℕ) (bytes more : List ℕ) (events : List WireEvent) (told : WireEvent) (new : Phase) → TellsEvents s (Skips h left) bytes events → PassedTell h left (length more) (Some told) new → TellsEvents s new (bytes ++ more) (events ++ told ∷ [])
 all_passed s h left bytes more events told new p r =
     let l = p.leaves in
     let got = l.1.0 in

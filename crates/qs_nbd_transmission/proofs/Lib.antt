@@ -1,5 +1,3 @@
-pub mod Overlays
-pub mod Widths
 pub mod HeadLaws
 pub mod Reading
 pub mod Streams

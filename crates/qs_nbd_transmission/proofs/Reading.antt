@@ -4,28 +4,29 @@ use Rattle.std.proofs.lemmas.Bool.{eq-eqb, ne_eqb, cases_eq}
 use Rattle.std.proofs.lemmas.List.{length-append, take_at, append_cancel_left}
 use Rattle.qs_bytes.specs.Numbers.{number32}
 use Rattle.qs_status.specs.declared.status.SessionEnd.TheVariants.{BadMagic, TooLong}
-use Rattle.qs_nbd_transmission.specs.declared.head.Head.{Head}
+use Rattle.qs_nbd_wire.specs.declared.request.RequestHead.{RequestHead}
 use Rattle.qs_nbd_transmission.specs.declared.event.Room.TheVariants.{Keep, Drop}
 use Rattle.qs_nbd_transmission.specs.declared.event.WireEvent.{WireEvent}
 use Rattle.qs_nbd_transmission.specs.declared.event.WireEvent.TheVariants as event
 use Rattle.qs_bytes.specs.Payloads.{max_payload}
-use Rattle.qs_nbd_transmission.specs.Heads.{request_magic, IsHead, IsHeadFront, head_of, ask_of, disc, is_too_long, has_body, has_data, is_write, kind_of}
+use Rattle.qs_nbd_wire.specs.Requests.{request_magic, IsHead, head_of, disc, is_too_long, has_body}
+use Rattle.qs_nbd_transmission.specs.Heads.{IsHeadFront, ask_of, has_data, is_write, kind_of}
 use Rattle.qs_bytes.specs.declared.ask.Ask.{Ask}
 use Rattle.qs_bytes.specs.declared.ask.Kind.{Kind}
 use Rattle.qs_bytes.specs.declared.ask.Kind.TheVariants.{Read, Zero, Trim, Flush, Unknown}
 use Rattle.qs_nbd_transmission.specs.Phases.{Phase, InHead, Wants, Fills, Skips, Over, Stuck, Reaches, HeadTells, KeptTell, PassedTell, behind_head}
 use Rattle.qs_nbd_transmission.specs.Laws.{AsksRoom, JoinsPieces, ReadsOnce, WantsLess}
-use Rattle.qs_nbd_transmission.proofs.Widths.{number32-append}
-use Rattle.qs_nbd_transmission.proofs.HeadLaws.{length-head_bytes, magic-head_bytes}
+use Rattle.qs_nbd_wire.proofs.Widths.{number32-append}
+use Rattle.qs_nbd_wire.proofs.Requests.{length-head_bytes, magic-head_bytes}
 
-pub behind_wants : (h : Head) → has_body h ≡ true → Wants h ≡ behind_head h
+pub behind_wants : (h : RequestHead) → has_body h ≡ true → Wants h ≡ behind_head h
 behind_wants h e = sym (ap (λ (b : Bool). if b then Wants h else InHead []) e)
 
-pub behind_none : (h : Head) → has_body h ≡ false → InHead [] ≡ behind_head h
+pub behind_none : (h : RequestHead) → has_body h ≡ false → InHead [] ≡ behind_head h
 behind_none h e = sym (ap (λ (b : Bool). if b then Wants h else InHead []) e)
 
 -- the pieces of a passed body, one after the other
-passed_on : (h : Head) (left middle first second : ℕ) (told : Option WireEvent) (new : Phase) → middle + first ≡ left → PassedTell h middle second told new → PassedTell h left (first + second) told new
+passed_on : (h : RequestHead) (left middle first second : ℕ) (told : Option WireEvent) (new : Phase) → middle + first ≡ left → PassedTell h middle second told new → PassedTell h left (first + second) told new
 passed_on h left middle first second None (Skips same fewer) e r = (r.0, omega (arith, r.1), r.2)
 passed_on h left middle first second (Some (event.Body (Drop size))) new e r = (r.0, omega (arith, r.1), r.2)
 passed_on h left middle first second None (InHead held) e r = absurd r
@@ -44,10 +45,10 @@ reaches_on s (InHead held) (InHead more) new a b told p q =
     subst (λ (xs : List ℕ). HeadTells s xs told new) (ap (λ xs. xs ++ b) p.0 ∙ append_assoc held a b) q
 reaches_on s (Fills h got) (Fills g more) new a b told p q =
     subst (λ (xs : List ℕ). KeptTell h xs told new) (ap (λ xs. xs ++ b) p.1 ∙ append_assoc got a b)
-    (subst (λ (k : Head). KeptTell k (more ++ b) told new) p.0 q)
+    (subst (λ (k : RequestHead). KeptTell k (more ++ b) told new) p.0 q)
 reaches_on s (Skips h left) (Skips g middle) new a b told p q =
     subst (λ (n : ℕ). PassedTell h left n told new) (sym (length-append a b))
-    (passed_on h left middle (length a) (length b) told new p.1 (subst (λ (k : Head). PassedTell k middle (length b) told new) p.0 q))
+    (passed_on h left middle (length a) (length b) told new p.1 (subst (λ (k : RequestHead). PassedTell k middle (length b) told new) p.0 q))
 reaches_on s (Stuck bad) middle new a b told p q = let e = p.1 in absurd (cc)
 reaches_on s old middle new a b told p q = absurd p
 
@@ -59,15 +60,15 @@ told_at s bytes = if number32 bytes 0 == request_magic then (if is_too_long (hea
 phase_at : List ℕ → Phase
 phase_at bytes = if number32 bytes 0 == request_magic then (if is_too_long (head_of bytes) then Stuck (TooLong (head_of bytes).size) else (if (head_of bytes).kind == disc then Over else behind_head (head_of bytes))) else Stuck (BadMagic (number32 bytes 0))
 
-magic_of : (bytes : List ℕ) (h : Head) → IsHead bytes h → number32 bytes 0 ≡ request_magic
+magic_of : (bytes : List ℕ) (h : RequestHead) → IsHead bytes h → number32 bytes 0 ≡ request_magic
 magic_of bytes h is =
     sym (number32-append bytes [] (rw is.spelled (omega (arith, length-head_bytes h))))
     ∙ ap (λ xs. number32 (xs ++ []) 0) is.spelled ∙ magic-head_bytes h []
 
-whole_of : (bytes : List ℕ) (h : Head) → IsHead bytes h → length bytes ≡ 28
+whole_of : (bytes : List ℕ) (h : RequestHead) → IsHead bytes h → length bytes ≡ 28
 whole_of bytes h is = ap (λ xs. length xs) is.spelled ∙ length-head_bytes h
 
-disc_short : (h : Head) → h.kind ≡ disc → is_too_long h ≡ false
+disc_short : (h : RequestHead) → h.kind ≡ disc → is_too_long h ≡ false
 disc_short h e = ap (λ k. (k == 1) && nat_lt max_payload h.size) e
 
 -- what a head tells is told by its bytes
@@ -129,20 +130,20 @@ head_never s bytes more told new (InHead held) p q =
 head_never s bytes more told new other p q = q
 
 -- data that are whole
-pub kept_whole : (h : Head) (bytes : List ℕ) (told : WireEvent) (new : Phase) → KeptTell h bytes (Some told) new → (length bytes ≡ h.size) × (told ≡ event.Body (Keep bytes)) × (new ≡ InHead [])
+pub kept_whole : (h : RequestHead) (bytes : List ℕ) (told : WireEvent) (new : Phase) → KeptTell h bytes (Some told) new → (length bytes ≡ h.size) × (told ≡ event.Body (Keep bytes)) × (new ≡ InHead [])
 kept_whole h bytes (event.Body (Keep whole)) new r = (ap (λ xs. length xs) (sym r.0) ∙ r.1, ap (λ xs. event.Body (Keep xs)) r.0, r.2)
 kept_whole h bytes told new r = absurd r
 
-kept_never : (h : Head) (bytes more : List ℕ) (told : WireEvent) (new other : Phase) → KeptTell h bytes (Some told) new → KeptTell h (bytes ++ more) None other → ⊥
+kept_never : (h : RequestHead) (bytes more : List ℕ) (told : WireEvent) (new other : Phase) → KeptTell h bytes (Some told) new → KeptTell h (bytes ++ more) None other → ⊥
 kept_never h bytes more told new (Fills g got) p q =
     omega (arith, (kept_whole h bytes told new p).0, q.2, ap (λ xs. length xs) q.1, length-append bytes more)
 kept_never h bytes more told new other p q = q
 
-pub passed_whole : (h : Head) (left count : ℕ) (told : WireEvent) (new : Phase) → PassedTell h left count (Some told) new → (count ≡ left) × (told ≡ event.Body (Drop h.size)) × (new ≡ InHead [])
+pub passed_whole : (h : RequestHead) (left count : ℕ) (told : WireEvent) (new : Phase) → PassedTell h left count (Some told) new → (count ≡ left) × (told ≡ event.Body (Drop h.size)) × (new ≡ InHead [])
 passed_whole h left count (event.Body (Drop size)) new r = (r.1, ap (λ n. event.Body (Drop n)) r.0, r.2)
 passed_whole h left count told new r = absurd r
 
-passed_never : (h : Head) (left count more : ℕ) (told : WireEvent) (new other : Phase) → PassedTell h left count (Some told) new → PassedTell h left (count + more) None other → ⊥
+passed_never : (h : RequestHead) (left count more : ℕ) (told : WireEvent) (new other : Phase) → PassedTell h left count (Some told) new → PassedTell h left (count + more) None other → ⊥
 passed_never h left count more told new (Skips g fewer) p q = omega (arith, (passed_whole h left count told new p).0, q.1, q.2)
 passed_never h left count more told new other p q = q
 
@@ -191,7 +192,7 @@ pub need_falls : WantsLess
 need_falls s (InHead held) (InHead more) bytes some r =
     omega (arith, ap (λ xs. length xs) r.0, length-append held bytes, r.1.short)
 need_falls s (Fills h got) (Fills g more) bytes some r =
-    omega (arith, ap (λ (k : Head). k.size) r.0, ap (λ xs. length xs) r.1, length-append got bytes, r.2)
+    omega (arith, ap (λ (k : RequestHead). k.size) r.0, ap (λ xs. length xs) r.1, length-append got bytes, r.2)
 need_falls s (Skips h left) (Skips g fewer) bytes some r = omega (arith, r.1)
 need_falls s (Stuck bad) new bytes some r = let e = r.1 in absurd (cc)
 need_falls s old new bytes some r = absurd r
@@ -210,7 +211,7 @@ is_write-kind_of n =
           rw e (no_write (n == 0) Read _ refl (no_write (n == 3) Flush _ refl (no_write (n == 4) Trim _ refl (no_write (n == 6) Zero (Unknown n) refl refl))))
     ]
 
-pub has_data-ask_of : (s : Bool) (h : Head) → has_data (ask_of s h) ≡ has_body h
+pub has_data-ask_of : (s : Bool) (h : RequestHead) → has_data (ask_of s h) ≡ has_body h
 has_data-ask_of s h = ap (λ b. b && nat_lt 0 h.size) (is_write-kind_of h.kind)
 
 -- what follows the head of a request

@@ -12,7 +12,7 @@ use Rattle.qs_bytes.specs.declared.ask.Verdict.TheVariants.{Got, Fine, Refused, 
 use Rattle.qs_bytes.specs.Payloads.{max_payload}
 use Rattle.qs_nbd_transmission.specs.Replies.{CanReply, is_read, error_of, data_of, simple_front, chunk_head, chunk_front}
 use Rattle.qs_nbd_transmission.specs.Laws.{RepliesStandApart}
-use Rattle.qs_nbd_transmission.proofs.Widths.{length-bytes16, length-bytes32, length-bytes64, number32_at}
+use Rattle.qs_nbd_wire.proofs.Widths.{length-bytes16, length-bytes32, length-bytes64, number32_at}
 
 errno_fits : (e : Errno) → (0 < errno_number e) × (errno_number e < 2 ^ 32)
 errno_fits Perm = (lit< tt, lit< tt)

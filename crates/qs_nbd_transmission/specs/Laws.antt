@@ -3,20 +3,14 @@ use Rattle.std.specs.Prelude.{◌≡◌, ℕ, ◌<◌, Bool, true, false, List, 
 use Rattle.std.specs.List.{flat_map}
 use Rattle.qs_bytes.specs.declared.ask.Ask.{Ask}
 use Rattle.qs_bytes.specs.declared.ask.Verdict.{Verdict}
-use Rattle.qs_nbd_transmission.specs.declared.head.Head.{Head}
+use Rattle.qs_nbd_wire.specs.declared.request.RequestHead.{RequestHead}
 use Rattle.qs_nbd_transmission.specs.declared.event.Room.TheVariants.{Keep, Drop}
 use Rattle.qs_nbd_transmission.specs.declared.event.WireEvent.{WireEvent}
 use Rattle.qs_nbd_transmission.specs.declared.event.WireEvent.TheVariants as event
-use Rattle.qs_nbd_transmission.specs.Heads.{FitsHead, IsHead, IsHeadFront, head_bytes, head_of, ask_of, disc, has_body, has_data}
+use Rattle.qs_nbd_wire.specs.Requests.{FitsHead, head_bytes, disc, has_body, Message, IsMessage, BeginsNone, spelling}
+use Rattle.qs_nbd_transmission.specs.Heads.{IsHeadFront, ask_of, has_data}
 use Rattle.qs_nbd_transmission.specs.Phases.{Phase, InHead, Wants, Fills, Skips, Over, Reaches, IsServed, behind_head, need}
-use Rattle.qs_nbd_transmission.specs.Messages.{Message, IsMessage, BeginsNone, spelling}
 use Rattle.qs_nbd_transmission.specs.Replies.{CanReply, reply_of}
-
--- a head has one spelling, of 28 bytes, and these spell no other head
-pub record SpellsOnce : Type 0 where
-  pub whole : (h : Head) → length (head_bytes h) ≡ 28
-  pub again : (h : Head) → FitsHead h → head_of (head_bytes h) ≡ h
-  pub one : (bytes : List ℕ) → (a b : Head) → IsHead bytes a → IsHead bytes b → a ≡ b
 
 -- a piece that brought no event, and the next one, lead where both together do
 abbrev pub JoinsPieces : Type 0
@@ -42,13 +36,13 @@ pub record TellsMessages : Type 0 where
   pub dropped : (structured : Bool) → (m : Message) → IsMessage m → has_body m.head ≡ true →
       Reaches structured (Skips m.head m.head.size) m.body (Some (event.Body (Drop m.head.size))) (InHead [])
   pub bare : (m : Message) → IsMessage m → has_body m.head ≡ false → m.body ≡ []
-  pub leave : (structured : Bool) → (h : Head) → FitsHead h → h.kind ≡ disc →
+  pub leave : (structured : Bool) → (h : RequestHead) → FitsHead h → h.kind ≡ disc →
       Reaches structured (InHead []) (head_bytes h) (Some event.Disc) Over
 
 -- behind the head of a request with data, room for exactly these is awaited; behind every other one, the next head
 pub record AsksRoom : Type 0 where
   pub some : (structured : Bool) → (bytes : List ℕ) → (ask : Ask) → (new : Phase) → IsServed structured bytes ask new →
-      has_data ask ≡ true → (h : Head) × ((new ≡ Wants h) × (h.size ≡ ask.length))
+      has_data ask ≡ true → (h : RequestHead) × ((new ≡ Wants h) × (h.size ≡ ask.length))
   pub none : (structured : Bool) → (bytes : List ℕ) → (ask : Ask) → (new : Phase) → IsServed structured bytes ask new →
       has_data ask ≡ false → new ≡ InHead []
 
@@ -68,7 +62,7 @@ IsEnding other = ⊥
 -- what is refused or leaves, whatever follows it
 pub record RestsBegin : Type 0 where
   pub front : (bytes : List ℕ) → IsHeadFront bytes → BeginsNone bytes
-  pub partial : (h : Head) → (got : List ℕ) → FitsHead h → has_body h ≡ true → length got < h.size → BeginsNone (head_bytes h ++ got)
+  pub partial : (h : RequestHead) → (got : List ℕ) → FitsHead h → has_body h ≡ true → length got < h.size → BeginsNone (head_bytes h ++ got)
   pub refused : (structured : Bool) → (bytes more : List ℕ) → (told : WireEvent) → (new : Phase) → IsEnding told →
       Reaches structured (InHead []) bytes (Some told) new → BeginsNone (bytes ++ more)
 

@@ -4,21 +4,22 @@ use Rattle.qs_bytes.specs.Numbers.{number32}
 use Rattle.qs_bytes.specs.declared.ask.Ask.{Ask}
 use Rattle.qs_status.specs.declared.status.SessionEnd.{SessionEnd}
 use Rattle.qs_status.specs.declared.status.SessionEnd.TheVariants.{Done, Truncated, BadMagic, TooLong}
-use Rattle.qs_nbd_transmission.specs.declared.head.Head.{Head}
+use Rattle.qs_nbd_wire.specs.declared.request.RequestHead.{RequestHead}
 use Rattle.qs_nbd_transmission.specs.declared.event.Room.{Room}
 use Rattle.qs_nbd_transmission.specs.declared.event.Room.TheVariants.{Keep, Drop}
 use Rattle.qs_nbd_transmission.specs.declared.event.WireEvent.{WireEvent}
 use Rattle.qs_nbd_transmission.specs.declared.event.WireEvent.TheVariants as event
-use Rattle.qs_nbd_transmission.specs.Heads.{request_magic, head_of, ask_of, IsHead, IsHeadFront, disc, is_too_long, has_body}
+use Rattle.qs_nbd_wire.specs.Requests.{request_magic, head_of, IsHead, disc, is_too_long, has_body}
+use Rattle.qs_nbd_transmission.specs.Heads.{ask_of, IsHeadFront}
 
 -- InHead: these bytes of the next head were taken. Wants: the head of a WRITE came, and its data have
 -- no room yet. Fills: so much of the data is in the buffer. Skips: so many bytes of the data are
 -- still to be passed over. Over: a DISC came. Stuck: a refusal came.
 pub data Phase : Type 0 where
   InHead : (held : List ℕ) → Phase
-  Wants : (h : Head) → Phase
-  Fills : (h : Head) (got : List ℕ) → Phase
-  Skips : (h : Head) (left : ℕ) → Phase
+  Wants : (h : RequestHead) → Phase
+  Fills : (h : RequestHead) (got : List ℕ) → Phase
+  Skips : (h : RequestHead) (left : ℕ) → Phase
   Over : Phase
   Stuck : (bad : SessionEnd) → Phase
 
@@ -50,7 +51,7 @@ phase_with_room (Wants h) (Drop count) = Skips h h.size
 phase_with_room other room = other
 
 -- the phase behind a head that is served
-abbrev pub behind_head : Head → Phase
+abbrev pub behind_head : RequestHead → Phase
 behind_head h = if has_body h then Wants h else InHead []
 
 -- These 28 bytes are a head that is served, and the phase behind it is `new`.
@@ -91,13 +92,13 @@ HeadTells structured bytes (Some (event.Bad (BadMagic found))) new = IsBadMagic 
 HeadTells structured bytes told new = ⊥
 
 -- What stands at the end of these data of a WRITE that are kept, and the phase there.
-abbrev pub KeptTell : Head → List ℕ → Option WireEvent → Phase → Type 0
+abbrev pub KeptTell : RequestHead → List ℕ → Option WireEvent → Phase → Type 0
 KeptTell h bytes None (Fills same got) = (same ≡ h) × (got ≡ bytes) × (length got < h.size)
 KeptTell h bytes (Some (event.Body (Keep whole))) new = (whole ≡ bytes) × (length whole ≡ h.size) × (new ≡ InHead [])
 KeptTell h bytes told new = ⊥
 
 -- What stands behind so many bytes of the data of a WRITE of which `left` are to be passed over.
-abbrev pub PassedTell : Head → ℕ → ℕ → Option WireEvent → Phase → Type 0
+abbrev pub PassedTell : RequestHead → ℕ → ℕ → Option WireEvent → Phase → Type 0
 PassedTell h left count None (Skips same fewer) = (same ≡ h) × (fewer + count ≡ left) × (0 < fewer)
 PassedTell h left count (Some (event.Body (Drop size))) new = (size ≡ h.size) × (count ≡ left) × (new ≡ InHead [])
 PassedTell h left count told new = ⊥

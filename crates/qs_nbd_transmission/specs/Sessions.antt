@@ -1,14 +1,14 @@
 -- All calls of a reader in one session, and what they tell together.
 use Rattle.std.specs.Prelude.{◌≡◌, ◌≢◌, ℕ, ◌+◌, ◌<◌, Bool, true, false, List, [], ◌∷◌, ◌++◌, length, replicate, All, Option, Some, None}
 use Rattle.std.specs.List.{flat_map}
-use Rattle.qs_nbd_transmission.specs.declared.head.Head.{Head}
+use Rattle.qs_nbd_wire.specs.declared.request.RequestHead.{RequestHead}
 use Rattle.qs_nbd_transmission.specs.declared.event.Room.{Room}
 use Rattle.qs_nbd_transmission.specs.declared.event.Room.TheVariants.{Keep, Drop}
 use Rattle.qs_nbd_transmission.specs.declared.event.WireEvent.{WireEvent}
 use Rattle.qs_nbd_transmission.specs.declared.event.WireEvent.TheVariants as event
-use Rattle.qs_nbd_transmission.specs.Heads.{FitsHead, IsHeadFront, head_bytes, ask_of, disc, is_too_long, has_body}
+use Rattle.qs_nbd_wire.specs.Requests.{FitsHead, head_bytes, disc, is_too_long, has_body, Message, IsMessage, spelling}
+use Rattle.qs_nbd_transmission.specs.Heads.{IsHeadFront, ask_of}
 use Rattle.qs_nbd_transmission.specs.Phases.{Phase, InHead, Wants, Fills, Skips, Over, Stuck, CanGive, phase_with_room, Reaches, HeadTells}
-use Rattle.qs_nbd_transmission.specs.Messages.{Message, IsMessage, spelling}
 
 -- Took: a feed took these bytes, with what it told at their end. Gave: room was given.
 pub data ReaderCall : Type 0 where
@@ -62,7 +62,7 @@ abbrev pub events_of : Bool → Heard → List WireEvent
 events_of structured x = event.Head (ask_of structured x.message.head) ∷ body_events x.room
 
 -- the head of a WRITE whose data aren't whole
-pub record IsAwaiting (h : Head) : Type 0 where
+pub record IsAwaiting (h : RequestHead) : Type 0 where
   pub fits : FitsHead h
   pub not_disc : h.kind ≢ disc
   pub not_long : is_too_long h ≡ false

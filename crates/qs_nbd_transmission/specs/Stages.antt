@@ -2,7 +2,8 @@
 use Rattle.std.specs.Prelude.{◌≡◌, ℕ, ◌<◌, ◌≤◌, true, List, length, take}
 use Rattle.qs_nbd_transmission.specs.declared.stage.Stage.{Stage}
 use Rattle.qs_nbd_transmission.specs.declared.stage.Stage.TheVariants as stage
-use Rattle.qs_nbd_transmission.specs.Heads.{head_of, IsHeadFront, has_body}
+use Rattle.qs_nbd_wire.specs.Requests.{head_of, has_body}
+use Rattle.qs_nbd_transmission.specs.Heads.{IsHeadFront}
 use Rattle.qs_nbd_transmission.specs.Phases.{Phase, InHead, Wants, Fills, Skips, Over, Stuck}
 
 -- what a stage means, beside the head's bytes

@@ -1,12 +1,7 @@
 //! Laws of the definitions, each the contract of a function with nothing to do.
 
-ghost use Rattle.qs_nbd_transmission.specs.Laws.{AsksRoom, HasOneReading, JoinsPieces, ReadsOnce, RepliesStandApart, RestsBegin, SpellsOnce, TellsMessages, WantsLess};
+ghost use Rattle.qs_nbd_transmission.specs.Laws.{AsksRoom, HasOneReading, JoinsPieces, ReadsOnce, RepliesStandApart, RestsBegin, TellsMessages, WantsLess};
 ghost use Rattle.qs_nbd_transmission.specs.Sessions.{ReadsSessions};
-
-/// A head has one spelling, of 28 bytes, and these spell no other head.
-pub fn one_spelling()
-    ensures { SpellsOnce }
-{}
 
 /// A piece that brought no event, and the next one, lead where both together do.
 pub fn any_cutting()

@@ -2,9 +2,9 @@ ghost use Rattle.std.specs.Prelude.{◌≡◌, ◌<◌, ◌≤◌, [], false, le
 ghost use Rattle.qs_nbd_transmission.specs.Phases.{CanFeed, CanGive, Reaches, InHead, end_at, is_stuck, phase_with_room};
 
 use crate::event::{Room, WireEvent};
-use crate::head::HEAD_BYTES;
 use crate::stage::{Advance, Stage, take_piece};
 use qs_bytes::{Fed, Mode};
+use qs_nbd_wire::REQUEST_HEAD_BYTES;
 use qs_status::SessionEnd;
 use std::marker::Model;
 use std::mem;
@@ -14,7 +14,7 @@ use std::mem;
 #[derive(Debug, Drop)]
 pub struct Transmission {
     structured: bool,
-    head: [u8; HEAD_BYTES],
+    head: [u8; REQUEST_HEAD_BYTES],
     stage: Stage,
 }
 
@@ -37,7 +37,7 @@ impl Transmission {
     {
         Transmission {
             structured: mode.structured,
-            head: [0; HEAD_BYTES],
+            head: [0; REQUEST_HEAD_BYTES],
             stage: Stage::Head(0),
         }
     }

@@ -1,12 +1,13 @@
 ghost use Rattle.std.specs.Prelude.{◌≡◌, ◌<◌, ◌≤◌, Bool, false, [], length, take, IfNone, IsSome};
 ghost use Rattle.qs_bytes.specs.Numbers.{number32};
-ghost use Rattle.qs_nbd_transmission.specs.Heads.{head_of, request_magic};
+ghost use Rattle.qs_nbd_wire.specs.Requests.{head_of, request_magic};
 ghost use Rattle.qs_nbd_transmission.specs.Phases.{CanFeed, Reaches, InHead, Fills, Skips, is_stuck};
 ghost use Rattle.qs_nbd_transmission.specs.Stages.{IsSound, phase_of};
 
 use crate::event::{Room, WireEvent};
-use crate::head::{DISC, HEAD_BYTES, REQUEST_MAGIC, ask, head_at, is_over_long, wants_body};
+use crate::head::{ask, is_over_long, wants_body};
 use qs_bytes::{Bytes, u32_at, write_into, write_over};
+use qs_nbd_wire::{DISC, REQUEST_HEAD_BYTES, REQUEST_MAGIC, request_head};
 use qs_status::SessionEnd;
 
 /// What is held of the next request, beside the bytes of its head.
@@ -70,7 +71,7 @@ fn read_head(structured: bool, head: &mut [u8], held: usize, piece: &[u8]) -> Ad
     ensures sound { IsSound head.new result.stage }
     ensures progress { 0 < length piece.now → 0 < result.taken }
 {
-    let taken = piece.len().min(HEAD_BYTES - held);
+    let taken = piece.len().min(REQUEST_HEAD_BYTES - held);
     write_over(head, held, &piece[..taken]);
     let now = held + taken;
     if now >= 4 {
@@ -79,7 +80,7 @@ fn read_head(structured: bool, head: &mut [u8], held: usize, piece: &[u8]) -> Ad
             return refused(4 - held, SessionEnd::BadMagic(u64::from(found)));
         }
     }
-    if now < HEAD_BYTES {
+    if now < REQUEST_HEAD_BYTES {
         return Advance {
             taken,
             event: None,
@@ -109,7 +110,7 @@ fn end_head(structured: bool, head: &[u8], taken: usize) -> Advance
     ensures sound { IsSound head.now result.stage }
     ensures some { IsSome result.event }
 {
-    let found = head_at(head);
+    let found = request_head(head);
     if found.kind == DISC {
         return Advance {
             taken,

@@ -161,56 +161,23 @@ fn requests_are_read_however_they_are_cut(rt: HostRuntime) -> Result<(), Fail> {
 }
 
 #[test]
-fn refusals_and_ends(rt: HostRuntime) -> Result<(), Fail> {
+fn refusals(rt: HostRuntime) -> Result<(), Fail> {
     let alloc = rt.alloc();
-    tells(
-        &rt,
-        alloc,
-        &WRONG_HEAD[..4],
-        &[],
-        &[],
-        SessionEnd::BadMagic(0x25609514),
-    )?;
-    tells(
-        &rt,
-        alloc,
-        &WRONG_HEAD,
-        &[],
-        &[],
-        SessionEnd::BadMagic(0x25609514),
-    )?;
-    tells(
-        &rt,
-        alloc,
-        &WRONG_HEAD[1..4],
-        &[],
-        &[],
-        SessionEnd::Truncated,
-    )?;
-    tells(
-        &rt,
-        alloc,
-        &LONG_HEAD,
-        &[],
-        &[],
-        SessionEnd::TooLong(33_554_433),
-    )?;
-    tells(
-        &rt,
-        alloc,
-        &LONG_HEAD[..27],
-        &[],
-        &[],
-        SessionEnd::Truncated,
-    )?;
-    tells(
-        &rt,
-        alloc,
-        &WRITE_HEAD,
-        &[WRITE_ONE],
-        &[],
-        SessionEnd::Truncated,
-    )?;
+    let magic = SessionEnd::BadMagic(0x25609514);
+    tells(&rt, alloc, &WRONG_HEAD[..4], &[], &[], magic)?;
+    tells(&rt, alloc, &WRONG_HEAD, &[], &[], magic)?;
+    let long = SessionEnd::TooLong(33_554_433);
+    tells(&rt, alloc, &LONG_HEAD, &[], &[], long)?;
+    Ok(())
+}
+
+#[test]
+fn input_that_ends_within_a_request(rt: HostRuntime) -> Result<(), Fail> {
+    let alloc = rt.alloc();
+    let cut = SessionEnd::Truncated;
+    tells(&rt, alloc, &WRONG_HEAD[1..4], &[], &[], cut)?;
+    tells(&rt, alloc, &LONG_HEAD[..27], &[], &[], cut)?;
+    tells(&rt, alloc, &WRITE_HEAD, &[WRITE_ONE], &[], cut)?;
     Ok(())
 }
 
@@ -289,50 +256,35 @@ const READ_NONE: Ask = Ask {
     length: 0,
 };
 
+const SIMPLE_FINE: &[u8] = b"\x67\x44\x66\x98\0\0\0\0\0\0\0\0\0\0\0\x01";
+
+const SIMPLE_INVALID: &[u8] = b"\x67\x44\x66\x98\0\0\0\x16\0\0\0\0\0\0\0\x01";
+
+const DATA_CHUNK: &[u8] =
+    b"\x66\x8e\x33\xef\0\x01\0\x01\0\0\0\0\0\0\0\x01\0\0\0\x10\0\0\0\0\0\0\x01\xfc";
+
 #[test]
-fn heads_of_replies(rt: HostRuntime) -> Result<(), Fail> {
-    let alloc = rt.alloc();
-    let simple_fine = b"\x67\x44\x66\x98\0\0\0\0\0\0\0\0\0\0\0\x01";
-    let simple_invalid = b"\x67\x44\x66\x98\0\0\0\x16\0\0\0\0\0\0\0\x01";
-    let bytes = Bytes::of(vec![in alloc; 7; 8]?);
-    replies(&rt, PLAIN, READ_AT, Verdict::Got(bytes), simple_fine);
-    replies(
-        &rt,
-        PLAIN,
-        READ_AT,
-        Verdict::Refused(Errno::Inval),
-        simple_invalid,
-    );
-    replies(&rt, STRUCTURED, WRITE_ONE, Verdict::Fine, simple_fine);
-    replies(
-        &rt,
-        STRUCTURED,
-        WRITE_ONE,
-        Verdict::Refused(Errno::Inval),
-        simple_invalid,
-    );
+fn heads_of_simple_replies(rt: HostRuntime) -> Result<(), Fail> {
+    let bytes = Bytes::of(vec![in rt.alloc(); 7; 8]?);
+    let invalid = Verdict::Refused(Errno::Inval);
+    replies(&rt, PLAIN, READ_AT, Verdict::Got(bytes), SIMPLE_FINE);
+    replies(&rt, PLAIN, READ_AT, invalid, SIMPLE_INVALID);
+    assert_eq!(rt; data_head(&PLAIN, &READ_AT).as_slice(), SIMPLE_FINE);
+    let invalid = Verdict::Refused(Errno::Inval);
+    replies(&rt, STRUCTURED, WRITE_ONE, Verdict::Fine, SIMPLE_FINE);
+    replies(&rt, STRUCTURED, WRITE_ONE, invalid, SIMPLE_INVALID);
+    Ok(())
+}
 
-    let data = b"\x66\x8e\x33\xef\0\x01\0\x01\0\0\0\0\0\0\0\x01\0\0\0\x10\0\0\0\0\0\0\x01\xfc";
+#[test]
+fn heads_of_chunks(rt: HostRuntime) -> Result<(), Fail> {
+    let bytes = Bytes::of(vec![in rt.alloc(); 7; 8]?);
+    replies(&rt, STRUCTURED, READ_AT, Verdict::Got(bytes), DATA_CHUNK);
+    assert_eq!(rt; data_head(&STRUCTURED, &READ_AT).as_slice(), DATA_CHUNK);
     let none = b"\x66\x8e\x33\xef\0\x01\0\0\0\0\0\0\0\0\0\x01\0\0\0\0";
-    let error = b"\x66\x8e\x33\xef\0\x01\x80\x01\0\0\0\0\0\0\0\x01\0\0\0\x06\0\0\0\x16\0\0";
-    let bytes = Bytes::of(vec![in alloc; 7; 8]?);
-    replies(&rt, STRUCTURED, READ_AT, Verdict::Got(bytes), data);
     replies(&rt, STRUCTURED, READ_NONE, Verdict::Fine, none);
-    replies(
-        &rt,
-        STRUCTURED,
-        READ_AT,
-        Verdict::Refused(Errno::Inval),
-        error,
-    );
-
-    assert_eq!(rt;
-        data_head(&PLAIN, &READ_AT).as_slice(),
-        simple_fine.as_slice()
-    );
-    assert_eq!(rt;
-        data_head(&STRUCTURED, &READ_AT).as_slice(),
-        data.as_slice()
-    );
+    let error = b"\x66\x8e\x33\xef\0\x01\x80\x01\0\0\0\0\0\0\0\x01\0\0\0\x06\0\0\0\x16\0\0";
+    let invalid = Verdict::Refused(Errno::Inval);
+    replies(&rt, STRUCTURED, READ_AT, invalid, error);
     Ok(())
 }

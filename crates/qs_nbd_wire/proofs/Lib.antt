@@ -1,2 +1,4 @@
 pub mod Widths
+pub mod Overlays
 pub mod Spelling
+pub mod Requests

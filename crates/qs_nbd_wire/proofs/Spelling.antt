@@ -5,7 +5,7 @@ use Rattle.std.proofs.lemmas.List.{length-append, take_all, drop_at, take-append
 use Rattle.qs_bytes.specs.Numbers.{bytes16, bytes32, bytes64, number32, number64}
 use Rattle.qs_bytes.specs.Pieces.{part}
 use Rattle.qs_nbd_wire.specs.declared.option.OptionHead.{OptionHead}
-use Rattle.qs_nbd_wire.specs.Options.{AreBytes, ClientOption, head_bytes, option_bytes, option_head_of, option_magic}
+use Rattle.qs_nbd_wire.specs.Options.{AreBytes, ClientOption, option_head_bytes, option_bytes, option_head_of, option_magic}
 use Rattle.qs_nbd_wire.specs.Exports.{export_answer, zeros_told, flags_of_export}
 use Rattle.qs_nbd_wire.specs.Replies.{option_reply, reply_front, reply_magic, sizes_payload, export_payload, server_payload}
 use Rattle.qs_nbd_wire.specs.Laws.{Reply, FitsReply, SpellsFlags, SpellsOptions, RepliesStandApart, AnswersStandApart}
@@ -19,24 +19,24 @@ spells_flags = record {
       sym (bytes32-number32 bytes 0 all (omega arith) ∙ take_all 4 bytes (omega arith));
 }
 
-pub length-head_bytes : (number size : ℕ) → length (head_bytes number size) ≡ 16
-unfolding head_bytes
-length-head_bytes number size = simp (length-append, length-bytes32, length-bytes64)
+pub length-option_head_bytes : (number size : ℕ) → length (option_head_bytes number size) ≡ 16
+unfolding option_head_bytes
+length-option_head_bytes number size = simp (length-append, length-bytes32, length-bytes64)
 
 pub length-option_bytes : (o : ClientOption) → length (option_bytes o) ≡ 16 + length o.content
 length-option_bytes o =
-    length-append (head_bytes o.number (length o.content)) o.content
-    ∙ ap (λ n. n + length o.content) (length-head_bytes o.number (length o.content))
+    length-append (option_head_bytes o.number (length o.content)) o.content
+    ∙ ap (λ n. n + length o.content) (length-option_head_bytes o.number (length o.content))
 
 same_head : (h : OptionHead) (magic number size : ℕ) → magic ≡ h.magic → number ≡ h.number → size ≡ h.length →
     record { magic = magic; number = number; length = size } ≡ h
 same_head h magic number size e f g = rw (e, f, g) refl
 
 -- a head is read back, whatever follows it
-pub option_head-head_bytes : (number size : ℕ) (rest : List ℕ) → number < 2 ^ 32 → size < 2 ^ 32 →
-    option_head_of (head_bytes number size ++ rest) ≡ record { magic = option_magic; number = number; length = size }
-unfolding head_bytes option_head_of
-option_head-head_bytes number size rest fits short =
+pub option_head_of-option_head_bytes : (number size : ℕ) (rest : List ℕ) → number < 2 ^ 32 → size < 2 ^ 32 →
+    option_head_of (option_head_bytes number size ++ rest) ≡ record { magic = option_magic; number = number; length = size }
+unfolding option_head_bytes option_head_of
+option_head_of-option_head_bytes number size rest fits short =
     let a = bytes64 option_magic in
     let b = bytes32 number in
     let c = bytes32 size in
@@ -49,8 +49,8 @@ option_head-head_bytes number size rest fits short =
 
 -- the sixteen bytes of a head are its spelling
 pub head_spelled : (bytes : List ℕ) → AreBytes bytes → 16 ≤ length bytes → (option_head_of bytes).magic ≡ option_magic →
-    take 16 bytes ≡ head_bytes (option_head_of bytes).number (option_head_of bytes).length
-unfolding head_bytes option_head_of
+    take 16 bytes ≡ option_head_bytes (option_head_of bytes).number (option_head_of bytes).length
+unfolding option_head_bytes option_head_of
 head_spelled bytes all whole magic =
     let p0 : bytes64 option_magic ≡ take 8 bytes = ap bytes64 (sym magic) ∙ bytes64-number64 bytes 0 all (omega arith) in
     let p8 = bytes32-number32 bytes 8 all (omega arith) in
@@ -66,14 +66,14 @@ option_spelled bytes all magic whole =
     let size : length (drop 16 bytes) ≡ (option_head_of bytes).length = omega (arith, length-drop 16 bytes) in
     sym (take-append-drop 16 bytes)
     ∙ ap (λ xs. xs ++ drop 16 bytes) (head_spelled bytes all (omega arith) magic)
-    ∙ ap (λ n. head_bytes (option_head_of bytes).number n ++ drop 16 bytes) (sym size)
+    ∙ ap (λ n. option_head_bytes (option_head_of bytes).number n ++ drop 16 bytes) (sym size)
 
 pub spells_options : SpellsOptions
 spells_options = record {
   whole = length-option_bytes;
   again = λ o more fits.
-      ap option_head_of (append_assoc (head_bytes o.number (length o.content)) o.content more)
-      ∙ option_head-head_bytes o.number (length o.content) (o.content ++ more) fits.number fits.content;
+      ap option_head_of (append_assoc (option_head_bytes o.number (length o.content)) o.content more)
+      ∙ option_head_of-option_head_bytes o.number (length o.content) (o.content ++ more) fits.number fits.content;
   one = option_spelled;
 }
 

@@ -3,9 +3,11 @@ use Rattle.std.specs.Prelude.{◌≡◌, ℕ, ◌+◌, ◌<◌, ◌^◌, List, [
 use Rattle.qs_bytes.specs.Numbers.{bytes32, number32}
 use Rattle.qs_bytes.specs.declared.ask.Mode.{Mode}
 use Rattle.qs_nbd_wire.specs.declared.export.ExportInfo2.{ExportInfo2}
+use Rattle.qs_nbd_wire.specs.declared.request.RequestHead.{RequestHead}
 use Rattle.qs_nbd_wire.specs.Exports.{export_answer}
 use Rattle.qs_nbd_wire.specs.Options.{AreBytes, ClientOption, FitsOption, option_bytes, option_head_of, option_magic}
 use Rattle.qs_nbd_wire.specs.Replies.{option_reply}
+use Rattle.qs_nbd_wire.specs.Requests.{FitsHead, IsHead, head_bytes, head_of}
 
 -- flags have one spelling, of four bytes, and these spell no other flags
 pub record SpellsFlags : Type 0 where
@@ -46,3 +48,9 @@ abbrev pub AnswersStandApart : Type 0
 AnswersStandApart =
     (mode : Mode) → (info other : ExportInfo2) → (more : List ℕ) →
     export_answer mode other ≡ export_answer mode info ++ more → more ≡ []
+
+-- the head of a request has one spelling, of 28 bytes, and these spell no other head
+pub record SpellsHeads : Type 0 where
+  pub whole : (h : RequestHead) → length (head_bytes h) ≡ 28
+  pub again : (h : RequestHead) → FitsHead h → head_of (head_bytes h) ≡ h
+  pub one : (bytes : List ℕ) → (a b : RequestHead) → IsHead bytes a → IsHead bytes b → a ≡ b

@@ -22,12 +22,12 @@ pub record FitsOption (o : ClientOption) : Type 0 where
   pub content : length o.content < 2 ^ 32
 
 -- the head of an option of this number, with so many bytes of data
-unfoldable pub head_bytes : ℕ → ℕ → List ℕ
-head_bytes number size = bytes64 option_magic ++ bytes32 number ++ bytes32 size
+unfoldable pub option_head_bytes : ℕ → ℕ → List ℕ
+option_head_bytes number size = bytes64 option_magic ++ bytes32 number ++ bytes32 size
 
 -- the one spelling of an option
 abbrev pub option_bytes : ClientOption → List ℕ
-option_bytes o = head_bytes o.number (length o.content) ++ o.content
+option_bytes o = option_head_bytes o.number (length o.content) ++ o.content
 
 -- the head that 16 bytes spell
 unfoldable pub option_head_of : List ℕ → OptionHead

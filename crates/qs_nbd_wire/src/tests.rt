@@ -1,8 +1,11 @@
 use crate::{
-    ClientFlags, ExportInfo2, OptionError, OptionHead, OptionReply, client_flags, flags_told,
-    greeting, laws, option_head, put_export_answer, put_option_reply, put_reply,
+    ClientFlags, ExportInfo2, FUA, OptionError, OptionHead, OptionReply, RequestHead, WRITE,
+    client_flags, flags_told, greeting, laws, option_head, put_export_answer, put_option_reply,
+    put_reply, request_head,
 };
-use qs_bytes::{Bytes, Mode, Name};
+use qs_bytes::{Bytes, Memory, Mode, Name};
+use std::alloc::Global;
+use std::process::Abort;
 use std::test::Fail;
 
 #[test]
@@ -42,9 +45,43 @@ fn heads_of_options(rt: HostRuntime) {
 }
 
 #[test]
+fn heads_of_requests(rt: HostRuntime) {
+    let write = b"\x25\x60\x95\x13\0\x01\0\x01\0\0\0\0\0\0\0\x09\0\0\0\0\0\0\x01\xfc\0\0\x02\0";
+    assert_eq!(rt;
+        request_head(write),
+        RequestHead {
+            flags: FUA,
+            kind: WRITE,
+            cookie: 9,
+            offset: 508,
+            size: 512,
+        }
+    );
+}
+
+/// A reply to the option of this number is spelled so, behind its magic.
+fn spells(
+    rt: &impl Abort,
+    alloc: Global,
+    number: u32,
+    reply: &OptionReply,
+    expected: &[u8],
+) -> Result<(), Memory> {
+    let mut whole = b"\x00\x03\xe8\x89\x04\x55\x65\xa9".to_vec(alloc)?;
+    whole.extend_from_slice(expected)?;
+    let mut out = Bytes::of(Vec::new(alloc));
+    put_reply(alloc, &mut out, number, reply)?;
+    assert_eq!(rt; out.as_slice(), whole.as_slice(), "{reply:?}");
+    Ok(())
+}
+
+#[test]
 fn replies_to_options(rt: HostRuntime) -> Result<(), Fail> {
-    let alloc = rt.alloc();
     let disk = Name::of(b"disk").ok_or("a name")?;
+    let export = OptionReply::Export {
+        size: 4096,
+        flags: 0x16d,
+    };
     for (number, reply, expected) in [
         (
             8,
@@ -58,10 +95,7 @@ fn replies_to_options(rt: HostRuntime) -> Result<(), Fail> {
         ),
         (
             7,
-            OptionReply::Export {
-                size: 4096,
-                flags: 0x16d,
-            },
+            export,
             b"\0\0\0\x07\0\0\0\x03\0\0\0\x0c\0\0\0\0\0\0\0\0\x10\0\x01\x6d".as_slice(),
         ),
         (
@@ -69,33 +103,45 @@ fn replies_to_options(rt: HostRuntime) -> Result<(), Fail> {
             OptionReply::BlockSize,
             b"\0\0\0\x07\0\0\0\x03\0\0\0\x0e\0\x03\0\0\0\x01\0\0\x10\0\x02\0\0\0".as_slice(),
         ),
+    ] {
+        spells(&rt, rt.alloc(), number, &reply, expected)?;
+    }
+    Ok(())
+}
+
+#[test]
+fn refusals_of_options(rt: HostRuntime) -> Result<(), Fail> {
+    for (number, error, expected) in [
         (
             9,
-            OptionReply::Refused(OptionError::Unsupported),
+            OptionError::Unsupported,
             b"\0\0\0\x09\x80\0\0\x01\0\0\0\0".as_slice(),
         ),
         (
             7,
-            OptionReply::Refused(OptionError::Policy),
+            OptionError::Policy,
             b"\0\0\0\x07\x80\0\0\x02\0\0\0\0".as_slice(),
         ),
         (
             7,
-            OptionReply::Refused(OptionError::Invalid),
+            OptionError::Invalid,
             b"\0\0\0\x07\x80\0\0\x03\0\0\0\0".as_slice(),
         ),
         (
             7,
-            OptionReply::Refused(OptionError::Unknown),
+            OptionError::Unknown,
             b"\0\0\0\x07\x80\0\0\x06\0\0\0\0".as_slice(),
         ),
     ] {
-        let mut whole = b"\x00\x03\xe8\x89\x04\x55\x65\xa9".to_vec(alloc)?;
-        whole.extend_from_slice(expected)?;
-        let mut out = Bytes::of(Vec::new(alloc));
-        put_reply(alloc, &mut out, number, &reply)?;
-        assert_eq!(rt; out.as_slice(), whole.as_slice(), "{reply:?}");
+        let reply = OptionReply::Refused(error);
+        spells(&rt, rt.alloc(), number, &reply, expected)?;
     }
+    Ok(())
+}
+
+#[test]
+fn a_reply_of_any_type_is_put_at_the_end(rt: HostRuntime) -> Result<(), Fail> {
+    let alloc = rt.alloc();
     let mut out = Bytes::of(b"x".to_vec(alloc)?);
     put_option_reply(alloc, &mut out, 10, 4, b"\0\0\0\0base:allocation")?;
     assert_eq!(rt;
@@ -138,5 +184,6 @@ fn answers_to_export_name(rt: HostRuntime) -> Result<(), Fail> {
     laws::one_option();
     laws::replies_apart();
     laws::answers_apart();
+    laws::one_head();
     Ok(())
 }

@@ -15,13 +15,12 @@ use Rattle.qs_status.specs.declared.status.Status.{Status}
 use Rattle.qs_status.specs.declared.status.Status.TheVariants as status
 use Rattle.qs_status.specs.declared.status.SessionEnd.{SessionEnd}
 use Rattle.qs_status.specs.declared.status.SessionEnd.TheVariants as end
-use Rattle.qs_nbd_transmission.specs.declared.head.Head.{Head}
+use Rattle.qs_nbd_wire.specs.declared.request.RequestHead.{RequestHead}
 use Rattle.qs_nbd_transmission.specs.declared.event.WireEvent.TheVariants as event
-use Rattle.qs_nbd_transmission.specs.Heads.{request_magic, head_bytes, head_of, disc, has_body, is_too_long, IsHead, IsHeadFront}
+use Rattle.qs_nbd_wire.specs.Requests.{request_magic, head_bytes, head_of, disc, has_body, is_too_long, IsHead, Message, IsMessage, BeginsNone, spelling}
 use Rattle.qs_nbd_transmission.specs.Phases.{Over, Stuck}
-use Rattle.qs_nbd_transmission.specs.Messages.{Message, IsMessage, BeginsNone, spelling}
-use Rattle.qs_nbd_transmission.proofs.HeadLaws.{length-head_bytes, magic-head_bytes}
-use Rattle.qs_nbd_transmission.proofs.Widths.{number32-append}
+use Rattle.qs_nbd_wire.proofs.Requests.{length-head_bytes, magic-head_bytes}
+use Rattle.qs_nbd_wire.proofs.Widths.{number32-append}
 use Rattle.qs_nbd_transmission.proofs.Streams.{same_head, message_once, first_of_all, rest_of_all, one_reading, rests_begin, tells_messages}
 use Rattle.qs_outside.specs.Blocks.{Seen}
 use Rattle.qs_image.specs.Image.{align_of, size_of}
@@ -77,7 +76,7 @@ split_of stream taken waiting before left told takes =
 -- a DISC begins with no message, and so does nothing at all
 leaves_none : (last : List ℕ) → Leaves last → BeginsNone last
 leaves_none last leaves =
-    let h : Head = head_of leaves.leave in
+    let h : RequestHead = head_of leaves.leave in
     subst (λ (xs : List ℕ). BeginsNone xs) (sym (leaves.whole ∙ ap (λ (xs : List ℕ). xs ++ leaves.more) leaves.is.0.spelled))
     (rests_begin.refused false (head_bytes h) leaves.more event.Disc Over tt (tells_messages.leave false h leaves.is.0.fits leaves.is.1))
 
@@ -93,14 +92,14 @@ rest_is xs ms align size stream rest last fit each none never one other =
     (ap (λ (bytes : List ℕ). bytes ++ rest) (asked_is xs) ∙ sym one ∙ other)).1
 
 -- a DISC is no WRITE
-not_write : (h : Head) → h.kind ≡ disc → has_body h ≡ true → ⊥
+not_write : (h : RequestHead) → h.kind ≡ disc → has_body h ≡ true → ⊥
 not_write h leaves body = grind (arith, nat_tests)
 
-not_long : (h : Head) → h.kind ≡ disc → is_too_long h ≡ true → ⊥
+not_long : (h : RequestHead) → h.kind ≡ disc → is_too_long h ≡ true → ⊥
 not_long h leaves long = grind (arith, nat_tests)
 
 -- the bytes of a head
-head_long : (bytes : List ℕ) (h : Head) → IsHead bytes h → length bytes ≡ 28
+head_long : (bytes : List ℕ) (h : RequestHead) → IsHead bytes h → length bytes ≡ 28
 head_long bytes h is = ap length is.spelled ∙ length-head_bytes h
 
 -- a head that begins a stream is that of the DISC that begins it
@@ -129,7 +128,7 @@ cut_not rest (inr cut) (inl is) =
     absurd (omega (arith, ap length (sym is ∙ cut.whole), length-append cut.front cut.got, head_long cut.front (head_of cut.front) cut.head))
 cut_not rest (inr cut) (inr leaves) =
     let same : head_of cut.front ≡ head_of leaves.leave = same_leave cut.front cut.got rest leaves cut.head (sym cut.whole) in
-    not_write (head_of cut.front) (ap (λ (h : Head). h.kind) same ∙ leaves.is.1) cut.wants
+    not_write (head_of cut.front) (ap (λ (h : RequestHead). h.kind) same ∙ leaves.is.1) cut.wants
 
 -- a wrong magic isn't how a valid stream ends
 magic_not : (rest remaining last : List ℕ) → length rest ≡ 4 → number32 rest 0 ≢ request_magic → rest ++ remaining ≡ last →
@@ -150,7 +149,7 @@ long_not rest remaining last is long e (inl empty) =
     absurd (omega (arith, ap length (e ∙ empty), length-append rest remaining, head_long rest (head_of rest) is))
 long_not rest remaining last is long e (inr leaves) =
     let same : head_of rest ≡ head_of leaves.leave = same_leave rest remaining last leaves is e in
-    not_long (head_of rest) (ap (λ (h : Head). h.kind) same ∙ leaves.is.1) long
+    not_long (head_of rest) (ap (λ (h : RequestHead). h.kind) same ∙ leaves.is.1) long
 
 -- disks that are an image break no rule
 opens_not : (disks : List Seen) (fault : OpenBad) → IsImage disks → Opens disks (Some fault) → ⊥

@@ -1,14 +1,13 @@
 -- The next event is sought, piece by piece.
 use Rattle.std.proofs.Common.{◌≡◌, ◌≢◌, ℕ, ◌<◌, ◌≤◌, inl, Bool, false, List, [], ◌∷◌, ◌++◌, length, refl, sym, ap, ◌∙◌, subst, arith, append-nil}
 use Rattle.std.specs.Prelude.{Option, None, Some, Result, Ok, Err, IsErrAnd}
-use Rattle.std.specs.Io.KnownBytes.{IsAtEnd}
 use Rattle.qs_nbd_transmission.specs.Heads.{IsHeadFront}
 use Rattle.qs_nbd_transmission.specs.Phases.{Phase, Reader, Reaches, InHead, Wants, Fills as Filling, Skips, Over, Stuck}
 use Rattle.qs_nbd_transmission.specs.declared.event.WireEvent.{WireEvent}
 use Rattle.qs_nbd_transmission.proofs.Reading.{reaches_on}
 use Rattle.qs_stream.specs.declared.state.State.TheVariants.{Open}
 use Rattle.qs_stream.specs.Buffers.{Buffers}
-use Rattle.qs_stream.specs.Flows.{Flow, Moved, Tells, Fills}
+use Rattle.qs_stream.specs.Flows.{Flow, Moved, Fills}
 use Rattle.qs_stream.proofs.Moves.{moved_on, moved_none, moved_split}
 use Rattle.qs_stdio.specs.Events.{Feeds, Seeks}
 use Rattle.qs_stdio.specs.Scenes.{IsFront}

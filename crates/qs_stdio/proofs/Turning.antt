@@ -5,10 +5,11 @@ use Rattle.qs_bytes.specs.declared.ask.Ask.{Ask}
 use Rattle.qs_status.specs.declared.status.Status.{Status}
 use Rattle.qs_status.specs.declared.status.Status.TheVariants as status
 use Rattle.qs_status.specs.declared.status.SessionEnd.TheVariants as end
-use Rattle.qs_nbd_transmission.specs.declared.head.Head.{Head}
+use Rattle.qs_nbd_wire.specs.declared.request.RequestHead.{RequestHead}
 use Rattle.qs_nbd_transmission.specs.declared.event.Room.{Room}
 use Rattle.qs_nbd_transmission.specs.declared.event.Room.TheVariants.{Keep, Drop}
-use Rattle.qs_nbd_transmission.specs.Heads.{ask_of, head_of, has_body, has_data}
+use Rattle.qs_nbd_wire.specs.Requests.{head_of, has_body}
+use Rattle.qs_nbd_transmission.specs.Heads.{ask_of, has_data}
 use Rattle.qs_nbd_transmission.specs.Phases.{Phase, Reader, InHead, Wants, IsServed, phase_with_room}
 use Rattle.qs_nbd_transmission.specs.Replies.{reply_of}
 use Rattle.qs_nbd_transmission.proofs.Reading.{has_data-ask_of}
@@ -26,7 +27,7 @@ use Rattle.qs_stdio.specs.Scenes.{Scene, IsCutWrite, Ending, Exchanges, Stops}
 use Rattle.qs_stdio.specs.Turns.{Answered, AwaitsRoom, Brings, Comes, Finishes, HasRoom, IsData, ServesMessage, awaited, between}
 
 -- how many bytes are awaited where room was given
-by_room : (h : Head) (room : Room) → awaited (phase_with_room (Wants h) room) ≡ h.size
+by_room : (h : RequestHead) (room : Room) → awaited (phase_with_room (Wants h) room) ≡ h.size
 by_room h (Keep buffer) = refl
 by_room h (Drop count) = refl
 
@@ -66,7 +67,7 @@ answered_in align size a body before mid new p t moved answers =
     }
 
 -- the data of a message
-body_length : (head : Head) (body : List ℕ) (b : Bool) → has_body head ≡ b → length body ≡ (if b then head.size else 0) →
+body_length : (head : RequestHead) (body : List ℕ) (b : Bool) → has_body head ≡ b → length body ≡ (if b then head.size else 0) →
     length body ≡ (if has_body head then head.size else 0)
 body_length head body b is long = long ∙ ap (λ (c : Bool). if c then head.size else 0) (sym is)
 
@@ -75,7 +76,7 @@ pub exchanged : (align size : ℕ) (before : Scene) (mid : Flow) (after : Scene)
     IsServed false taken a phase → has_data a ≡ b → length body ≡ (if b then a.length else 0) → Moved taken [] before.flow mid →
     Answered align size a body (record { flow = mid; disks = before.disks }) after → (x : Exchange) × Exchanges align size before x after
 exchanged align size before mid after taken body a phase b is has long moved answered =
-    let head : Head = head_of taken in
+    let head : RequestHead = head_of taken in
     let here : Scene = record { flow = mid; disks = before.disks } in
     let answered' : Answered align size (ask_of false head) body here after =
     subst (λ (q : Ask). Answered align size q body here after) is.asks answered in

@@ -1,5 +1,5 @@
 -- What `run_stdio` does, from its words to its status.
-use Rattle.std.specs.Prelude.{◌≡◌, ◌^◌, ℕ, ◌⊎◌, Bool, true, false, List, [], ◌++◌, length, Some, String, Result, Ok, Err}
+use Rattle.std.specs.Prelude.{◌≡◌, ◌^◌, ℕ, ◌⊎◌, List, [], ◌++◌, length, Some, String, Result, Ok, Err}
 use Rattle.std.specs.Global.{Global}
 use Rattle.qs_status.specs.declared.status.Status.{Status}
 use Rattle.qs_status.specs.declared.status.Status.TheVariants as status

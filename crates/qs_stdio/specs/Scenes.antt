@@ -4,8 +4,8 @@ use Rattle.qs_bytes.specs.Numbers.{number32}
 use Rattle.qs_status.specs.declared.status.SessionEnd.TheVariants as end
 use Rattle.qs_status.specs.declared.status.Status.{Status}
 use Rattle.qs_status.specs.declared.status.Status.TheVariants.{Done, Ended}
-use Rattle.qs_nbd_transmission.specs.Heads.{request_magic, head_of, IsHead, IsHeadFront, disc, is_too_long, has_body}
-use Rattle.qs_nbd_transmission.specs.Messages.{IsMessage, spelling}
+use Rattle.qs_nbd_wire.specs.Requests.{request_magic, head_of, IsHead, disc, is_too_long, has_body, IsMessage, spelling}
+use Rattle.qs_nbd_transmission.specs.Heads.{IsHeadFront}
 use Rattle.qs_outside.specs.Blocks.{Seen}
 use Rattle.qs_stream.specs.Buffers.{Buffers}
 use Rattle.qs_stream.specs.Flows.{Flow, Moved, flow as stream_flow}

@@ -9,7 +9,7 @@ use Rattle.qs_bytes.specs.declared.ask.Verdict.{Verdict}
 use Rattle.qs_bytes.specs.declared.ask.Verdict.TheVariants.{Got, Fine, Refused}
 use Rattle.qs_nbd_transmission.specs.Heads.{ask_of, is_write}
 use Rattle.qs_bytes.specs.Payloads.{max_payload}
-use Rattle.qs_nbd_transmission.specs.Messages.{Message, IsMessage, spelling}
+use Rattle.qs_nbd_wire.specs.Requests.{Message, IsMessage, spelling}
 use Rattle.qs_nbd_transmission.specs.Replies.{is_read, reply_of}
 use Rattle.qs_outside.specs.Blocks.{Seen}
 use Rattle.qs_image.specs.Image.{IsFrontWritten, align_of, size_of}

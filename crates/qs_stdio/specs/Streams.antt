@@ -3,7 +3,7 @@ use Rattle.std.specs.Prelude.{◌≡◌, ℕ, ◌<◌, ◌^◌, ◌⊎◌, List,
 use Rattle.std.specs.List.{flat_map}
 use Rattle.qs_status.specs.declared.status.Status.{Status}
 use Rattle.qs_status.specs.declared.status.Status.TheVariants as status
-use Rattle.qs_nbd_transmission.specs.Messages.{Message, IsMessage, spelling}
+use Rattle.qs_nbd_wire.specs.Requests.{Message, IsMessage, spelling}
 use Rattle.qs_stdio.specs.Scenes.{IsLeave}
 
 -- a DISC, and whatever follows it

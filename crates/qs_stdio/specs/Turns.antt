@@ -6,7 +6,7 @@ use Rattle.qs_status.specs.declared.status.SessionEnd.{SessionEnd}
 use Rattle.qs_status.specs.declared.status.SessionEnd.TheVariants as end
 use Rattle.qs_status.specs.declared.status.Status.{Status}
 use Rattle.qs_status.specs.declared.status.Status.TheVariants.{Done, Ended}
-use Rattle.qs_nbd_transmission.specs.declared.head.Head.{Head}
+use Rattle.qs_nbd_wire.specs.declared.request.RequestHead.{RequestHead}
 use Rattle.qs_nbd_transmission.specs.declared.event.Room.{Room}
 use Rattle.qs_nbd_transmission.specs.declared.event.Room.TheVariants.{Keep, Drop}
 use Rattle.qs_nbd_transmission.specs.Phases.{Phase, Reader, InHead, Wants, Fills, Skips, IsServed}
@@ -77,7 +77,7 @@ pub record Bringing {E : Type 0} (old : Reader) (before : Flow) (result : Result
 
 -- room for the data of this WRITE is awaited
 abbrev pub AwaitsRoom : Reader → Ask → Type 0
-AwaitsRoom reader a = (h : Head) × ((reader ≡ record { structured = false; phase = Wants h }) × (h.size ≡ a.length))
+AwaitsRoom reader a = (h : RequestHead) × ((reader ≡ record { structured = false; phase = Wants h }) × (h.size ≡ a.length))
 
 -- the next request is awaited
 abbrev pub between : Reader

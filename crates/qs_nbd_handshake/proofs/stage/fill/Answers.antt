@@ -1,6 +1,6 @@
 use Rattle.std.proofs.Common.{◌≡◌, ◌+◌, ◌++◌, length, take, arith}
 use Rattle.std.proofs.lemmas.List.{length-take-le}
-use Rattle.qs_nbd_handshake.proofs.Overlays.{take-overlay}
+use Rattle.qs_nbd_wire.proofs.Overlays.{take-overlay}
 use Rattle.qs_nbd_handshake.proofs.Sizes.{size-grows}
 use Rattle.qs_nbd_handshake.proofs.stage.fill.Goals as goal
 

@@ -4,7 +4,7 @@ use Rattle.qs_bytes.specs.Numbers.{number32}
 use Rattle.qs_nbd_wire.specs.Greetings.{flags_of}
 use Rattle.qs_nbd_wire.proofs.Widths.{number32-take}
 use Rattle.qs_nbd_handshake.specs.Phases.{Reader, InFlags, behind_flags, flags_event}
-use Rattle.qs_nbd_handshake.proofs.Overlays.{take-overlay}
+use Rattle.qs_nbd_wire.proofs.Overlays.{take-overlay}
 use Rattle.qs_nbd_handshake.proofs.stage.read_flags.Goals as goal
 
 pub returns-then-held-taken-lt-FLAGS_BYTES-clause-step : goal.returns-then-held-taken-lt-FLAGS_BYTES-clause-step

@@ -2,7 +2,7 @@ use Rattle.std.proofs.Common.{◌≡◌, ◌+◌, ◌++◌, length, take, refl, 
 use Rattle.std.proofs.lemmas.List.{length-take-le, length-append, take_all}
 use Rattle.qs_bytes.specs.Pieces.{overlay}
 use Rattle.qs_bytes.proofs.Overlays.{length-overlay}
-use Rattle.qs_nbd_transmission.proofs.Overlays.{take-overlay}
+use Rattle.qs_nbd_wire.proofs.Overlays.{take-overlay}
 use Rattle.qs_nbd_transmission.proofs.stage.fill.Goals as goal
 
 pub returns-then-got-taken-clause-step : goal.returns-then-got-taken-clause-step

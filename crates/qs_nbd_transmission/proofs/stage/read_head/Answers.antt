@@ -5,7 +5,7 @@ use Rattle.qs_bytes.specs.Pieces.{overlay}
 use Rattle.qs_nbd_transmission.specs.Phases.{Reaches, InHead}
 use Rattle.qs_nbd_transmission.specs.Stages.{phase_of}
 use Rattle.qs_bytes.proofs.Overlays.{length-overlay}
-use Rattle.qs_nbd_transmission.proofs.Overlays.{take-overlay}
+use Rattle.qs_nbd_wire.proofs.Overlays.{take-overlay}
 use Rattle.qs_nbd_transmission.proofs.HeadLaws.{below_four, first_four, front_more}
 use Rattle.qs_nbd_transmission.proofs.stage.read_head.Goals as goal
 use Rattle.qs_nbd_transmission.proofs.stage.read_head.Goals.{then-now-ge4+else-found-ne-REQUEST_MAGIC, else-now-ge4}
@@ -47,21 +47,21 @@ returns-then-found-ne-REQUEST_MAGIC-clause-progress c =
     (rw (c.u32_at-found.ensures, c.write_over.ensures) at c.if-found-ne-REQUEST_MAGIC.true) in
     rw c.refused.ensures (λ some. omega arith)
 
-pub returns-then-now-lt-HEAD_BYTES-clause-step : goal.returns-then-now-lt-HEAD_BYTES-clause-step
-returns-then-now-lt-HEAD_BYTES-clause-step c = (
+pub returns-then-now-lt-REQUEST_HEAD_BYTES-clause-step : goal.returns-then-now-lt-REQUEST_HEAD_BYTES-clause-step
+returns-then-now-lt-REQUEST_HEAD_BYTES-clause-step c = (
   rw c.write_over.ensures (take-overlay c.args.head.now c.args.held (take c.min-taken.result c.args.piece.now) _ (omega (arith, c.requires.whole, c.requires.sound.0))
       (omega (arith, length-take-le c.min-taken.result c.args.piece.now (omega (arith, c.min-taken.ensures))))),
-  front_more c.write_over.new.bytes _ c.if-now-lt-HEAD_BYTES.true (λ four.
+  front_more c.write_over.new.bytes _ c.if-now-lt-REQUEST_HEAD_BYTES.true (λ four.
       elim c.if-now-ge4.branch [
         | then-now-ge4+else-found-ne-REQUEST_MAGIC w ↦ sym w.u32_at-found.ensures ∙ w.if-found-ne-REQUEST_MAGIC.false
         | else-now-ge4 w ↦ absurd (omega (arith, w.if-now-ge4.false))
       ]),
 )
 
-pub returns-then-now-lt-HEAD_BYTES-clause-sound : goal.returns-then-now-lt-HEAD_BYTES-clause-sound
-returns-then-now-lt-HEAD_BYTES-clause-sound c = (
-  c.if-now-lt-HEAD_BYTES.true,
-  front_more c.write_over.new.bytes _ c.if-now-lt-HEAD_BYTES.true (λ four.
+pub returns-then-now-lt-REQUEST_HEAD_BYTES-clause-sound : goal.returns-then-now-lt-REQUEST_HEAD_BYTES-clause-sound
+returns-then-now-lt-REQUEST_HEAD_BYTES-clause-sound c = (
+  c.if-now-lt-REQUEST_HEAD_BYTES.true,
+  front_more c.write_over.new.bytes _ c.if-now-lt-REQUEST_HEAD_BYTES.true (λ four.
       elim c.if-now-ge4.branch [
         | then-now-ge4+else-found-ne-REQUEST_MAGIC w ↦ sym w.u32_at-found.ensures ∙ w.if-found-ne-REQUEST_MAGIC.false
         | else-now-ge4 w ↦ absurd (omega (arith, w.if-now-ge4.false))
@@ -72,7 +72,7 @@ pub returns-clause-step : goal.returns-clause-step
 returns-clause-step c =
     let piece = take c.min-taken.result c.args.piece.now in
     let fed : length piece ≡ c.min-taken.result = length-take-le c.min-taken.result c.args.piece.now (omega (arith, c.min-taken.ensures)) in
-    let full : 28 ≡ c.args.held + length piece = omega (arith, c.min-taken.ensures, c.requires.sound.0, c.if-now-lt-HEAD_BYTES.false) in
+    let full : 28 ≡ c.args.held + length piece = omega (arith, c.min-taken.ensures, c.requires.sound.0, c.if-now-lt-REQUEST_HEAD_BYTES.false) in
     let whole : take c.args.held c.args.head.now ++ piece ≡ c.write_over.new.bytes =
     sym (take-overlay c.args.head.now c.args.held piece 28 (omega (arith, c.requires.whole, c.requires.sound.0)) full)
     ∙ take_all 28 (overlay c.args.head.now c.args.held piece) (omega (arith, length-overlay c.args.head.now c.args.held piece (omega (arith, c.requires.whole)), c.requires.whole))

@@ -1,6 +1,5 @@
 -- The words aren't the command's, or the disks are served.
 use Rattle.std.proofs.Common.{◌≡◌, List, ◌++◌, take, drop, length, refl, sym, ◌∙◌, subst, arith}
-use Rattle.std.specs.Prelude.{map}
 use Rattle.qs_stream.specs.Buffers.{new_buffers}
 use Rattle.qs_stdio.specs.Scenes.{Scene, scene}
 use Rattle.qs_stdio.specs.Runs.{Ran}

@@ -1,5 +1,5 @@
 use Rattle.std.proofs.Common.{refl, arith}
-use Rattle.qs_nbd_transmission.proofs.Overlays.{take-overlay}
+use Rattle.qs_nbd_wire.proofs.Overlays.{take-overlay}
 use Rattle.qs_nbd_transmission.proofs.reply.ReplyHead.push.Goals as goal
 
 pub returns : goal.returns
