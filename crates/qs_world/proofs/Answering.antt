@@ -10,7 +10,7 @@ use Rattle.qs_part.specs.declared.event.Outcome.TheVariants.{Moved, Answered}
 use Rattle.qs_model.specs.Puts.{put}
 use Rattle.qs_model.specs.Requests.{Client, Pads, Req, Stage, Ready, verdict}
 use Rattle.qs_model.specs.Worlds.{Image, World}
-use Rattle.qs_model.specs.Acts.{Act, Answers, Waits, Enters, Routes, Shuts, Lists, Starts, Loads, LoadFails, Holds, HoldFails, Stores, StoreFails, Frees, Ends, Did}
+use Rattle.qs_model.specs.Acts.{Act, Answers, Waits, Enters, Routes, Shuts, Lists, Starts, Loads, LoadFails, Holds, HoldFails, Stores, StoreFails, Syncs, Cleans, SyncFails, Frees, Ends, Did}
 use Rattle.qs_model.specs.Guards.{MayDo}
 use Rattle.qs_outside.specs.declared.rigged_disk.Plans.{Plans}
 use Rattle.qs_model.specs.Steps.{moved, tracked, imaged, spent, happens}
@@ -75,6 +75,15 @@ finishes A c d p (Stores {k = k} {b = b} bytes past) reply note going is noted =
     inl (ap Some (sym led), subst (λ (q : Req). IsReady q.stage → ⊥) (sym led) (λ h. h), ap moved_out noted)
 finishes A c d p (StoreFails {k = k} {b = b} bytes took past) reply note going is noted =
     let led = row_leads A c d p (StoreFails {k = k} {b = b} bytes took past) reply is in
+    inl (ap Some (sym led), subst (λ (q : Req). IsReady q.stage → ⊥) (sym led) (λ h. h), ap moved_out noted)
+finishes A c d p (Syncs {k = k} {s = s}) reply note going is noted =
+    let led = row_leads A c d p (Syncs {k = k} {s = s}) reply is in
+    inl (ap Some (sym led), subst (λ (q : Req). IsReady q.stage → ⊥) (sym led) (λ h. h), ap moved_out noted)
+finishes A c d p (Cleans {k = k} {s = s}) reply note going is noted =
+    let led = row_leads A c d p (Cleans {k = k} {s = s}) reply is in
+    inl (ap Some (sym led), subst (λ (q : Req). IsReady q.stage → ⊥) (sym led) (λ h. h), ap moved_out noted)
+finishes A c d p (SyncFails {k = k} {s = s}) reply note going is noted =
+    let led = row_leads A c d p (SyncFails {k = k} {s = s}) reply is in
     inl (ap Some (sym led), subst (λ (q : Req). IsReady q.stage → ⊥) (sym led) (λ h. h), ap moved_out noted)
 finishes A c d p (Frees {k = k} {side = side}) reply note going is noted =
     let led = row_leads A c d p (Frees {k = k} {side = side}) reply is in

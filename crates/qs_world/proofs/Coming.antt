@@ -8,7 +8,7 @@ use Rattle.qs_part.specs.declared.graph.GraphReply.{GraphReply}
 use Rattle.qs_part.specs.declared.graph.GraphOp.TheVariants.{Attach, Detach}
 use Rattle.qs_part.specs.declared.graph.GraphReply.TheVariants.{Attached as AttachedReply, NoExport as NoExportReply, Crowded as CrowdedReply, Detached as DetachedReply, NotAttached as NotAttachedReply, Added}
 use Rattle.qs_model.specs.Puts.{put}
-use Rattle.qs_model.specs.Requests.{Client, asked, no_route, writes}
+use Rattle.qs_model.specs.Requests.{Client, asked, brings_bytes, no_route, wants_buffers}
 use Rattle.qs_model.specs.Worlds.{Away, Live, Leaving, World}
 use Rattle.qs_model.specs.Acts.{Element, Attached, NoExport, Crowded, Left, Detached, NotAttached, Asked, Exported}
 use Rattle.qs_model.specs.Guards.{May, HasRequest}
@@ -125,8 +125,8 @@ not_attached_does seen old new s e graph leaving none row same =
 
 pub asked_does : {D : Type 0} (seen : D → Seen) (old new : WorldValue D) (c : Client) → Keeps old new → new.next ≡ old.next + 1 → new.graph ≡ old.graph →
     new.sessions ≡ old.sessions → old.next < 2 ^ 64 - 1 → session_at old.sessions c.session ≡ Live c.export → c.route ≡ no_route →
-    (c.ask.length ≡ 0 → c.buffered ≡ true) → (writes c ≡ true → c.buffered ≡ true → length c.body ≡ c.ask.length) →
-    (writes c ≡ true → c.buffered ≡ false → (c.body ≡ []) ⊎ (length c.body ≡ c.ask.length)) → (writes c ≡ false → c.body ≡ []) →
+    (wants_buffers c.ask ≡ false → c.buffered ≡ true) → (brings_bytes c.ask.kind ≡ true → c.buffered ≡ true → length c.body ≡ c.ask.length) →
+    (brings_bytes c.ask.kind ≡ true → c.buffered ≡ false → (c.body ≡ []) ⊎ (length c.body ≡ c.ask.length)) → (brings_bytes c.ask.kind ≡ false → c.body ≡ []) →
     ((r : ℕ) → request_at new.requests r ≡ put (request_at old.requests) old.next (Some (asked c)) r) → Does seen old (Asked old.next c) new
 asked_does seen old new c keeps next graph sessions room live unrouted buffered body refused other requests m stands = (
   record {

@@ -14,7 +14,7 @@ use Rattle.qs_part.specs.declared.graph.GraphReply.TheVariants.{Detached as Gone
 use Rattle.qs_part.specs.declared.tracker.TrackerReply.TheVariants.{Ended}
 use Rattle.qs_model.specs.Requests.{Client, Stage, Req, abandon, verdict}
 use Rattle.qs_model.specs.Worlds.{Session, Away, Live as LiveAt, Leaving}
-use Rattle.qs_model.specs.Acts.{Act, Answers, Waits, Enters, Routes, Shuts, Lists, Starts, Loads, LoadFails, Holds, HoldFails, Stores, StoreFails, Frees, Ends, Element, Attached, NoExport, Crowded, Left, Detached, NotAttached, Asked, Did, Exported, Planned, Crashed}
+use Rattle.qs_model.specs.Acts.{Act, Answers, Waits, Enters, Routes, Shuts, Lists, Starts, Loads, LoadFails, Holds, HoldFails, Stores, StoreFails, Syncs, Cleans, SyncFails, Frees, Ends, Element, Attached, NoExport, Crowded, Left, Detached, NotAttached, Asked, Did, Exported, Planned, Crashed}
 use Rattle.qs_model.specs.Steps.{leaves, happens}
 use Rattle.qs_model.specs.Events.{IsEvent, outcome_of, row_outcome, moved_out, note_of, tracker_note, graph_note}
 use Rattle.qs_model.proofs.Basics.{same_or, put_here, put_other}
@@ -73,6 +73,9 @@ told_row A c d (Holds {k = k} {side = side} bytes) out is = told_moved (note_of 
 told_row A c d (HoldFails {k = k} {side = side}) out is = told_moved (note_of A c (HoldFails {k = k} {side = side})) out is
 told_row A c d (Stores {k = k} {b = b} bytes past) out is = told_moved (note_of A c (Stores {k = k} {b = b} bytes past)) out is
 told_row A c d (StoreFails {k = k} {b = b} bytes took past) out is = told_moved (note_of A c (StoreFails {k = k} {b = b} bytes took past)) out is
+told_row A c d (Syncs {k = k} {s = s}) out is = told_moved (note_of A c (Syncs {k = k} {s = s})) out is
+told_row A c d (Cleans {k = k} {s = s}) out is = told_moved (note_of A c (Cleans {k = k} {s = s})) out is
+told_row A c d (SyncFails {k = k} {s = s}) out is = told_moved (note_of A c (SyncFails {k = k} {s = s})) out is
 told_row A c d (Frees {k = k} {side = side}) out is = told_moved (note_of A c (Frees {k = k} {side = side})) out is
 told_row A c d (Ends {v = v}) out is = told_some (Answered (verdict d v) (tracker_note End Ended)) out is tt
 

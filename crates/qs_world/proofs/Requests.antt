@@ -1,7 +1,8 @@
 -- A request is made.
-use Rattle.std.proofs.Common.{◌≡◌, ℕ, ◌+◌, ◌-◌, ◌^◌, ◌<◌, ◌⊎◌, inl, inr, List, [], ◌∷◌, ◌++◌, length, Bool, true, false, ◌||◌, ◌&&◌, ◌==◌, cond, refl, sym, ◌∙◌, ap, arith, eq-eqb}
+use Rattle.std.proofs.Common.{◌≡◌, ℕ, ◌+◌, ◌-◌, ◌^◌, ◌<◌, ◌⊎◌, inl, inr, List, [], ◌∷◌, ◌++◌, length, Bool, true, false, not, ◌||◌, ◌&&◌, ◌==◌, cond, true≢false, refl, sym, ◌∙◌, ap, arith, eq-eqb}
 use Rattle.std.specs.Prelude.{Option, Some, None, is_some}
 use Rattle.std.specs.List.{AllByRecursion}
+use Rattle.std.specs.Option.{ForSome}
 use Rattle.qs_bytes.specs.declared.ask.Ask.{Ask}
 use Rattle.qs_bytes.specs.declared.ask.Kind.{Kind}
 use Rattle.qs_bytes.specs.declared.ask.Kind.TheVariants.{Read, Write, Zero, Trim, Flush, Unknown}
@@ -9,11 +10,12 @@ use Rattle.qs_outside.specs.Blocks.{Seen}
 use Rattle.qs_part.specs.declared.event.Event.TheVariants.{Ask as AskEvent}
 use Rattle.qs_part.specs.declared.event.Outcome.TheVariants.{Made}
 use Rattle.qs_model.proofs.Basics.{either}
-use Rattle.qs_model.specs.Requests.{Client, asked, is_write}
+use Rattle.qs_model.specs.Requests.{Client, asked, brings_bytes, is_read, stores_bytes, takes_body, wants_buffers}
 use Rattle.qs_model.specs.Worlds.{Live as LiveAt}
 use Rattle.qs_model.specs.Acts.{Asked}
 use Rattle.qs_model.specs.Events.{Brings, HasNone}
 use Rattle.qs_request.specs.declared.shape.Blocks.{Blocks}
+use Rattle.qs_request.proofs.Made.{body_works, brings_takes, brought, given_length, unbrought}
 use Rattle.qs_request.specs.Value.{RequestValue, client_for, given_bytes, bytes_of, has_buffers}
 use Rattle.qs_world.specs.declared.live.Live.{Live}
 use Rattle.qs_world.specs.declared.live.Member.{Member}
@@ -52,12 +54,12 @@ lacks ask session e blocks = record { wanted = go (ask.length == 0) (takes_body 
 
 -- a body of the right length
 fits : (body : Option (List ℕ)) (n : ℕ) → ForSome (fitted body n) (λ bytes. length bytes ≡ n)
-fits None n = tt
+fits None n = λ x is. absurd (cc)
 fits (Some body) n = go (length body == n) refl
   where
     go : (b : Bool) → (length body == n) ≡ b → ForSome (cond b (Some body) None) (λ bytes. length bytes ≡ n)
-    go true is = λ _. grind (arith, is)
-    go false is = tt
+    go true is = λ x same. let e : body ≡ x = cc in ap length (sym e) ∙ grind (arith, is)
+    go false is = λ x same. absurd (cc)
 
 brings : (session e : ℕ) (ask : Ask) (body : Option (List ℕ)) (blocks : Option Blocks) → Brings body (client_for session ask e (fitted body ask.length) blocks)
 brings session e ask None blocks = lacks ask session e blocks

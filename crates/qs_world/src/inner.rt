@@ -60,9 +60,9 @@ impl<D: Disk + Drop> Core<D> {
                 follow(&mut self.requests, at, PartReply::Graph(reply), note)
             }
             Todo::Stripe(stripe, op) => {
-                let (kind, at) = stripe_kind(stripe, &op);
+                let (kind, place) = stripe_kind(stripe, &op);
                 let reply = self.stripes[usize::from(stripe)].step(op);
-                let note = stripe_note(kind, at, &reply);
+                let note = stripe_note(kind, place, &reply);
                 follow(&mut self.requests, at, PartReply::Stripe(reply), note)
             }
             Todo::Answer(verdict) => {
