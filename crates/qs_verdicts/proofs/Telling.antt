@@ -305,7 +305,7 @@ row_at A w n d p (Shuts {k = k}) pos may fit at = (
   ap (λ (x : Route). record n.client { route = x }) (shut_route n at.way),
   refl,
   plain_end A (record n { way = Shut }) _ at.listed at.fault (good_reply n.client.ask n.client.buffered Shut n.fault n.got at.good.form at.good.room)
-  (λ fine. absurd (refused_fine Shutdown fine)),
+      (λ fine. absurd (refused_fine Shutdown fine)),
 )
   where
     shut_route : (m : Story) → m.way ≡ Unknown → (sent m).route ≡ no_route
