@@ -1,5 +1,5 @@
 -- Over a read-only file node no export is writable, so no request's way is, and nothing is stored.
-use Rattle.std.proofs.Common.{◌≡◌, ℕ, ◌<◌, inl, inr, Bool, true, false, ◌&&◌, ◌==◌, cond, List, [], ◌∷◌, Option, Some, None, refl, sym, ap, ◌∙◌, subst, true≢false}
+use Rattle.std.proofs.Common.{◌≡◌, ℕ, ◌<◌, inl, inr, Bool, true, false, ◌&&◌, ◌==◌, List, [], ◌∷◌, Option, Some, None, refl, sym, ap, ◌∙◌, subst, true≢false}
 use Rattle.qs_part.specs.declared.graph.GraphOp.{GraphOp}
 use Rattle.qs_part.specs.declared.graph.GraphOp.TheVariants.{ExportAdd, Find, Attach, Detach, Route}
 use Rattle.qs_part.specs.declared.graph.GraphReply.TheVariants.{Added}
@@ -7,14 +7,13 @@ use Rattle.qs_graph.specs.declared.export.Export.{Export}
 use Rattle.qs_graph.specs.Exports.{counted, export_at, made}
 use Rattle.qs_graph.specs.Table.{GraphValue, May as GraphMay, after as graph_after, placed}
 use Rattle.qs_graph.proofs.Standing.{at_set, nobody}
-use Rattle.qs_model.specs.Puts.{put}
 use Rattle.qs_model.specs.Requests.{Client, Pads, Req, Stage, abandon, asked}
 use Rattle.qs_model.specs.Worlds.{World, Opening, new_world}
 use Rattle.qs_model.specs.Acts.{Act, Answers, Waits, Enters, Routes, Shuts, Lists, Starts, Loads, LoadFails, Holds, HoldFails, Stores, StoreFails, Syncs, Cleans, SyncFails, Frees, Ends, Element, Attached, NoExport, Crowded, Left, Detached, NotAttached, Asked, Did, Exported, Planned, Crashed}
 use Rattle.qs_model.specs.Guards.{MayDo, May}
 use Rattle.qs_model.specs.Histories.{IsStoreRow}
 use Rattle.qs_model.specs.Steps.{crashed, moved, leaves, happens, after, Runs}
-use Rattle.qs_model.specs.Laws.{ComesBehind, NoStore}
+use Rattle.qs_model.specs.Laws.{NoStore}
 use Rattle.qs_model.proofs.Basics.{choose, put_tells}
 use Rattle.qs_model.proofs.Facts.{Shaped, Ok}
 use Rattle.qs_model.proofs.Holders.{some_none}

@@ -1,5 +1,5 @@
 -- The laws of every run from an opening world, whichever actor is next and whatever the disks answer.
-use Rattle.std.specs.Prelude.{◌≡◌, ◌≢◌, ◌↔◌, ℕ, ◌-◌, ◌*◌, ◌≤◌, ◌⊎◌, Bool, true, List, [], ◌∷◌, ◌++◌, length, filter, get_or, Some, IsTrue}
+use Rattle.std.specs.Prelude.{◌≡◌, ◌≢◌, ◌↔◌, ℕ, ◌-◌, ◌*◌, ◌⊎◌, true, List, [], ◌∷◌, ◌++◌, length, filter, get_or, Some, IsTrue}
 use Rattle.qs_bytes.specs.declared.ask.Verdict.TheVariants.{Got, Fine}
 use Rattle.qs_bytes.specs.Spans.{Covers, aligned_out}
 use Rattle.qs_cells.specs.declared.cell.CellEntry.{CellEntry}
