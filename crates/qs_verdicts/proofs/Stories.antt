@@ -1,6 +1,6 @@
 -- Every run keeps what is told of its requests' stories.
 use Rattle.std.proofs.Common.{◌≡◌, ℕ, ◌<◌, inl, inr, Bool, true, false, cond, ◌==◌, List, [], ◌∷◌, ◌++◌, Option, Some, None, refl, sym, ap, ◌∙◌, subst, true≢false, append-nil, append_assoc}
-use Rattle.qs_model.specs.Requests.{Client, Req, Stage, form_error, no_route, asked, abandoned, abandon}
+use Rattle.qs_model.specs.Requests.{Client, Req, Stage, form_error, no_route, asked, abandoned, abandon, brings_bytes}
 use Rattle.qs_model.specs.Worlds.{World}
 use Rattle.qs_bytes.specs.declared.ask.Errno.TheVariants.{Inval, NoMem}
 use Rattle.qs_part.specs.declared.graph.Route.{Route}
@@ -27,6 +27,7 @@ pub record Told (A r : ℕ) (before : List Element) (q : Req) : Type 0 where
   pub client : q.client ≡ sent story
   pub dropped : q.dropped ≡ story.left
   pub was_asked : WasAskedAs r story.client before
+  pub bare : brings_bytes story.client.ask.kind ≡ false → story.client.body ≡ []
   pub stands : Stands A story q.stage
   pub steady : IsSteady story
 
@@ -41,6 +42,7 @@ same_told A r before e q same t = record {
   client = t.client;
   dropped = t.dropped;
   was_asked = asked_more r t.story.client before e t.was_asked;
+  bare = t.bare;
   stands = t.stands;
   steady = t.steady;
 }
@@ -63,6 +65,7 @@ own_told A w r q p act before pos may fit is t =
       client = row.0;
       dropped = row.1 ∙ t.dropped ∙ sym (left_row A n act);
       was_asked = subst (λ (c : Client). WasAskedAs r c (before ++ Did r q act ∷ [])) (sym (client_row A n act)) (asked_more r n.client before (Did r q act) t.was_asked);
+      bare = subst (λ (c : Client). brings_bytes c.ask.kind ≡ false → c.body ≡ []) (sym (client_row A n act)) t.bare;
       stands = row.2;
       steady = row_steady A n act t.stands t.steady;
     }
@@ -104,13 +107,14 @@ pub ask_step : (A r s : ℕ) (c : Client) (o : Option Story) → told_step A r o
 ask_step A r s c None = refl
 ask_step A r s c (Some n) = refl
 
-pub made_told : (A r : ℕ) (c : Client) (before : List Element) → c.route ≡ no_route → Told A r (before ++ Asked r c ∷ []) (asked c)
-made_told A r c before unrouted = record {
+pub made_told : (A r : ℕ) (c : Client) (before : List Element) → c.route ≡ no_route → (brings_bytes c.ask.kind ≡ false → c.body ≡ []) → Told A r (before ++ Asked r c ∷ []) (asked c)
+made_told A r c before unrouted bare = record {
   story = begun c;
   is = told_more A r None before (Asked r c) ∙ ask_step A r r c (told A r before) ∙ if_same r r (Some (begun c)) (told A r before) refl;
   client = ap (λ (x : Route). record c { route = x }) unrouted;
   dropped = refl;
   was_asked = asked_now r c before;
+  bare = bare;
   stands = stage;
   steady = record { worked = λ h. absurd (true≢false (sym h)); fault = λ h. absurd (true≢false (sym h)); unsynced = λ _ _. refl };
 }
@@ -149,6 +153,7 @@ left_told A r s e before q x is t = go (q.client.session == s) refl
           client = t.client;
           dropped = refl;
           was_asked = asked_more r t.story.client before (Left s e) t.was_asked;
+          bare = t.bare;
           stands = subst (λ (c : Client). Stands A (record t.story { left = true }) (abandoned c q.stage)) (sym t.client) (left_at A t.story q.stage t.stands);
           steady = left_steady t.story t.steady;
         })
@@ -161,6 +166,7 @@ left_told A r s e before q x is t = go (q.client.session == s) refl
           client = t.client;
           dropped = t.dropped;
           was_asked = asked_more r t.story.client before (Left s e) t.was_asked;
+          bare = t.bare;
           stands = t.stands;
           steady = t.steady;
         })
@@ -179,7 +185,7 @@ step_told A w (Detached s e) before pos ok may all r q is = same_told A r before
 step_told A w (NotAttached s e) before pos ok may all r q is = same_told A r before (NotAttached s e) q (λ n. refl) (all r q is)
 step_told A w (Asked s c) before pos ok may all r q is = elim (put_tells w.req s (Some (asked c)) r (Some q) is) [
   | inl h ↦ subst (λ (x : Req). Told A r (before ++ Asked s c ∷ []) x) (inside (asked c) q h.1)
-      (subst (λ (k : ℕ). Told A r (before ++ Asked k c ∷ []) (asked c)) h.0 (made_told A r c before may.unrouted))
+      (subst (λ (k : ℕ). Told A r (before ++ Asked k c ∷ []) (asked c)) h.0 (made_told A r c before may.unrouted may.other))
   | inr h ↦ same_told A r before (Asked s c) q (λ n. ask_step A r s c (Some n) ∙ if_other s r (Some (begun c)) (Some n) (λ f. h.0 (sym f))) (all r q h.1)
 ]
   where

@@ -1,11 +1,11 @@
 -- The laws of answers, and of a request's own steps and bytes.
-use Rattle.std.proofs.Common.{◌≡◌, ◌≢◌, ◌↔◌, ℕ, ◌<◌, ◌⊎◌, inl, inr, Bool, true, false, ◌&&◌, ◌==◌, ◌/◌, cond, List, [], ◌∷◌, Some, None, refl, sym, ap, ◌∙◌, subst, true≢false}
+use Rattle.std.proofs.Common.{◌≡◌, ◌≢◌, ◌↔◌, ℕ, ◌<◌, ◌⊎◌, inl, inr, Bool, true, false, ◌&&◌, ◌==◌, ◌/◌, ◌-◌, cond, get_or, List, [], ◌∷◌, Some, None, refl, sym, ap, ◌∙◌, subst, true≢false}
 use Rattle.qs_bytes.specs.declared.ask.Verdict.{Verdict}
 use Rattle.qs_bytes.specs.declared.ask.Verdict.TheVariants.{Fine, Refused, Dropped}
 use Rattle.qs_bytes.specs.declared.ask.Kind.TheVariants.{Flush}
 use Rattle.qs_bytes.specs.declared.ask.Errno.TheVariants.{Io}
 use Rattle.qs_cells.specs.declared.cell.CellEntry.TheVariants.{Read, Write, Maybe}
-use Rattle.qs_model.specs.Requests.{Client, Req, Stage, covers, body_at, writes, verdict}
+use Rattle.qs_model.specs.Requests.{Client, Req, Stage, brings_bytes, covers, body_at, span_of, writes, verdict}
 use Rattle.qs_model.specs.Worlds.{World}
 use Rattle.qs_model.specs.Acts.{Act, Answers, Waits, Enters, Routes, Shuts, Lists, Starts, Loads, LoadFails, Holds, HoldFails, Stores, StoreFails, Syncs, Cleans, SyncFails, Frees, Ends, Element, Attached, NoExport, Crowded, Left, Detached, NotAttached, Asked, Did, Exported, Planned, Crashed}
 use Rattle.qs_model.specs.Histories.{answer_of, cell_at, cell_of, reads_in, writes_in}
@@ -15,9 +15,10 @@ use Rattle.qs_model.proofs.Facts.{Ok}
 use Rattle.qs_model.proofs.Holders.{some_none}
 use Rattle.qs_model.proofs.Kept.{split_run}
 use Rattle.qs_verdicts.specs.Stories.{Story, HasStory, sent}
-use Rattle.qs_verdicts.specs.Verdicts.{AreStripes, IsByTable, IsEarly, MayWork, Own, OwnBytes, Verdicts, done, is_forced, reply_of, verdict_of}
+use Rattle.qs_verdicts.specs.Verdicts.{AreStripes, IsByTable, IsEarly, IsOwnByte, MayWork, Own, OwnBytes, Verdicts, done, is_forced, reply_of, verdict_of}
 use Rattle.qs_verdicts.proofs.Lines.{Passed, io_fault, never_dropped, work_end}
 use Rattle.qs_verdicts.proofs.Stories.{Told, all_told}
+use Rattle.qs_verdicts.proofs.TableKinds.{room_is}
 use Rattle.qs_verdicts.proofs.Telling.{IsEnding, IsSteady, Stands, dropped_fine}
 
 begins_of : (before : List Element) (e : Element) (es : List Element) → ComesBehind before e es → Begins before es
@@ -156,8 +157,13 @@ own A w es pos ok none run before _ at = tt
 -- what a row writes at x
 record WritesOwn (s : ℕ) (c : Client) (x r v : ℕ) : Type 0 where
   number : s ≡ r
+  writing : writes c ≡ true
   covered : covers c x ≡ true
   byte : v ≡ body_at c x
+
+first_true : (a b c : Bool) → (a && b && c) ≡ true → a ≡ true
+first_true true b c h = refl
+first_true false b c h = absurd (true≢false (sym h))
 
 second_true : (a b c : Bool) → (a && b && c) ≡ true → b ≡ true
 second_true true true c h = refl
@@ -168,14 +174,14 @@ stored_own : (A x s r v : ℕ) (c : Client) (b : ℕ) → cond (writes_in A c b 
 stored_own A x s r v c b is = go (writes_in A c b x) refl is
   where
     go : (t : Bool) → writes_in A c b x ≡ t → cond t (Write s (body_at c x) ∷ []) [] ≡ Write r v ∷ [] → WritesOwn s c x r v
-    go true h e = record { number = cc; covered = second_true (writes c) (covers c x) (x / A == b) h; byte = cc }
+    go true h e = record { number = cc; writing = first_true (writes c) (covers c x) (x / A == b) h; covered = second_true (writes c) (covers c x) (x / A == b) h; byte = cc }
     go false h e = absurd (cc)
 
 refused_own : (A x s r v : ℕ) (c : Client) (b : ℕ) (took taken : Bool) → cond (writes_in A c b x) (Maybe s (body_at c x) took ∷ []) [] ≡ Maybe r v taken ∷ [] → WritesOwn s c x r v
 refused_own A x s r v c b took taken is = go (writes_in A c b x) refl is
   where
     go : (t : Bool) → writes_in A c b x ≡ t → cond t (Maybe s (body_at c x) took ∷ []) [] ≡ Maybe r v taken ∷ [] → WritesOwn s c x r v
-    go true h e = record { number = cc; covered = second_true (writes c) (covers c x) (x / A == b) h; byte = cc }
+    go true h e = record { number = cc; writing = first_true (writes c) (covers c x) (x / A == b) h; covered = second_true (writes c) (covers c x) (x / A == b) h; byte = cc }
     go false h e = absurd (cc)
 
 read_write : (t : Bool) (s u r v : ℕ) → cond t (Read s u ∷ []) [] ≡ Write r v ∷ [] → ⊥
@@ -237,13 +243,26 @@ row_maybe A x s r v taken c SyncFails is = absurd (nothing_one _ is)
 row_maybe A x s r v taken c Frees is = absurd (nothing_one _ is)
 row_maybe A x s r v taken c Ends is = absurd (nothing_one _ is)
 
-abbrev OwnByte : Story → ℕ → ℕ → Type 0
-OwnByte n x v = (covers (sent n) x ≡ true) × (v ≡ body_at (sent n) x)
+-- a request that has no bytes has zeros
+bare_zero : (c : Client) (x : ℕ) → c.body ≡ [] → body_at c x ≡ 0
+bare_zero c x bare = ap (λ (xs : List ℕ). get_or xs (x - (span_of c).lo) 0) bare
 
-own_byte : (A s : ℕ) (q : Req) (before : List Element) (x r v : ℕ) → Told A s before q → WritesOwn s q.client x r v → HasStory A r before (λ n. OwnByte n x v)
+own_byte : (A s : ℕ) (q : Req) (before : List Element) (x r v : ℕ) → Told A s before q → WritesOwn s q.client x r v → HasStory A r before (λ n. IsOwnByte n x v)
 own_byte A s q before x r v t h =
-    subst (λ (k : ℕ). HasStory A k before (λ n. OwnByte n x v)) h.number
-    (t.story, (t.is, subst (λ (c : Client). (covers c x ≡ true) × (v ≡ body_at c x)) t.client (h.covered, h.byte)))
+    let n : Story = t.story in
+    let byte : v ≡ body_at (sent n) x = subst (λ (c : Client). v ≡ body_at c x) t.client h.byte in
+    subst (λ (k : ℕ). HasStory A k before (λ m. IsOwnByte m x v)) h.number (
+      n,
+      (
+        t.is,
+        record {
+          room = room_is n.client.ask.kind ∙ subst (λ (c : Client). writes c ≡ true) t.client h.writing;
+          covered = subst (λ (c : Client). covers c x ≡ true) t.client h.covered;
+          byte = byte;
+          zeros = λ is. byte ∙ bare_zero (sent n) x (t.bare (ap brings_bytes is));
+        },
+      ),
+    )
 
 pub own_bytes : (A : ℕ) (w : World) (es : List Element) → 0 < A → Ok A w → ((r : ℕ) → w.req r ≡ None) → Runs A w es → OwnBytes A es
 own_bytes A w es pos ok none run = record { write = write; maybe = maybe }
@@ -252,7 +271,7 @@ own_bytes A w es pos ok none run = record { write = write; maybe = maybe }
     told_at s q act before at =
         all_told A w es before pos ok none run (begins_of before (Did s q act) es at) s q (split_run A w es before (Did s q act) run at).1.0
 
-    write : (x r v : ℕ) (before : List Element) (e : Element) → ComesBehind before e es → cell_at A x e ≡ Write r v ∷ [] → HasStory A r before (λ n. OwnByte n x v)
+    write : (x r v : ℕ) (before : List Element) (e : Element) → ComesBehind before e es → cell_at A x e ≡ Write r v ∷ [] → HasStory A r before (λ n. IsOwnByte n x v)
     write x r v before (Did s q act) at is = own_byte A s q before x r v (told_at s q act before at) (row_write A x s r v q.client act is)
     write x r v before (Crashed left) at is = absurd (cc)
     write x r v before (Attached s name info) at is = absurd (nothing_one _ is)
@@ -265,7 +284,7 @@ own_bytes A w es pos ok none run = record { write = write; maybe = maybe }
     write x r v before (Exported op e) at is = absurd (nothing_one _ is)
     write x r v before (Planned j fail) at is = absurd (nothing_one _ is)
 
-    maybe : (x r v : ℕ) (took : Bool) (before : List Element) (e : Element) → ComesBehind before e es → cell_at A x e ≡ Maybe r v took ∷ [] → HasStory A r before (λ n. OwnByte n x v)
+    maybe : (x r v : ℕ) (took : Bool) (before : List Element) (e : Element) → ComesBehind before e es → cell_at A x e ≡ Maybe r v took ∷ [] → HasStory A r before (λ n. IsOwnByte n x v)
     maybe x r v took before (Did s q act) at is = own_byte A s q before x r v (told_at s q act before at) (row_maybe A x s r v took q.client act is)
     maybe x r v took before (Crashed left) at is = absurd (cc)
     maybe x r v took before (Attached s name info) at is = absurd (nothing_one _ is)

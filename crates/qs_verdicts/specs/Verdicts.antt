@@ -162,9 +162,16 @@ IsOwnStep A _ before = Unit {0}
 abbrev pub Own : ℕ → List Element → Type 0
 Own A es = (before : List Element) (e : Element) → ComesBehind before e es → IsOwnStep A e before
 
+-- the byte v for place x is the client's own: of a WRITE or WRITE_ZEROES that covers x, and zero where that is a WRITE_ZEROES
+pub record IsOwnByte (n : Story) (x v : ℕ) : Type 0 where
+  pub room : needs_room n.client.ask.kind ≡ true
+  pub covered : covers (sent n) x ≡ true
+  pub byte : v ≡ body_at (sent n) x
+  pub zeros : n.client.ask.kind ≡ Zero → v ≡ 0
+
 -- What a request writes at x is its client's own byte for x, and only where it covers x; a store that a disk refused, too.
 pub record OwnBytes (A : ℕ) (es : List Element) : Type 0 where
   pub write : (x r v : ℕ) (before : List Element) (e : Element) → ComesBehind before e es → cell_at A x e ≡ Written r v ∷ [] →
-      HasStory A r before (λ n. (covers (sent n) x ≡ true) × (v ≡ body_at (sent n) x))
+      HasStory A r before (λ n. IsOwnByte n x v)
   pub maybe : (x r v : ℕ) (took : Bool) (before : List Element) (e : Element) → ComesBehind before e es → cell_at A x e ≡ Maybe r v took ∷ [] →
-      HasStory A r before (λ n. (covers (sent n) x ≡ true) × (v ≡ body_at (sent n) x))
+      HasStory A r before (λ n. IsOwnByte n x v)

@@ -28,7 +28,8 @@ pub fn own()
     ensures { (A : ℕ) (o : Opening) (es : List Element) → 0 < A → Runs A (opening o) es → Own A es }
 {}
 
-/// A request writes only places that it covers, and there its client's own bytes.
+/// Only a WRITE or WRITE_ZEROES writes, and only places that it covers: a WRITE its client's own bytes, a
+/// WRITE_ZEROES zeros.
 pub fn own_bytes()
     ensures { (A : ℕ) (o : Opening) (es : List Element) → 0 < A → Runs A (opening o) es → OwnBytes A es }
 {}
