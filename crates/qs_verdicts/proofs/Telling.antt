@@ -46,13 +46,13 @@ pub record IsRouted (n : Story) : Type 0 where
   pub got : n.got ≡ []
 
 -- It syncs stripe s, and has synced those below that it picks: a FLUSH, which has no span, or a forced write that has stored
--- its last block.
+-- its last block. A FLUSH ends when its session leaves.
 pub record IsSyncing (A : ℕ) (n : Story) (s : ℕ) : Type 0 where
   pub passed : Passed n
   pub fault : n.fault ≡ false
   pub picked : syncs A (sent n) s ≡ true
   pub before : n.synced ≡ chosen (syncs A (sent n)) s
-  pub flush : is_flush n.client.ask.kind ≡ true → n.listed ≡ false
+  pub flush : is_flush n.client.ask.kind ≡ true → (n.listed ≡ false) × (n.left ≡ false)
   pub forced : is_flush n.client.ask.kind ≡ false → (n.ended ≡ true) × (is_forced n.client.ask ≡ true)
 
 -- its answer is fixed, and its course is over
@@ -176,9 +176,9 @@ forced_at A n m passed fault writing ended forced order few so_far =
     other = room_no_flush n.client.ask.kind room
 
 -- a FLUSH that has synced what it picks below 8 - m: every stripe
-flush_at : (A : ℕ) (n : Story) (m : ℕ) → Passed n → n.fault ≡ false → is_flush n.client.ask.kind ≡ true → n.listed ≡ false → m ≤ 8 →
+flush_at : (A : ℕ) (n : Story) (m : ℕ) → Passed n → n.fault ≡ false → is_flush n.client.ask.kind ≡ true → n.listed ≡ false → n.left ≡ false → m ≤ 8 →
     n.synced ≡ chosen (syncs A (sent n)) (8 - m) → At A n (to_sync A (sent n) m)
-flush_at A n m passed fault flush listed few so_far =
+flush_at A n m passed fault flush listed present few so_far =
     to_sync_from (λ g. At A n g) A (sent n) m n.synced few so_far
     (λ all. record {
       reply = λ _. fine_reply n passed fault (flush_no_read n.client.ask.kind flush);
@@ -192,7 +192,7 @@ flush_at A n m passed fault flush listed few so_far =
       fault = fault;
       picked = is;
       before = before;
-      flush = λ _. listed;
+      flush = λ _. (listed, present);
       forced = λ other. absurd (true≢false (sym flush ∙ other));
     })
 
@@ -223,7 +223,7 @@ with_synced n s = record n { worked = true; synced = n.synced ++ s ∷ [] }
 pub synced_at : (A : ℕ) (n : Story) (s : ℕ) → 0 < A → Syncing (sent n) s → IsSyncing A n s → At A (with_synced n s) (synced A (sent n) s)
 unfolding synced
 synced_at A n s pos fit at = elim (either (is_flush n.client.ask.kind)) [
-  | inl flush ↦ flush_at A (with_synced n s) (7 - s) at.passed at.fault flush (at.flush flush) (omega arith) so_far
+  | inl flush ↦ flush_at A (with_synced n s) (7 - s) at.passed at.fault flush (at.flush flush).0 (at.flush flush).1 (omega arith) so_far
   | inr other ↦ forced_at A (with_synced n s) (7 - s) at.passed at.fault (fit.writing other) (at.forced other).0 (at.forced other).1
       (head_reached A (sent n) pos (fit.sound other).some) (omega arith) so_far
 ]
@@ -280,7 +280,7 @@ routed_at A n route fresh =
       fault = fresh.fault;
       picked = flush_picks A (sent m) 0 flush;
       before = fresh.synced;
-      flush = λ _. fresh.listed;
+      flush = λ _. (fresh.listed, fresh.here);
       forced = λ other. absurd (true≢false (sym flush ∙ other));
     })
     (λ other. choose (λ g. At A m g) (nat_lt route.size (a.offset + a.length)) _ _
@@ -324,12 +324,15 @@ row_at A w n d p SyncFails pos may fit at = (refl, refl, failed_end A (record n 
 row_at A w n d p (Frees {k = k}) pos may fit at = (refl, refl, failed_end A (record n { worked = true }) at.0 at.1)
 row_at A w n d p Ends pos may fit at = tt
 
--- who syncs is a FLUSH or a forced write
-sync_wanted : (A : ℕ) (n : Story) (s : ℕ) → IsSyncing A n s → n.client.ask.kind ≢ Flush → is_forced n.client.ask ≡ false → ⊥
-sync_wanted A n s at other free = elim (either (is_flush n.client.ask.kind)) [
-  | inl flush ↦ other (flush_is n.client.ask.kind flush)
-  | inr none ↦ true≢false (sym (at.forced none).1 ∙ free)
+-- who syncs is a FLUSH whose session is there, or a forced write
+pub syncs_own : (A : ℕ) (n : Story) (s : ℕ) → IsSyncing A n s → ((n.client.ask.kind ≡ Flush) × (n.left ≡ false)) ⊎ (is_forced n.client.ask ≡ true)
+syncs_own A n s at = elim (either (is_flush n.client.ask.kind)) [
+  | inl flush ↦ inl (flush_is n.client.ask.kind flush, (at.flush flush).1)
+  | inr other ↦ inr (at.forced other).1
 ]
+
+sync_wanted : (A : ℕ) (n : Story) (s : ℕ) → IsSyncing A n s → n.client.ask.kind ≢ Flush → is_forced n.client.ask ≡ false → ⊥
+sync_wanted A n s at other free = elim (syncs_own A n s at) [ inl flush ↦ other flush.0 | inr forced ↦ true≢false (sym forced ∙ free) ]
 
 -- what holds at every stage holds after a row
 pub row_steady : (A : ℕ) (n : Story) {stage : Stage} (act : Act stage) → Stands A n stage → IsSteady n → IsSteady (told_row A n act)
@@ -384,8 +387,15 @@ left_at A n (In k (ToLoad b got)) at = at
 left_at A n (In k (ToHold side)) at = at
 left_at A n (In k (ToStore b)) at = at
 left_at A n (In k (ToSync s)) at =
-    choose (λ g. At A (record n { left = true }) g) (is_flush n.client.ask.kind) _ _ (λ flush. dropped_end A n (at.flush flush) at.fault)
-    (λ _. record { passed = at.passed; fault = at.fault; picked = at.picked; before = at.before; flush = at.flush; forced = at.forced })
+    choose (λ g. At A (record n { left = true }) g) (is_flush n.client.ask.kind) _ _ (λ flush. dropped_end A n (at.flush flush).0 at.fault)
+    (λ other. record {
+      passed = at.passed;
+      fault = at.fault;
+      picked = at.picked;
+      before = at.before;
+      flush = λ flush. absurd (true≢false (sym flush ∙ other));
+      forced = at.forced;
+    })
 left_at A n (In k (ToFree side)) at = at
 left_at A n (In k (ToEnd v)) at =
     record { reply = λ h. absurd (true≢false h); course = at.course; failed = at.failed; flushed = at.flushed; forced = at.forced }

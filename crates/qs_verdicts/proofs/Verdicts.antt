@@ -15,11 +15,11 @@ use Rattle.qs_model.proofs.Facts.{Ok}
 use Rattle.qs_model.proofs.Holders.{some_none}
 use Rattle.qs_model.proofs.Kept.{split_run}
 use Rattle.qs_verdicts.specs.Stories.{Story, HasStory, sent}
-use Rattle.qs_verdicts.specs.Verdicts.{AreStripes, IsByTable, IsEarly, IsOwnByte, MayWork, Own, OwnBytes, Verdicts, done, is_forced, reply_of, verdict_of}
+use Rattle.qs_verdicts.specs.Verdicts.{AreStripes, IsByTable, IsEarly, IsOwnByte, IsSyncRow, MayWork, Own, OwnBytes, Verdicts, done, is_forced, reply_of, verdict_of}
 use Rattle.qs_verdicts.proofs.Lines.{Passed, io_fault, never_dropped, work_end}
 use Rattle.qs_verdicts.proofs.Stories.{Told, all_told}
 use Rattle.qs_verdicts.proofs.TableKinds.{room_is}
-use Rattle.qs_verdicts.proofs.Telling.{IsEnding, IsSteady, Stands, dropped_fine}
+use Rattle.qs_verdicts.proofs.Telling.{IsEnding, IsSteady, Stands, dropped_fine, syncs_own}
 
 begins_of : (before : List Element) (e : Element) (es : List Element) → ComesBehind before e es → Begins before es
 begins_of before e es at = (e ∷ at.0, at.1)
@@ -147,11 +147,19 @@ early A n Shuts at is = at.here
 early A n (Lists m) at is = at.here
 early A n _ at is = absurd is
 
+-- who syncs
+sync_own : (A : ℕ) (n : Story) {stage : Stage} (act : Act stage) → Stands A n stage → IsSyncRow act →
+    ((n.client.ask.kind ≡ Flush) × (n.left ≡ false)) ⊎ (is_forced n.client.ask ≡ true)
+sync_own A n (Syncs {s = s}) at is = syncs_own A n s at
+sync_own A n (Cleans {s = s}) at is = syncs_own A n s at
+sync_own A n (SyncFails {s = s}) at is = syncs_own A n s at
+sync_own A n _ at is = absurd is
+
 pub own : (A : ℕ) (w : World) (es : List Element) → 0 < A → Ok A w → ((r : ℕ) → w.req r ≡ None) → Runs A w es → Own A es
 own A w es pos ok none run before (Did r q act) at =
     let may = (split_run A w es before (Did r q act) run at).1 in
     let t : Told A r before q = all_told A w es before pos ok none run (begins_of before (Did r q act) es at) r q may.0 in
-    (t.story, (t.is, record { client = t.client; dropped = t.dropped; asked = t.was_asked; early = early A t.story act t.stands }))
+    (t.story, (t.is, record { client = t.client; dropped = t.dropped; asked = t.was_asked; early = early A t.story act t.stands; sync = sync_own A t.story act t.stands }))
 own A w es pos ok none run before _ at = tt
 
 -- what a row writes at x

@@ -12,7 +12,7 @@ use Rattle.qs_part.specs.declared.graph.Route.{Route}
 use Rattle.qs_part.specs.declared.stripe.Side.TheVariants.{Head, Tail}
 use Rattle.qs_cells.specs.declared.cell.CellEntry.TheVariants.{Write as Written, Maybe}
 use Rattle.qs_model.specs.Requests.{Client, Stage, is_read, edge, covers, body_at}
-use Rattle.qs_model.specs.Acts.{Act, Enters, Routes, Shuts, Lists, Element, Asked, Did}
+use Rattle.qs_model.specs.Acts.{Act, Enters, Routes, Shuts, Lists, Syncs, Cleans, SyncFails, Element, Asked, Did}
 use Rattle.qs_model.specs.Histories.{answer_of, cell_at}
 use Rattle.qs_model.specs.Laws.{ComesBehind}
 use Rattle.qs_verdicts.specs.Lists.{IsAmong, IsRising}
@@ -115,7 +115,7 @@ pub record AreStripes (A : ℕ) (c : Client) (stripes : List ℕ) : Type 0 where
 -- An answer is the first line that applies. It is EIO exactly where a disk failed for the request, and Dropped exactly where
 -- its session left. A request that did something to a block or a stripe isn't refused but for EIO. One whose span was listed is
 -- answered only when a disk failed for it, or its last block was loaded or stored and, with FUA, the stripes of its blocks were
--- synced behind that. A FLUSH that is Fine has synced all eight stripes, and a forced write those of its blocks; no other
+-- synced behind that. A FLUSH that is Fine has synced the eight stripes in order, and a forced write those of its blocks; no other
 -- request syncs any.
 pub record IsByTable (A : ℕ) (n : Story) (v : Verdict) : Type 0 where
   pub line : verdict_of n ≡ Some v
@@ -141,6 +141,13 @@ IsEarly Shuts = Unit {0}
 IsEarly (Lists m) = Unit {0}
 IsEarly _ = ⊥
 
+-- a row of Sync
+abbrev pub IsSyncRow : {stage : Stage} → Act stage → Type 0
+IsSyncRow Syncs = Unit {0}
+IsSyncRow Cleans = Unit {0}
+IsSyncRow SyncFails = Unit {0}
+IsSyncRow _ = ⊥
+
 -- some step made the request for this client
 abbrev pub WasAskedAs : ℕ → Client → List Element → Type 0
 WasAskedAs r c [] = ⊥
@@ -148,12 +155,13 @@ WasAskedAs r c (Asked s d ∷ es) = ((s ≡ r) × (d ≡ c)) ⊎ WasAskedAs r c 
 WasAskedAs r c (e ∷ es) = WasAskedAs r c es
 
 -- A step of a request is with the client that asked it, but for its way, which is the one that the graph gave. A request whose
--- session has left enters, asks for its way and lists no more.
+-- session has left enters, asks for its way and lists no more. Only a FLUSH whose session is there syncs, and a forced write.
 pub record IsOwn (A r : ℕ) (c : Client) (d : Bool) {stage : Stage} (act : Act stage) (before : List Element) (n : Story) : Type 0 where
   pub client : c ≡ sent n
   pub dropped : d ≡ n.left
   pub asked : WasAskedAs r n.client before
   pub early : IsEarly act → n.left ≡ false
+  pub sync : IsSyncRow act → ((n.client.ask.kind ≡ Flush) × (n.left ≡ false)) ⊎ (is_forced n.client.ask ≡ true)
 
 abbrev pub IsOwnStep : ℕ → Element → List Element → Type 0
 IsOwnStep A (Did r q act) before = HasStory A r before (IsOwn A r q.client q.dropped act before)

@@ -16,14 +16,15 @@ pub fn verdicts()
     ensures { (A : ℕ) (o : Opening) (es : List Element) → 0 < A → Runs A (opening o) es → Verdicts A es }
 {}
 
-/// A request syncs stripe s, by the model's test, exactly where some block from its first to its last is
-/// of that stripe.
+/// The model's test of whether the blocks from `first` to `final` reach stripe s passes exactly where one
+/// of them is of that stripe.
 pub fn stripes()
     ensures { (first final s : ℕ) → first ≤ final → s < 8 → (touches first final s ≡ true) ↔ Meets first final s }
 {}
 
 /// Each step of a request is with the client that asked it, but for its way, which the graph gave. A
-/// request whose session has left doesn't enter, ask for its way or list a span.
+/// request whose session has left doesn't enter, ask for its way or list a span, and a FLUSH doesn't sync
+/// then. Beside a FLUSH only a WRITE or WRITE_ZEROES of some length with FUA syncs.
 pub fn own()
     ensures { (A : ℕ) (o : Opening) (es : List Element) → 0 < A → Runs A (opening o) es → Own A es }
 {}
