@@ -4,7 +4,7 @@ use Rattle.qs_bytes.specs.declared.ask.Ask.{Ask}
 use Rattle.qs_part.specs.declared.event.Actor.{Actor}
 use Rattle.qs_part.specs.declared.event.Actor.TheVariants.{Session as ASession}
 use Rattle.qs_part.specs.declared.graph.ExportInfo.{ExportInfo}
-use Rattle.qs_model.specs.Requests.{Client, writes, is_write}
+use Rattle.qs_model.specs.Requests.{Client, brings_bytes}
 use Rattle.qs_part.specs.declared.graph.GraphOp.TheVariants.{Attach}
 use Rattle.qs_part.specs.declared.graph.GraphReply.TheVariants.{Attached as AttachedReply, Crowded as CrowdedReply}
 use Rattle.qs_graph.specs.Exports.{clients_of, export_at, found_at}
@@ -52,7 +52,7 @@ pub session_one : (actor : Actor) (s t : ℕ) → actor ≡ ASession s → actor
 session_one actor s t a b = cc
 
 -- the bytes of a WRITE are those that came with it
-pub write_one : (c d : Client) (body : Option (List ℕ)) → d.ask ≡ c.ask → writes c ≡ true → writes d ≡ true → Brings body c → Brings body d → d.body ≡ c.body
+pub write_one : (c d : Client) (body : Option (List ℕ)) → d.ask ≡ c.ask → brings_bytes c.ask.kind ≡ true → brings_bytes d.ask.kind ≡ true → Brings body c → Brings body d → d.body ≡ c.body
 write_one c d None same writing too a b = b.empty ∙ sym a.empty
 write_one c d (Some body) same writing too (inl a) (inl b) = sym (b.1 too) ∙ a.1 writing
 write_one c d (Some body) same writing too (inl a) (inr b) = absurd (b.0 (a.0 ∙ sym (ap (λ (x : Ask). x.length) same)))
@@ -71,12 +71,12 @@ asked_one w r s c d body session ask given can too a b = λ i. record {
   route = (too.unrouted ∙ sym can.unrouted) i;
 }
   where
-    kind : writes d ≡ writes c
-    kind = ap (λ (x : Ask). is_write x.kind) ask
+    kind : brings_bytes d.ask.kind ≡ brings_bytes c.ask.kind
+    kind = ap (λ (x : Ask). brings_bytes x.kind) ask
 
     same_body : d.body ≡ c.body
-    same_body = elim (either (writes c)) [
-      | inl writing ↦ let too_writing : writes d ≡ true = kind ∙ writing in
+    same_body = elim (either (brings_bytes c.ask.kind)) [
+      | inl writing ↦ let too_writing : brings_bytes d.ask.kind ≡ true = kind ∙ writing in
           write_one c d body ask writing too_writing a b
       | inr bare ↦ too.other (kind ∙ bare) ∙ sym (can.other bare)
     ]

@@ -1,14 +1,14 @@
--- States that are alike are one state, but for what a crash may leave of its blocks and which stripes are clean.
-use Rattle.std.proofs.Common.{◌≡◌, ℕ, Bool, List}
+-- States that are alike are one state, but for what a crash may leave of its blocks.
+use Rattle.std.proofs.Common.{◌≡◌, ℕ, List}
 use Rattle.qs_model.specs.Worlds.{World}
 use Rattle.qs_determined.specs.Determined.{Alike}
 
--- the same state, but for what a crash may leave and which stripes are clean
-abbrev pub with_past : World → (ℕ → List (List ℕ)) → (ℕ → Bool) → World
-with_past w past clean = record w { image = record w.image { past = past; clean = clean } }
+-- the same state, but for what a crash may leave
+abbrev pub with_past : World → (ℕ → List (List ℕ)) → World
+with_past w past = record w { image = record w.image { past = past } }
 
 -- states that are alike are one, but for that
-pub alike_is : (w v : World) → Alike w v → v ≡ with_past w v.image.past v.image.clean
+pub alike_is : (w v : World) → Alike w v → v ≡ with_past w v.image.past
 alike_is w v alike = λ i. record {
   tells = alike.tells i;
   next = alike.next i;
@@ -17,6 +17,6 @@ alike_is w v alike = λ i. record {
   graph = alike.graph i;
   clients = λ e. alike.clients e i;
   tracker = alike.tracker i;
-  image = record { now = λ b. alike.now b i; past = v.image.past; holder = λ b. alike.holder b i; clean = v.image.clean };
+  image = record { now = λ b. alike.now b i; past = v.image.past; holder = λ b. alike.holder b i; clean = λ s. alike.clean s i };
   plans = λ j. alike.plans j i;
 }

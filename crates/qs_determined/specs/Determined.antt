@@ -5,7 +5,7 @@ use Rattle.qs_part.specs.declared.event.Event.{Event}
 use Rattle.qs_model.specs.Requests.{Client, Stage, edge}
 use Rattle.qs_model.specs.Worlds.{World}
 use Rattle.qs_bytes.specs.Geometry.{stripe_of}
-use Rattle.qs_model.specs.Acts.{Act, LoadFails, HoldFails, StoreFails, Element, Asked, Did, Planned}
+use Rattle.qs_model.specs.Acts.{Act, LoadFails, HoldFails, StoreFails, SyncFails, Element, Asked, Did, Planned}
 use Rattle.qs_model.specs.Events.{IsEvent}
 
 -- what comes from outside: an event, or a failure that is planned for the disk of a stripe
@@ -24,6 +24,7 @@ abbrev pub IsRowPlanned : ℕ → World → Client → {stage : Stage} → Act s
 IsRowPlanned A w c (LoadFails {b = b}) = (w.plans (stripe_of b)).load ≡ true
 IsRowPlanned A w c (HoldFails {side = side}) = (w.plans (stripe_of (edge A c side))).load ≡ true
 IsRowPlanned A w c (StoreFails {b = b} bytes took past) = (w.plans (stripe_of b)).store ≡ Some took
+IsRowPlanned A w c (SyncFails {s = s}) = (w.plans s).sync ≡ true
 IsRowPlanned A w c _ = Unit {0}
 
 -- no disk failed but by a plan
@@ -36,7 +37,7 @@ abbrev pub IsGivenAlike : Element → Element → Type 0
 IsGivenAlike (Asked r c) (Asked s d) = d.buffered ≡ c.buffered
 IsGivenAlike _ _ = Unit {0}
 
--- Two states that differ at most in what a crash may leave of the blocks, and in which stripes are clean.
+-- Two states that differ at most in what a crash may leave of the blocks.
 pub record Alike (w v : World) : Type 0 where
   pub tells : v.tells ≡ w.tells
   pub next : v.next ≡ w.next
@@ -47,4 +48,5 @@ pub record Alike (w v : World) : Type 0 where
   pub tracker : v.tracker ≡ w.tracker
   pub now : (b : ℕ) → v.image.now b ≡ w.image.now b
   pub holder : (b : ℕ) → v.image.holder b ≡ w.image.holder b
+  pub clean : (s : ℕ) → v.image.clean s ≡ w.image.clean s
   pub plans : (j : ℕ) → v.plans j ≡ w.plans j

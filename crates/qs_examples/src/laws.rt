@@ -1,9 +1,11 @@
-ghost use Rattle.std.specs.Prelude.{◌≡◌, [], ◌∷◌};
+ghost use Rattle.std.specs.Prelude.{◌≡◌, true, [], ◌∷◌};
 ghost use Rattle.std.specs.List.{filter_map};
 ghost use Rattle.qs_model.specs.Events.{outcome_of};
 ghost use Rattle.qs_model.specs.Laws.{opening};
 ghost use Rattle.qs_model.specs.Steps.{after, Runs};
+ghost use Rattle.qs_model.specs.Example.{zeros};
 ghost use Rattle.qs_examples.specs.Examples.{opened, first, second, reading, reading_answers, failing, failing_answers, dropping, dropping_answers, refusing, refusing_answers};
+ghost use Rattle.qs_examples.specs.OtherKinds.{dirty, flushing, flushing_answers, locked, trimming, trimming_answers, zeroing, zeroing_answers};
 
 /// A READ of two bytes at the seam of two blocks loads both and is answered by these bytes.
 pub fn read()
@@ -31,4 +33,26 @@ pub fn dropped()
 pub fn refused()
     ensures runs { Runs 4 (opening opened) refusing }
     ensures answers { filter_map (outcome_of 4) refusing ≡ refusing_answers }
+{}
+
+/// A FLUSH over an image where something was stored on stripe 0 since its last sync: that stripe is
+/// synced, the other seven are clean, and then it is answered. The places that it names say nothing.
+pub fn flushed()
+    ensures runs { Runs 4 (opening dirty) flushing }
+    ensures answers { filter_map (outcome_of 4) flushing ≡ flushing_answers }
+    ensures clean { (after 4 (opening dirty) flushing).image.clean 0 ≡ true }
+{}
+
+/// A WRITE_ZEROES of the second block with FUA stores zeros, syncs the one stripe of its blocks, and is
+/// answered then: a crash leaves nothing but the zeros.
+pub fn zeroed()
+    ensures runs { Runs 4 (opening opened) zeroing }
+    ensures answers { filter_map (outcome_of 4) zeroing ≡ zeroing_answers }
+    ensures left { (after 4 (opening opened) zeroing).image.past 1 ≡ zeros ∷ [] }
+{}
+
+/// A TRIM by an export of a read-only image, that isn't writable, is answered by EPERM.
+pub fn trim_refused()
+    ensures runs { Runs 4 (opening locked) trimming }
+    ensures answers { filter_map (outcome_of 4) trimming ≡ trimming_answers }
 {}

@@ -9,6 +9,7 @@ use Rattle.qs_model.proofs.Facts.{Ok}
 use Rattle.qs_model.proofs.Cells.{covered, histories}
 use Rattle.qs_model.proofs.Seen.{none_older}
 use Rattle.qs_model.proofs.Between.{between, writable, tracked, in_place}
+use Rattle.qs_model.proofs.ReadOnly.{no_store, opened_barred}
 use Rattle.qs_model.proofs.ReadsOnce.{reads_once}
 use Rattle.qs_model.proofs.WritesOnce.{writes_once}
 use Rattle.qs_model.proofs.Undivided.{undivided}
@@ -34,6 +35,7 @@ besides A o es pos run =
       writes_once = writes_once A (opening o) es pos ok (λ r. refl) refl run;
       never_odd = never_odd A (opening o) es pos ok run;
       writable = writable A (opening o) es pos ok (λ r. refl) run;
+      read_only = λ closed. no_store A (opening o) es pos ok (opened_barred o closed) run;
       tracked = tracked A (opening o) es pos ok run;
       in_place = in_place A (opening o) es pos ok run;
       evented = evented A (opening o) es run;

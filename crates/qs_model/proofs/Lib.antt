@@ -16,6 +16,7 @@ pub mod Never
 pub mod Along
 pub mod Undivided
 pub mod Between
+pub mod ReadOnly
 pub mod Walk
 pub mod Once
 pub mod ReadsOnce

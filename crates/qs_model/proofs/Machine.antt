@@ -4,14 +4,14 @@ use Rattle.qs_bytes.proofs.Overlays.{length-part}
 use Rattle.qs_bytes.specs.declared.ask.Verdict.TheVariants.{Got, Fine}
 use Rattle.qs_part.specs.declared.stripe.Side.{Side}
 use Rattle.qs_part.specs.declared.stripe.Side.TheVariants.{Head, Tail}
-use Rattle.qs_model.specs.Requests.{Client, Pads, Req, Step, Stage, edge, has, span_of, reads, writes, wants_writable, is_flush, is_trim, ToSync, piece, routed, held, started, loaded, stored, hold_failed, store_failed, synced}
+use Rattle.qs_model.specs.Requests.{Client, Pads, Req, Step, Stage, edge, has, span_of, reads, writes, wants_writable, is_flush, is_trim, piece, routed, held, started, loaded, stored, hold_failed, store_failed, synced}
 use Rattle.qs_model.specs.Worlds.{World}
 use Rattle.qs_model.specs.Acts.{Act, Answers, Waits, Enters, Routes, Shuts, Lists, Starts, Loads, LoadFails, Holds, HoldFails, Stores, StoreFails, Syncs, Cleans, SyncFails, Frees, Ends}
 use Rattle.qs_model.specs.Guards.{MayDo}
 use Rattle.qs_model.specs.Steps.{moved}
 use Rattle.qs_model.proofs.Basics.{choose, either, blocks_le, blocks_lt}
 use Rattle.qs_model.proofs.Geometry.{Reaches, head_low, head_high, tail_low, tail_high, reaches_edge, same_eqb}
-use Rattle.qs_model.proofs.RequestKinds.{neither, other_one, kind_stores, stores_writable, stores_no_flush, trim_no_read}
+use Rattle.qs_model.proofs.RequestKinds.{neither, other_one, kind_stores, stores_writable, trim_no_read}
 use Rattle.qs_model.proofs.Syncing.{stored_is, synced_is}
 use Rattle.qs_model.proofs.Facts.{IsKind, Sound, Loading, Holding, Storing, Syncing, Fit, Shaped, IsWhole}
 

@@ -60,7 +60,7 @@ module _ (A : ℕ) (x : ℕ) (r : ℕ) (c : Client) (bytes : List ℕ) (pos : 0 
       (λ in_size. choose P (d.ask.length == 0 || is_trim d.ask.kind) _ _ (λ e h. elim (either (d.ask.length == 0)) [
         | inl none ↦ absurd (some_read d h.0 none)
         | inr some ↦ let f : success d [] ≡ Fine = ap (λ b. cond b (Got []) Fine) (trim_no_read d.ask.kind (other_one _ _ e some)) in
-        let g : Fine ≡ Got bytes = sym f ∙ h.1 in absurd (cc)
+            let g : Fine ≡ Got bytes = sym f ∙ h.1 in absurd (cc)
       ]) (λ e h. h))))
 
   pub held_read : (d : Client) (k : ℕ) (side : Side) (es : List CellEntry) → stage_read d (In k (held A d side)) es → ⊥

@@ -1,5 +1,5 @@
 -- The kinds of request, and what a kind excludes.
-use Rattle.std.proofs.Common.{◌≡◌, Bool, true, false, ◌||◌, cond, refl, sym, true≢false}
+use Rattle.std.proofs.Common.{◌≡◌, Bool, true, false, ◌||◌, refl, sym, true≢false}
 use Rattle.qs_bytes.specs.declared.ask.Kind.{Kind}
 use Rattle.qs_bytes.specs.declared.ask.Kind.TheVariants.{Read, Write, Zero, Trim, Flush, Unknown}
 use Rattle.qs_model.specs.Requests.{is_known, is_read, is_flush, is_trim, brings_bytes, stores_bytes, wants_writable}

@@ -1,11 +1,11 @@
 -- A read stands behind all that its session had seen when it asked.
-use Rattle.std.proofs.Common.{◌≡◌, ℕ, ◌<◌, ◌⊎◌, inl, inr, Bool, true, false, cond, List, [], ◌∷◌, ◌++◌, Option, None, refl, sym, ap, ◌∙◌, append_assoc}
+use Rattle.std.proofs.Common.{◌≡◌, ℕ, inl, inr, Bool, true, false, cond, List, [], ◌∷◌, ◌++◌, ap, ◌∙◌, append_assoc}
 use Rattle.qs_cells.specs.declared.cell.CellEntry.{CellEntry}
 use Rattle.qs_cells.specs.declared.cell.CellEntry.TheVariants.{Read, Write, Maybe, Crash}
 use Rattle.qs_model.specs.Requests.{Client, Stage}
 use Rattle.qs_model.specs.Acts.{Act, Answers, Waits, Enters, Routes, Shuts, Lists, Starts, Loads, LoadFails, Holds, HoldFails, Stores, StoreFails, Syncs, Cleans, SyncFails, Frees, Ends, Element, Attached, NoExport, Crowded, Left, Detached, NotAttached, Asked, Did, Exported, Planned, Crashed}
-use Rattle.qs_model.specs.Histories.{Acts, cell_at, cell_of, reads_in, writes_in}
-use Rattle.qs_model.specs.Laws.{Between, ComesBehind, HasSeen, IsNoneOlder, IsRead, NoneOlder, WasAsked}
+use Rattle.qs_model.specs.Histories.{Acts, cell_of, reads_in, writes_in}
+use Rattle.qs_model.specs.Laws.{Between, ComesBehind, IsRead, NoneOlder, WasAsked}
 
 -- the step that made a request
 pub record WasMade (r : ℕ) (steps : List Element) : Type 0 where

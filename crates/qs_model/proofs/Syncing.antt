@@ -1,5 +1,5 @@
 -- Where a request goes that syncs, or has stored a block.
-use Rattle.std.proofs.Common.{◌≡◌, ℕ, zero, suc, ◌+◌, ◌-◌, ◌<◌, ◌≤◌, Bool, true, false, ◌==◌, arith}
+use Rattle.std.proofs.Common.{◌≡◌, ℕ, zero, suc, ◌+◌, ◌-◌, ◌<◌, ◌≤◌, true, false, ◌==◌, arith}
 use Rattle.qs_bytes.specs.declared.ask.Verdict.TheVariants.{Fine}
 use Rattle.qs_part.specs.declared.stripe.Side.TheVariants.{Tail}
 use Rattle.qs_model.specs.Requests.{Client, Step, ToStore, ToSync, ToEnd, edge, syncs, to_sync, stored, synced}

@@ -1,5 +1,5 @@
 -- The laws of every run from an opening world, whichever actor is next and whatever the disks answer.
-use Rattle.std.specs.Prelude.{◌≡◌, ◌≢◌, ◌↔◌, ℕ, ◌-◌, ◌*◌, ◌≤◌, ◌⊎◌, Bool, true, List, [], ◌∷◌, ◌++◌, length, filter, get_or, Some, IsTrue}
+use Rattle.std.specs.Prelude.{◌≡◌, ◌≢◌, ◌↔◌, ℕ, ◌-◌, ◌*◌, ◌⊎◌, true, List, [], ◌∷◌, ◌++◌, length, filter, get_or, Some, IsTrue}
 use Rattle.qs_bytes.specs.declared.ask.Verdict.TheVariants.{Got, Fine}
 use Rattle.qs_bytes.specs.Spans.{Covers, aligned_out}
 use Rattle.qs_cells.specs.declared.cell.CellEntry.{CellEntry}
@@ -112,6 +112,10 @@ abbrev pub Writable : List Element → Type 0
 Writable es = (r : ℕ) (c : Client) (before : List Element) (e : Element) → ComesBehind before e es → IsStore r c e →
     (c.route.writable ≡ true) × WasRouted r c.route before
 
+-- no request stores a block, nor tries to
+abbrev pub NoStore : List Element → Type 0
+NoStore es = (r : ℕ) (c : Client) (before : List Element) (e : Element) → ComesBehind before e es → IsStore r c e → ⊥
+
 -- Of the spans that go no two conflict, and of all listed spans the one of lowest number can start.
 pub record Ordered (t : TrackerValue) : Type 0 where
   pub apart : (j k : ℕ) (l m : Listing) → Goes t j l → Goes t k m → Conflict l m → j ≡ k
@@ -202,14 +206,15 @@ pub record Headline (A : ℕ) (w : World) (es : List Element) : Type 0 where
   pub covered : IsTrue w.tells → Covered A w es
   pub undivided : Undivided A es
 
--- What is kept besides: when requests act, what each READ and WRITE has done once, no odd answer, no store without leave, the order
--- of spans, places, and that each step is an event's.
+-- What is kept besides: when requests act, what each READ and WRITE has done once, no odd answer, no store without leave and none
+-- over a read-only file node, the order of spans, places, and that each step is an event's.
 pub record Besides (A : ℕ) (w : World) (es : List Element) : Type 0 where
   pub between : Between es
   pub reads_once : ReadsOnce A es
   pub writes_once : WritesOnce A es
   pub never_odd : NeverOdd es
   pub writable : Writable es
+  pub read_only : w.graph.read_only ≡ true → NoStore es
   pub tracked : Tracked A w es
   pub in_place : InPlace A w es
   pub evented : Evented A es

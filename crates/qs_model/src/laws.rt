@@ -1,11 +1,11 @@
-ghost use Rattle.std.specs.Prelude.{◌≡◌, ℕ, ◌<◌, List, [], ◌∷◌};
+ghost use Rattle.std.specs.Prelude.{◌≡◌, ℕ, ◌<◌, true, List, [], ◌∷◌};
 ghost use Rattle.std.specs.List.{filter_map};
 ghost use Rattle.qs_model.specs.Example.{opened, padded, answers};
 ghost use Rattle.qs_model.specs.Events.{outcome_of};
 ghost use Rattle.qs_model.specs.Acts.{Element};
 ghost use Rattle.qs_model.specs.Worlds.{Opening};
 ghost use Rattle.qs_model.specs.Steps.{after, Runs};
-ghost use Rattle.qs_model.specs.Laws.{opening, Besides, Between, ReadsOnce, WritesOnce, Undivided, NeverOdd, Writable, Tracked, InPlace, Evented, Headline};
+ghost use Rattle.qs_model.specs.Laws.{opening, Besides, Between, ReadsOnce, WritesOnce, Undivided, NeverOdd, NoStore, Writable, Tracked, InPlace, Evented, Headline};
 
 /// A request is asked once, and whatever it does, its entries too, stands between its Ask and its
 /// answer. So nothing that a session is told is older than what any session had been answered before
@@ -33,6 +33,13 @@ pub fn never_odd()
 pub fn writable()
     ensures { (A : ℕ) (o : Opening) (es : List Element) → 0 < A →
         Runs A (opening o) es → Writable es }
+{}
+
+/// Over a read-only file node nothing is stored: no request's Store is ever done or refused, and a crash
+/// leaves the file node read-only.
+pub fn read_only()
+    ensures { (A : ℕ) (o : Opening) (es : List Element) → 0 < A → o.read_only ≡ true →
+        Runs A (opening o) es → NoStore es }
 {}
 
 /// Of the started spans no two conflict, and of all listed spans the one of lowest number can start.

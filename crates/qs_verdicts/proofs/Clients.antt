@@ -9,7 +9,7 @@ use Rattle.qs_model.specs.Guards.{May}
 use Rattle.qs_model.specs.Steps.{happens, after, Runs}
 use Rattle.qs_model.proofs.Basics.{put_cases}
 use Rattle.qs_verdicts.specs.Traces.{attached, attached_step}
-use Rattle.qs_verdicts.specs.Kept.{IsAmong, IsOnce}
+use Rattle.qs_verdicts.specs.Lists.{IsAmong, IsOnce}
 use Rattle.qs_verdicts.proofs.Folds.{attached_more, if_other, if_same}
 
 -- the export that a session is at

@@ -1,25 +1,28 @@
 -- What holds at every position of a run.
-use Rattle.std.proofs.Common.{◌≡◌, ℕ, ◌<◌, Bool, true, false, ◌&&◌, ◌==◌, List, [], None, refl, sym, ap, ◌∙◌, subst, arith, true≢false}
+use Rattle.std.proofs.Common.{◌≡◌, ◌≢◌, ℕ, ◌<◌, inl, inr, Bool, true, false, ◌&&◌, ◌==◌, List, [], None, refl, sym, ap, ◌∙◌, subst, arith, true≢false}
+use Rattle.qs_bytes.specs.declared.ask.Kind.TheVariants.{Flush}
 use Rattle.qs_part.specs.declared.stripe.Side.{Side}
 use Rattle.qs_part.specs.declared.stripe.Side.TheVariants.{Head, Tail}
 use Rattle.qs_tracker.specs.declared.seat.Seat.TheVariants.{Present}
 use Rattle.qs_tracker.specs.Seats.{seat_at}
 use Rattle.qs_tracker.specs.Table.{TrackerValue}
-use Rattle.qs_model.specs.Requests.{Client, Req, Step, Stage, ToRoute, ToList, ToStart, ToLoad, ToHold, ToStore, ToFree, ToEnd, Ready, Entering, In, edge, has, serial}
+use Rattle.qs_model.specs.Requests.{Client, Req, Step, Stage, ToRoute, ToList, ToStart, ToLoad, ToHold, ToStore, ToSync, ToFree, ToEnd, Ready, Entering, In, edge, has, is_flush, serial}
 use Rattle.qs_model.specs.Worlds.{Hold, World}
 use Rattle.qs_model.specs.Acts.{Element}
 use Rattle.qs_model.specs.Laws.{InFlight}
 use Rattle.qs_model.specs.Steps.{Runs, after}
+use Rattle.qs_model.proofs.Basics.{either}
 use Rattle.qs_model.proofs.Between.{placed}
-use Rattle.qs_model.proofs.Facts.{Goes, Held, IsHolder, IsOpen, Keeps, Ok, Owner, Seated, Seats, Shaped, Sits, Well}
+use Rattle.qs_model.proofs.Facts.{Goes, Held, IsHolder, IsOpen, Keeps, Ok, Owner, Seated, Seats, Shaped, Sits, SyncSeat, Well}
 use Rattle.qs_model.proofs.Geometry.{has_serial, same_eqb}
 use Rattle.qs_model.proofs.Holders.{some_none}
 use Rattle.qs_model.proofs.Kept.{front_run, run_ok}
-use Rattle.qs_verdicts.specs.Kept.{AlwaysKept, HasHold, IsAtBlocks, IsHolding, Kept}
+use Rattle.qs_verdicts.specs.Kept.{AlwaysKept, HasHold, IsAtBlocks, IsHolding, Kept, is_spanless}
 use Rattle.qs_verdicts.specs.Traces.{Trace, kept, traced}
 use Rattle.qs_verdicts.proofs.Clients.{AreClients, run_clients}
+use Rattle.qs_verdicts.proofs.TableKinds.{flush_is}
 use Rattle.qs_verdicts.proofs.Traces.{AllTraced, run_traced}
-use Rattle.qs_verdicts.proofs.Tracing.{ListedAt, Opens, TraceAt, open_at}
+use Rattle.qs_verdicts.proofs.Tracing.{ListedAt, Opens, TraceAt, open_at, sound_spanned}
 
 -- a side's hold is open where the step says so
 and_both : (a b : Bool) → (a && b) ≡ true → (a ≡ true) × (b ≡ true)
@@ -40,6 +43,7 @@ opened A c (ToHold Tail) Head h = h
 opened A c (ToHold Tail) Tail h = absurd (true≢false (sym h))
 opened A c (ToStore b) Head h = let (a, e) = and_both (has A c Head) (b == edge A c Head) h in (a, same_eqb b (edge A c Head) e)
 opened A c (ToStore b) Tail h = h
+opened A c (ToSync s) side h = absurd (true≢false (sym h))
 opened A c (ToFree Head) Head h = tt
 opened A c (ToFree Head) Tail h = absurd (true≢false (sym h))
 opened A c (ToFree Tail) Head h = absurd (true≢false (sym h))
@@ -60,6 +64,7 @@ is_opened A c ToList side h = absurd h
 is_opened A c ToStart side h = absurd h
 is_opened A c (ToLoad b got) side h = absurd h
 is_opened A c (ToHold Head) side h = absurd h
+is_opened A c (ToSync s) side h = absurd h
 is_opened A c (ToHold Tail) Tail h = absurd h
 is_opened A c (ToFree Head) Tail h = absurd h
 is_opened A c (ToFree Tail) Head h = absurd h
@@ -82,6 +87,7 @@ holding A c ToList side h = absurd h
 holding A c ToStart side h = absurd h
 holding A c (ToLoad b got) side h = absurd h
 holding A c (ToHold Head) side h = absurd h
+holding A c (ToSync s) side h = absurd h
 holding A c (ToHold Tail) Tail h = absurd h
 holding A c (ToFree Head) Tail h = absurd h
 holding A c (ToFree Tail) Head h = absurd h
@@ -99,6 +105,7 @@ open_serial A k c ToList side pos fit h = absurd h
 open_serial A k c ToStart side pos fit h = absurd h
 open_serial A k c (ToLoad b got) side pos fit h = absurd h
 open_serial A k c (ToHold Head) side pos fit h = absurd h
+open_serial A k c (ToSync s) side pos fit h = absurd h
 open_serial A k c (ToHold Tail) Tail pos fit h = absurd h
 open_serial A k c (ToFree Head) Tail pos fit h = absurd h
 open_serial A k c (ToFree Tail) Head pos fit h = absurd h
@@ -112,8 +119,12 @@ sits_by A v c k ToStart t seat at h = seat
 sits_by A v c k (ToLoad b got) t seat at h = seat.sits
 sits_by A v c k (ToHold side) t seat at h = seat.sits
 sits_by A v c k (ToStore b) t seat at h = seat.sits
+sits_by A v c k (ToSync s) t seat at h = elim (either (is_flush c.ask.kind)) [
+  | inl flush ↦ absurd (true≢false (sym h ∙ at.0 flush))
+  | inr other ↦ (seat.goes other).sits
+]
 sits_by A v c k (ToFree side) t seat at h = seat.sits
-sits_by A v c k (ToEnd answer) t seat at h = at.0 h
+sits_by A v c k (ToEnd answer) t seat at h = at.sits h
 
 present_by : (A : ℕ) (v : TrackerValue) (c : Client) (k : ℕ) (step : Step) (t : Trace) → Seated A v c k step → ListedAt A v c k step t → t.listed ≡ false → seat_at v.seats k ≡ Present
 present_by A v c k ToRoute t seat at h = seat
@@ -122,8 +133,38 @@ present_by A v c k ToStart t seat at h = absurd (true≢false (sym at ∙ h))
 present_by A v c k (ToLoad b got) t seat at h = absurd (true≢false (sym at ∙ h))
 present_by A v c k (ToHold side) t seat at h = absurd (true≢false (sym at ∙ h))
 present_by A v c k (ToStore b) t seat at h = absurd (true≢false (sym at ∙ h))
+present_by A v c k (ToSync s) t seat at h = elim (either (is_flush c.ask.kind)) [
+  | inl flush ↦ seat.spanless flush
+  | inr other ↦ absurd (true≢false (sym (at.1 other) ∙ h))
+]
 present_by A v c k (ToFree side) t seat at h = absurd (true≢false (sym at ∙ h))
-present_by A v c k (ToEnd answer) t seat at h = at.1 h
+present_by A v c k (ToEnd answer) t seat at h = at.present h
+
+-- a FLUSH or a TRIM has no span
+unlisted_by : (A : ℕ) (v : TrackerValue) (c : Client) (k : ℕ) (step : Step) (t : Trace) → Shaped A c (In k step) → Seated A v c k step → ListedAt A v c k step t →
+    is_spanless c.ask.kind ≡ true → seat_at v.seats k ≡ Present
+unlisted_by A v c k ToRoute t fit seat at h = seat
+unlisted_by A v c k ToList t fit seat at h = seat
+unlisted_by A v c k ToStart t fit seat at h = absurd (true≢false (sym h ∙ sound_spanned c fit))
+unlisted_by A v c k (ToLoad b got) t fit seat at h = absurd (true≢false (sym h ∙ sound_spanned c fit.sound))
+unlisted_by A v c k (ToHold side) t fit seat at h = absurd (true≢false (sym h ∙ sound_spanned c fit.sound))
+unlisted_by A v c k (ToStore b) t fit seat at h = absurd (true≢false (sym h ∙ sound_spanned c fit.sound))
+unlisted_by A v c k (ToSync s) t fit seat at h = elim (either (is_flush c.ask.kind)) [
+  | inl flush ↦ seat.spanless flush
+  | inr other ↦ absurd (true≢false (sym h ∙ sound_spanned c (fit.sound other)))
+]
+unlisted_by A v c k (ToFree side) t fit seat at h = absurd (true≢false (sym h ∙ sound_spanned c fit.sound))
+unlisted_by A v c k (ToEnd answer) t fit seat at h = elim (either t.listed) [
+  | inl listed ↦ absurd (true≢false (sym h ∙ at.spanned listed))
+  | inr none ↦ at.present none
+]
+
+-- what syncs and is no FLUSH goes
+sync_goes : (A : ℕ) (v : TrackerValue) (c : Client) (k s : ℕ) → SyncSeat A v c k → c.ask.kind ≢ Flush → Goes A v c k
+sync_goes A v c k s seat other = elim (either (is_flush c.ask.kind)) [
+  | inl flush ↦ absurd (other (flush_is c.ask.kind flush))
+  | inr none ↦ seat.goes none
+]
 
 goes_by : (A : ℕ) (v : TrackerValue) (c : Client) (k : ℕ) (step : Step) → Seated A v c k step → IsAtBlocks step → Goes A v c k
 goes_by A v c k (ToLoad b got) seat at = seat
@@ -133,6 +174,7 @@ goes_by A v c k (ToFree side) seat at = seat
 goes_by A v c k ToRoute seat at = absurd at
 goes_by A v c k ToList seat at = absurd at
 goes_by A v c k ToStart seat at = absurd at
+goes_by A v c k (ToSync s) seat at = absurd at
 goes_by A v c k (ToEnd answer) seat at = absurd at
 
 -- what is traced of a request in flight
@@ -189,9 +231,17 @@ keeps A w before pos ok all clients = record {
       (s.own, (s.is, record { span = s.span; serial = s.serial }));
   spanless = λ r k f listed.
       let x = flies A w before r k f ok all in present_by A w.tracker f.request.client k f.step (traced A r before) x.seated x.listed listed;
+  unlisted = λ r k f is.
+      let x = flies A w before r k f ok all in
+      unlisted_by A w.tracker f.request.client k f.step (traced A r before) x.shaped x.seated x.listed is;
   started = λ r k f at.
       let x = flies A w before r k f ok all in
       let g : Goes A w.tracker f.request.client k = goes_by A w.tracker f.request.client k f.step x.seated at in
+      (g.sits.own, (g.sits.is, g.started));
+  syncing = λ r k s f is other.
+      let x = flies A w before r k f ok all in
+      let g : Goes A w.tracker f.request.client k =
+      sync_goes A w.tracker f.request.client k s (subst (λ (step : Step). Seated A w.tracker f.request.client k step) is x.seated) other in
       (g.sits.own, (g.sits.is, g.started));
   held = λ b h is. holder_at A w before h b pos ok all (ok.owned b h is);
   holds = λ r k f side is.

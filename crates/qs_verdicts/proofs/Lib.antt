@@ -1,4 +1,6 @@
 pub mod Folds
+pub mod Stripes
+pub mod TableKinds
 pub mod Lines
 pub mod Telling
 pub mod Stories

@@ -3,14 +3,14 @@ use Rattle.std.proofs.Common.{◌≡◌, ◌≢◌, ℕ, Bool, true, false, not,
 use Rattle.qs_bytes.specs.Payloads.{max_payload}
 use Rattle.qs_bytes.specs.declared.ask.Ask.{Ask}
 use Rattle.qs_bytes.specs.declared.ask.Kind.{Kind}
-use Rattle.qs_bytes.specs.declared.ask.Kind.TheVariants.{Read}
+use Rattle.qs_bytes.specs.declared.ask.Kind.TheVariants.{Read, Write, Zero, Trim, Flush, Unknown}
 use Rattle.qs_bytes.specs.declared.ask.Errno.TheVariants.{Perm, Io, NoMem, Inval, NoSpace}
 use Rattle.qs_bytes.specs.declared.ask.Verdict.{Verdict}
 use Rattle.qs_bytes.specs.declared.ask.Verdict.TheVariants.{Got, Fine, Refused, Dropped}
 use Rattle.qs_part.specs.declared.graph.Route.{Route}
-use Rattle.qs_model.specs.Requests.{is_read, is_write}
+use Rattle.qs_model.specs.Requests.{is_flush, is_read, stores_bytes}
 use Rattle.qs_verdicts.specs.Stories.{Story, Way, Unknown, Shut, Given}
-use Rattle.qs_verdicts.specs.Verdicts.{MayWork, done, is_malformed, passes, reply_by_way, reply_of, reply_on_way}
+use Rattle.qs_verdicts.specs.Verdicts.{MayWork, done, is_malformed, is_served, needs_leave, needs_places, needs_room, passes, reply_by_way, reply_of, reply_on_way}
 
 -- a request that has passed every line but the last two
 abbrev pub Passed : Story → Type 0
@@ -37,56 +37,69 @@ no_room_reply a buffered way fault got form room =
     ap (λ (b : Bool). cond b (Some (Refused Inval)) (cond (not buffered) (Some (Refused NoMem)) (reply_by_way a way fault got))) form
     ∙ ap (λ (b : Bool). cond (not b) (Some (Refused NoMem)) (reply_by_way a way fault got)) room
 
--- a WRITE isn't a READ
-pub write_no_read : (k : Kind) → is_write k ≡ true → is_read k ≡ false
-write_no_read Read e = absurd (true≢false (sym e))
-write_no_read _ e = refl
-
 -- the line of permission
-pub perm_line : (a : Ask) (route : Route) (fault : Bool) (got : List ℕ) → (is_write a.kind && not route.writable) ≡ true → reply_on_way a route fault got ≡ Refused Perm
-perm_line a route fault got h = go (is_write a.kind && not route.writable) h
-  where
-    go : (b : Bool) → b ≡ true → cond b (Refused Perm) (cond (is_read a.kind && passes a route) (Refused Inval) (cond (is_write a.kind && passes a route) (Refused NoSpace) (if fault then Refused Io else done a got))) ≡ Refused Perm
-    go true e = refl
-    go false e = absurd (true≢false (sym e))
+pub perm_line : (a : Ask) (route : Route) (fault : Bool) (got : List ℕ) → (needs_leave a.kind && not route.writable) ≡ true → reply_on_way a route fault got ≡ Refused Perm
+perm_line a route fault got h =
+    ap (λ (b : Bool). cond b (Refused Perm) (cond (needs_places a.kind && passes a route) (Refused Inval) (cond (needs_room a.kind && passes a route) (Refused NoSpace) (if fault then Refused Io else done a got)))) h
 
--- what is served is a READ or a WRITE
-pub served_kind : (a : Ask) → is_malformed a ≡ false → is_write a.kind ≡ false → is_read a.kind ≡ true
-served_kind a form none = go (is_read a.kind) (is_write a.kind) (not a.flags_fit) a.fua (is_read a.kind && nat_lt max_payload a.length) form none
+-- the lines behind that of permission
+allowed_line : (a : Ask) (route : Route) (fault : Bool) (got : List ℕ) → (needs_leave a.kind && not route.writable) ≡ false →
+    reply_on_way a route fault got ≡ cond (needs_places a.kind && passes a route) (Refused Inval) (cond (needs_room a.kind && passes a route) (Refused NoSpace) (if fault then Refused Io else done a got))
+allowed_line a route fault got h =
+    ap (λ (b : Bool). cond b (Refused Perm) (cond (needs_places a.kind && passes a route) (Refused Inval) (cond (needs_room a.kind && passes a route) (Refused NoSpace) (if fault then Refused Io else done a got)))) h
+
+-- what is well formed is served
+pub good_kind : (a : Ask) → is_malformed a ≡ false → is_served a.kind ≡ true
+good_kind a form = go (is_served a.kind) (not a.flags_fit) (is_read a.kind && nat_lt max_payload a.length) form
   where
-    go : (r w x y z : Bool) → (not (r || w) || x || y || z) ≡ false → w ≡ false → r ≡ true
-    go true w x y z e f = refl
-    go false true x y z e f = absurd (true≢false f)
-    go false false x y z e f = absurd (true≢false e)
+    go : (b x y : Bool) → (not b || x || y) ≡ false → b ≡ true
+    go true x y e = refl
+    go false x y e = absurd (true≢false e)
 
 -- the line of the range
-pub range_line : (a : Ask) (route : Route) (fault : Bool) (got : List ℕ) → is_malformed a ≡ false → (is_write a.kind && not route.writable) ≡ false → passes a route ≡ true →
-    reply_on_way a route fault got ≡ Refused (if is_write a.kind then NoSpace else Inval)
-range_line a route fault got form may past =
-    ap (λ (b : Bool). cond b (Refused Perm) (cond (is_read a.kind && passes a route) (Refused Inval) (cond (is_write a.kind && passes a route) (Refused NoSpace) (if fault then Refused Io else done a got)))) may
-    ∙ ap (λ (b : Bool). cond (is_read a.kind && b) (Refused Inval) (cond (is_write a.kind && b) (Refused NoSpace) (if fault then Refused Io else done a got))) past
-    ∙ go (is_read a.kind) (is_write a.kind) (served_kind a form) (write_no_read a.kind)
+pub range_line : (a : Ask) (route : Route) (fault : Bool) (got : List ℕ) → is_malformed a ≡ false → (needs_leave a.kind && not route.writable) ≡ false →
+    is_flush a.kind ≡ false → passes a route ≡ true → reply_on_way a route fault got ≡ Refused (if stores_bytes a.kind then NoSpace else Inval)
+range_line a route fault got form may other past =
+    allowed_line a route fault got may
+    ∙ ap (λ (b : Bool). cond (needs_places a.kind && b) (Refused Inval) (cond (needs_room a.kind && b) (Refused NoSpace) (if fault then Refused Io else done a got))) past
+    ∙ go a.kind (good_kind a form) other (if fault then Refused Io else done a got)
   where
-    go : (r w : Bool) → (w ≡ false → r ≡ true) → (w ≡ true → r ≡ false) →
-        cond (r && true) (Refused Inval) (cond (w && true) (Refused NoSpace) (if fault then Refused Io else done a got)) ≡ Refused (cond w NoSpace Inval)
-    go true true f g = absurd (true≢false (g refl))
-    go true false f g = refl
-    go false true f g = refl
-    go false false f g = absurd (true≢false (sym (f refl)))
+    go : (k : Kind) → is_served k ≡ true → is_flush k ≡ false → (v : Verdict) →
+        cond (needs_places k && true) (Refused Inval) (cond (needs_room k && true) (Refused NoSpace) v) ≡ Refused (cond (stores_bytes k) NoSpace Inval)
+    go Read served other v = refl
+    go Write served other v = refl
+    go Zero served other v = refl
+    go Trim served other v = refl
+    go Flush served other v = absurd (true≢false other)
+    go (Unknown n) served other v = absurd (true≢false (sym served))
 
--- no line but the last two
-pub passed_line : (a : Ask) (route : Route) (fault : Bool) (got : List ℕ) → (is_write a.kind && not route.writable) ≡ false → passes a route ≡ false →
+-- no line but the last two, where the range doesn't pass the end
+pub passed_line : (a : Ask) (route : Route) (fault : Bool) (got : List ℕ) → (needs_leave a.kind && not route.writable) ≡ false → passes a route ≡ false →
     reply_on_way a route fault got ≡ (if fault then Refused Io else done a got)
 passed_line a route fault got may inside =
-    ap (λ (b : Bool). cond b (Refused Perm) (cond (is_read a.kind && passes a route) (Refused Inval) (cond (is_write a.kind && passes a route) (Refused NoSpace) (if fault then Refused Io else done a got)))) may
-    ∙ ap (λ (b : Bool). cond (is_read a.kind && b) (Refused Inval) (cond (is_write a.kind && b) (Refused NoSpace) (if fault then Refused Io else done a got))) inside
-    ∙ go (is_read a.kind) (is_write a.kind)
+    allowed_line a route fault got may
+    ∙ ap (λ (b : Bool). cond (needs_places a.kind && b) (Refused Inval) (cond (needs_room a.kind && b) (Refused NoSpace) (if fault then Refused Io else done a got))) inside
+    ∙ go (needs_places a.kind) (needs_room a.kind)
   where
-    go : (r w : Bool) → cond (r && false) (Refused Inval) (cond (w && false) (Refused NoSpace) (if fault then Refused Io else done a got)) ≡ (if fault then Refused Io else done a got)
+    go : (p r : Bool) → cond (p && false) (Refused Inval) (cond (r && false) (Refused NoSpace) (if fault then Refused Io else done a got)) ≡ (if fault then Refused Io else done a got)
     go true true = refl
     go true false = refl
     go false true = refl
     go false false = refl
+
+-- nor for a FLUSH, whatever range it names
+pub flush_line : (a : Ask) (route : Route) (fault : Bool) (got : List ℕ) → is_flush a.kind ≡ true →
+    reply_on_way a route fault got ≡ (if fault then Refused Io else done a got)
+flush_line a route fault got is = go a.kind is (not route.writable) (passes a route) (if fault then Refused Io else done a got)
+  where
+    go : (k : Kind) → is_flush k ≡ true → (x y : Bool) (v : Verdict) →
+        cond (needs_leave k && x) (Refused Perm) (cond (needs_places k && y) (Refused Inval) (cond (needs_room k && y) (Refused NoSpace) v)) ≡ v
+    go Flush e x y v = refl
+    go Read e x y v = absurd (true≢false (sym e))
+    go Write e x y v = absurd (true≢false (sym e))
+    go Zero e x y v = absurd (true≢false (sym e))
+    go Trim e x y v = absurd (true≢false (sym e))
+    go (Unknown n) e x y v = absurd (true≢false (sym e))
 
 -- a verdict that tells of a fault
 abbrev pub is_io : Verdict → Bool
@@ -109,7 +122,7 @@ pub no_fault_io : (a : Ask) (buffered : Bool) (way : Way) (got : List ℕ) → i
 no_fault_io a buffered way got = go (is_malformed a) buffered way
   where
     on_way : (route : Route) → is_io (reply_on_way a route false got) ≡ false
-    on_way route = pick (is_write a.kind && not route.writable) (is_read a.kind && passes a route) (is_write a.kind && passes a route)
+    on_way route = pick (needs_leave a.kind && not route.writable) (needs_places a.kind && passes a route) (needs_room a.kind && passes a route)
       where
         pick : (x y z : Bool) → is_io (cond x (Refused Perm) (cond y (Refused Inval) (cond z (Refused NoSpace) (done a got)))) ≡ false
         pick true y z = refl
@@ -142,7 +155,7 @@ never_dropped a buffered way fault got is = true≢false (ap is_dropped (sym is)
     ends false false = refl
 
     on_way : (route : Route) → is_dropped (Some (reply_on_way a route fault got)) ≡ false
-    on_way route = pick (is_write a.kind && not route.writable) (is_read a.kind && passes a route) (is_write a.kind && passes a route)
+    on_way route = pick (needs_leave a.kind && not route.writable) (needs_places a.kind && passes a route) (needs_room a.kind && passes a route)
       where
         pick : (x y z : Bool) → is_dropped (Some (cond x (Refused Perm) (cond y (Refused Inval) (cond z (Refused NoSpace) (if fault then Refused Io else done a got))))) ≡ false
         pick true y z = refl

@@ -1,5 +1,7 @@
 -- Each row keeps what is traced of its request: which holds are open, and whether its place has a span.
-use Rattle.std.proofs.Common.{◌≡◌, ℕ, ◌+◌, ◌<◌, ◌≤◌, Bool, true, false, not, ◌&&◌, ◌==◌, cond, nat_lt, List, refl, sym, ap, ◌∙◌, arith, true≢false, eq-eqb, ne_eqb}
+use Rattle.std.proofs.Common.{◌≡◌, ℕ, ◌+◌, ◌<◌, ◌≤◌, inl, inr, Bool, true, false, not, ◌&&◌, ◌||◌, ◌==◌, cond, nat_lt, List, refl, sym, ap, ◌∙◌, arith, true≢false, eq-eqb, ne_eqb}
+use Rattle.qs_bytes.specs.declared.ask.Kind.{Kind}
+use Rattle.qs_bytes.specs.declared.ask.Kind.TheVariants.{Read, Write, Zero, Trim, Flush, Unknown}
 use Rattle.qs_bytes.specs.declared.ask.Verdict.TheVariants.{Refused}
 use Rattle.qs_bytes.specs.declared.ask.Errno.TheVariants.{Io}
 use Rattle.qs_part.specs.declared.stripe.Side.{Side}
@@ -8,17 +10,19 @@ use Rattle.qs_tracker.specs.declared.seat.Seat.TheVariants.{Present}
 use Rattle.qs_tracker.specs.Seats.{seat_at}
 use Rattle.qs_tracker.specs.Table.{TrackerValue}
 use Rattle.qs_tracker.specs.History.{SameSeat}
-use Rattle.qs_model.specs.Requests.{Client, Pads, Step, Stage, ToRoute, ToList, ToStart, ToLoad, ToHold, ToStore, ToFree, ToEnd, Ready, Entering, In, edge, has, reads, writes, routed, held, started, loaded, stored, hold_failed, store_failed, abandoned}
+use Rattle.qs_model.specs.Requests.{Client, Pads, Step, Stage, ToRoute, ToList, ToStart, ToLoad, ToHold, ToStore, ToSync, ToFree, ToEnd, Ready, Entering, In, edge, has, is_flush, is_read, is_trim, stores_bytes, wants_writable, reads, routed, held, started, loaded, stored, synced, hold_failed, store_failed, abandoned}
 use Rattle.qs_model.specs.Worlds.{World}
-use Rattle.qs_model.specs.Acts.{Act, Answers, Waits, Enters, Routes, Shuts, Lists, Starts, Loads, LoadFails, Holds, HoldFails, Stores, StoreFails, Frees, Ends}
+use Rattle.qs_model.specs.Acts.{Act, Answers, Waits, Enters, Routes, Shuts, Lists, Starts, Loads, LoadFails, Holds, HoldFails, Stores, StoreFails, Syncs, Cleans, SyncFails, Frees, Ends}
 use Rattle.qs_model.specs.Guards.{MayDo}
 use Rattle.qs_model.specs.Steps.{moved, tracked}
-use Rattle.qs_model.proofs.Basics.{choose}
-use Rattle.qs_model.proofs.Facts.{IsAt, Shaped, Seats, Sits}
+use Rattle.qs_model.proofs.Basics.{choose, either}
+use Rattle.qs_model.proofs.Facts.{IsAt, Shaped, Seats, Sits, Sound, Syncing, SyncSeat}
 use Rattle.qs_model.proofs.Geometry.{Reaches}
 use Rattle.qs_model.proofs.Machine.{ForMoved}
-use Rattle.qs_model.proofs.Places.{starts_goes}
+use Rattle.qs_model.proofs.Places.{IsLater, held_later, hold_failed_later, loaded_later, started_later, starts_goes, store_failed_later, stored_later}
 use Rattle.qs_model.proofs.Others.{same_present, same_sits}
+use Rattle.qs_model.proofs.Syncing.{stored_is, synced_is}
+use Rattle.qs_verdicts.specs.Kept.{is_spanless}
 use Rattle.qs_verdicts.specs.Traces.{Trace, traced_row, with_kept, with_stored}
 
 -- whether the hold of a side is open at a step
@@ -34,11 +38,18 @@ open_at A c _ _ = false
 abbrev pub Opens : ℕ → Client → Step → Trace → Type 0
 Opens A c step t = (t.head ≡ open_at A c step Head) × (t.tail ≡ open_at A c step Tail)
 
+-- At the end of a request: one that was listed has its span, and isn't a FLUSH or a TRIM; one that wasn't has none.
+pub record EndAt (A : ℕ) (v : TrackerValue) (c : Client) (k : ℕ) (t : Trace) : Type 0 where
+  pub sits : t.listed ≡ true → Sits A v c k
+  pub present : t.listed ≡ false → seat_at v.seats k ≡ Present
+  pub spanned : t.listed ≡ true → is_spanless c.ask.kind ≡ false
+
 -- whether the span was listed
 abbrev pub ListedAt : ℕ → TrackerValue → Client → ℕ → Step → Trace → Type 0
 ListedAt A v c k ToRoute t = t.listed ≡ false
 ListedAt A v c k ToList t = t.listed ≡ false
-ListedAt A v c k (ToEnd answer) t = (t.listed ≡ true → Sits A v c k) × (t.listed ≡ false → seat_at v.seats k ≡ Present)
+ListedAt A v c k (ToSync s) t = (is_flush c.ask.kind ≡ true → t.listed ≡ false) × (is_flush c.ask.kind ≡ false → t.listed ≡ true)
+ListedAt A v c k (ToEnd answer) t = EndAt A v c k t
 ListedAt A v c k _ t = t.listed ≡ true
 
 abbrev pub TraceAt : ℕ → TrackerValue → Client → Stage → Trace → Type 0
@@ -46,48 +57,56 @@ TraceAt A v c (Ready answer) t = Unit {0}
 TraceAt A v c Entering t = (t.listed ≡ false) × (t.head ≡ false) × (t.tail ≡ false)
 TraceAt A v c (In k step) t = ListedAt A v c k step t × Opens A c step t
 
--- a step from the start on
-abbrev pub IsOn : Step → Type 0
-IsOn ToRoute = ⊥
-IsOn ToList = ⊥
-IsOn _ = Unit {0}
+-- a request that reads or stores is no FLUSH and no TRIM
+pub sound_spanned : (c : Client) → Sound c → is_spanless c.ask.kind ≡ false
+sound_spanned c sound = go c.ask.kind sound.kind
+  where
+    go : (k : Kind) → (is_read k ≡ false → stores_bytes k ≡ true) → is_spanless k ≡ false
+    go Read h = refl
+    go Write h = refl
+    go Zero h = refl
+    go Trim h = absurd (true≢false (sym (h refl)))
+    go Flush h = absurd (true≢false (sym (h refl)))
+    go (Unknown n) h = refl
+
+pub listed_end : (A : ℕ) (v : TrackerValue) (c : Client) (k : ℕ) (t : Trace) → t.listed ≡ true → Sits A v c k → Sound c → EndAt A v c k t
+listed_end A v c k t listed sits sound = record {
+  sits = λ _. sits;
+  present = λ h. absurd (true≢false (sym listed ∙ h));
+  spanned = λ _. sound_spanned c sound;
+}
+
+pub unlisted_end : (A : ℕ) (v : TrackerValue) (c : Client) (k : ℕ) (t : Trace) → t.listed ≡ false → seat_at v.seats k ≡ Present → EndAt A v c k t
+unlisted_end A v c k t listed there = record {
+  sits = λ h. absurd (true≢false (sym h ∙ listed));
+  present = λ _. there;
+  spanned = λ h. absurd (true≢false (sym h ∙ listed));
+}
 
 -- a request that sits at its place and was listed
-pub on_listed : (A : ℕ) (v : TrackerValue) (c : Client) (k : ℕ) (t : Trace) (step : Step) → IsOn step → t.listed ≡ true → Sits A v c k → ListedAt A v c k step t
-on_listed A v c k t ToRoute on listed sits = absurd on
-on_listed A v c k t ToList on listed sits = absurd on
-on_listed A v c k t ToStart on listed sits = listed
-on_listed A v c k t (ToLoad b got) on listed sits = listed
-on_listed A v c k t (ToHold side) on listed sits = listed
-on_listed A v c k t (ToStore b) on listed sits = listed
-on_listed A v c k t (ToFree side) on listed sits = listed
-on_listed A v c k t (ToEnd answer) on listed sits = (λ _. sits, λ h. absurd (true≢false (sym listed ∙ h)))
+pub on_listed : (A : ℕ) (v : TrackerValue) (c : Client) (k : ℕ) (t : Trace) (step : Step) → IsLater c step → t.listed ≡ true → Sits A v c k → Sound c →
+    ListedAt A v c k step t
+on_listed A v c k t ToRoute later listed sits sound = absurd later
+on_listed A v c k t ToList later listed sits sound = absurd later
+on_listed A v c k t ToStart later listed sits sound = absurd later
+on_listed A v c k t (ToLoad b got) later listed sits sound = listed
+on_listed A v c k t (ToHold side) later listed sits sound = listed
+on_listed A v c k t (ToStore b) later listed sits sound = listed
+on_listed A v c k t (ToSync s) later listed sits sound = (λ flush. absurd (true≢false (sym flush ∙ later)), λ _. listed)
+on_listed A v c k t (ToFree side) later listed sits sound = listed
+on_listed A v c k t (ToEnd answer) later listed sits sound = listed_end A v c k t listed sits sound
 
-pub held_on : (A : ℕ) (c : Client) (side : Side) → IsOn (held A c side)
-unfolding held
-held_on A c Head = choose (λ g. IsOn g) (has A c Tail) _ _ (λ _. tt) (λ _. tt)
-held_on A c Tail = tt
+-- a request that syncs, at its end: a FLUSH has no span
+pub sync_end : (A : ℕ) (v : TrackerValue) (c : Client) (k s : ℕ) (t : Trace) → SyncSeat A v c k → Syncing c s → ListedAt A v c k (ToSync s) t → EndAt A v c k t
+sync_end A v c k s t seat fit at = elim (either (is_flush c.ask.kind)) [
+  | inl flush ↦ unlisted_end A v c k t (at.0 flush) (seat.spanless flush)
+  | inr other ↦ listed_end A v c k t (at.1 other) (seat.goes other).sits (fit.sound other)
+]
 
-pub started_on : (A : ℕ) (c : Client) → IsOn (started A c)
-unfolding started
-started_on A c = choose (λ g. IsOn g) (reads c) _ _ (λ _. tt) (λ _. choose (λ g. IsOn g) (has A c Head) _ _ (λ _. tt) (λ _. held_on A c Head))
-
-pub loaded_on : (A : ℕ) (c : Client) (b : ℕ) (got bytes : List ℕ) → IsOn (loaded A c b got bytes)
-unfolding loaded
-loaded_on A c b got bytes = choose (λ g. IsOn g) (b == edge A c Tail) _ _ (λ _. tt) (λ _. tt)
-
-pub stored_on : (A : ℕ) (c : Client) (b : ℕ) → IsOn (stored A c b)
-unfolding stored
-stored_on A c b = choose (λ g. IsOn g) (b == edge A c Tail) _ _ (λ _. tt) (λ _. tt)
-
-pub hold_failed_on : (A : ℕ) (c : Client) (side : Side) → IsOn (hold_failed A c side)
-unfolding hold_failed
-hold_failed_on A c Head = tt
-hold_failed_on A c Tail = choose (λ g. IsOn g) (has A c Head) _ _ (λ _. tt) (λ _. tt)
-
-pub store_failed_on : (A : ℕ) (c : Client) (b : ℕ) → IsOn (store_failed A c b)
-unfolding store_failed
-store_failed_on A c b = choose (λ g. IsOn g) (has A c Tail && not (b == edge A c Tail)) _ _ (λ _. tt) (λ _. tt)
+pub synced_trace : (A : ℕ) (v : TrackerValue) (c : Client) (k s : ℕ) (t : Trace) → SyncSeat A v c k → Syncing c s → ListedAt A v c k (ToSync s) t →
+    (t.head ≡ false) × (t.tail ≡ false) → ListedAt A v c k (synced A c s) t × Opens A c (synced A c s) t
+synced_trace A v c k s t seat fit at shut =
+    synced_is (λ g. ListedAt A v c k g t × Opens A c g t) A c s (sync_end A v c k s t seat fit at, shut) (λ u small. (at, shut))
 
 -- the open holds after each kind of row
 and_true : (a b : Bool) → b ≡ true → (a && b) ≡ a
@@ -140,14 +159,15 @@ past_edge : (b e : ℕ) → e ≤ b → (b + 1 == e) ≡ false
 past_edge b e h = ne_eqb (b + 1) e (λ same. omega (arith, h, same))
 
 pub stored_opens : (A : ℕ) (c : Client) (b : ℕ) (t : Trace) → Reaches A c b → Opens A c (ToStore b) t → Opens A c (stored A c b) (with_stored A c t b)
-unfolding stored
 stored_opens A c b t reach opens =
-    choose (λ g. Opens A c g (with_stored A c t b)) (b == edge A c Tail) _ _
-    (λ over. (stored_head A c b t opens, ap (λ (s : Bool). cond s false t.tail) over))
+    stored_is (λ g. Opens A c g (with_stored A c t b)) A c b shut (λ over s small. shut over)
     (λ more. (
       stored_head A c b t opens ∙ sym (and_false (has A c Head) (b + 1 == edge A c Head) (past_edge b (edge A c Head) reach.first)),
       ap (λ (s : Bool). cond s false t.tail) more ∙ opens.1,
     ))
+  where
+    shut : (b == edge A c Tail) ≡ true → ((with_stored A c t b).head ≡ false) × ((with_stored A c t b).tail ≡ false)
+    shut over = (stored_head A c b t opens, ap (λ (s : Bool). cond s false t.tail) over)
 
 pub store_failed_opens : (A : ℕ) (c : Client) (b : ℕ) (t : Trace) → Opens A c (ToStore b) t → Opens A c (store_failed A c b) (with_stored A c t b)
 unfolding store_failed
@@ -169,10 +189,11 @@ pub routed_trace : (A : ℕ) (v : TrackerValue) (c : Client) (k : ℕ) (t : Trac
 unfolding routed
 routed_trace A v c k t listed shut there =
     let P : Step → Type 0 = λ g. ListedAt A v c k g t × Opens A c g t in
-    let ends : (t.listed ≡ true → Sits A v c k) × (t.listed ≡ false → seat_at v.seats k ≡ Present) = (λ h. absurd (true≢false (sym h ∙ listed)), λ _. there) in
-    choose P (writes c && not c.route.writable) _ _ (λ _. (ends, shut))
+    let ends : EndAt A v c k t = unlisted_end A v c k t listed there in
+    choose P (wants_writable c.ask.kind && not c.route.writable) _ _ (λ _. (ends, shut))
+    (λ _. choose P (is_flush c.ask.kind) _ _ (λ flush. ((λ _. listed, λ other. absurd (true≢false (sym flush ∙ other))), shut))
     (λ _. choose P (nat_lt c.route.size (c.ask.offset + c.ask.length)) _ _ (λ _. (ends, shut))
-    (λ _. choose P (c.ask.length == 0) _ _ (λ _. (ends, shut)) (λ _. (listed, shut))))
+    (λ _. choose P (c.ask.length == 0 || is_trim c.ask.kind) _ _ (λ _. (ends, shut)) (λ _. (listed, shut)))))
 
 -- keeping or giving up a block says nothing of the span
 kept_listed : (t : Trace) (side : Side) (b : Bool) → (with_kept t side b).listed ≡ t.listed
@@ -187,35 +208,43 @@ row_trace A w c d p Answers t pos may fit seats at = tt
 row_trace A w c d p (Waits wait) t pos may fit seats at = at
 row_trace A w c d p (Enters k) t pos may fit seats at = (at.0, (at.1, at.2))
 row_trace A w c d p (Routes {k = k} route) t pos may fit seats at = routed_trace A w.tracker (record c { route = route }) k t at.0 at.1 seats
-row_trace A w c d p (Shuts {k = k}) t pos may fit seats at = ((λ h. absurd (true≢false (sym h ∙ at.0)), λ _. seats), at.1)
+row_trace A w c d p (Shuts {k = k}) t pos may fit seats at = (unlisted_end A w.tracker c k t at.0 seats, at.1)
 row_trace A w c d p (Lists {k = k} n) t pos may fit seats at = (refl, at.1)
 row_trace A w c d p (Starts {k = k}) t pos may fit seats at =
-    (on_listed A _ c k t (started A c) (started_on A c) at.0 (starts_goes A w.tracker c k seats).sits, started_opens A c t at.1)
+    (on_listed A _ c k t (started A c) (started_later A c) at.0 (starts_goes A w.tracker c k seats).sits fit, started_opens A c t at.1)
 row_trace A w c d p (Loads {k = k} {b = b} {got = got} bytes) t pos may fit seats at =
-    (on_listed A w.tracker c k t (loaded A c b got bytes) (loaded_on A c b got bytes) at.0 seats.sits, loaded_opens A c b got bytes t at.1)
-row_trace A w c d p (LoadFails {k = k}) t pos may fit seats at = ((λ _. seats.sits, λ h. absurd (true≢false (sym at.0 ∙ h))), at.1)
-row_trace A w c d p (Holds {k = k} {side = side} bytes) t pos may fit seats at =
-    (on_listed A w.tracker c k (with_kept t side true) (held A c side) (held_on A c side) (kept_listed t side true ∙ at.0) seats.sits, held_opens A c side t fit.wanted at.1)
+    (on_listed A w.tracker c k t (loaded A c b got bytes) (loaded_later A c b got bytes) at.0 seats.sits fit.sound, loaded_opens A c b got bytes t at.1)
+row_trace A w c d p (LoadFails {k = k}) t pos may fit seats at = (listed_end A w.tracker c k t at.0 seats.sits fit.sound, at.1)
+row_trace A w c d p (Holds {k = k} {side = side} bytes) t pos may fit seats at = (
+  on_listed A w.tracker c k (with_kept t side true) (held A c side) (held_later A c side) (kept_listed t side true ∙ at.0) seats.sits fit.sound,
+  held_opens A c side t fit.wanted at.1,
+)
 row_trace A w c d p (HoldFails {k = k} {side = side}) t pos may fit seats at =
-    (on_listed A w.tracker c k t (hold_failed A c side) (hold_failed_on A c side) at.0 seats.sits, hold_failed_opens A c side t at.1)
+    (on_listed A w.tracker c k t (hold_failed A c side) (hold_failed_later A c side) at.0 seats.sits fit.sound, hold_failed_opens A c side t at.1)
 row_trace A w c d p (Stores {k = k} {b = b} bytes past) t pos may fit seats at =
-    (on_listed A w.tracker c k (with_stored A c t b) (stored A c b) (stored_on A c b) at.0 seats.sits, stored_opens A c b t fit.reach at.1)
+    (on_listed A w.tracker c k (with_stored A c t b) (stored A c b) (stored_later A c b fit.writing) at.0 seats.sits fit.sound, stored_opens A c b t fit.reach at.1)
 row_trace A w c d p (StoreFails {k = k} {b = b} bytes took past) t pos may fit seats at =
-    (on_listed A w.tracker c k (with_stored A c t b) (store_failed A c b) (store_failed_on A c b) at.0 seats.sits, store_failed_opens A c b t at.1)
+    (on_listed A w.tracker c k (with_stored A c t b) (store_failed A c b) (store_failed_later A c b) at.0 seats.sits fit.sound, store_failed_opens A c b t at.1)
+row_trace A w c d p (Syncs {k = k} {s = s}) t pos may fit seats at = synced_trace A w.tracker c k s t seats fit at.0 at.1
+row_trace A w c d p (Cleans {k = k} {s = s}) t pos may fit seats at = synced_trace A w.tracker c k s t seats fit at.0 at.1
+row_trace A w c d p (SyncFails {k = k} {s = s}) t pos may fit seats at = (sync_end A w.tracker c k s t seats fit at.0, at.1)
 row_trace A w c d p (Frees {k = k} {side = side}) t pos may fit seats at =
-    ((λ _. seats.sits, λ h. absurd (true≢false (sym (kept_listed t side false ∙ at.0) ∙ h))), freed_opens A c side t at.1)
+    (listed_end A w.tracker c k (with_kept t side false) (kept_listed t side false ∙ at.0) seats.sits fit.sound, freed_opens A c side t at.1)
 row_trace A w c d p Ends t pos may fit seats at = tt
 
 -- a request whose session leaves
-pub left_trace : (A : ℕ) (v : TrackerValue) (c : Client) (stage : Stage) (t : Trace) → Seats A v c stage → TraceAt A v c stage t → TraceAt A v c (abandoned stage) t
+pub left_trace : (A : ℕ) (v : TrackerValue) (c : Client) (stage : Stage) (t : Trace) → Seats A v c stage → TraceAt A v c stage t → TraceAt A v c (abandoned c stage) t
 left_trace A v c (Ready answer) t seats at = tt
 left_trace A v c Entering t seats at = tt
-left_trace A v c (In k ToRoute) t seats at = ((λ h. absurd (true≢false (sym h ∙ at.0)), λ _. seats), at.1)
-left_trace A v c (In k ToList) t seats at = ((λ h. absurd (true≢false (sym h ∙ at.0)), λ _. seats), at.1)
+left_trace A v c (In k ToRoute) t seats at = (unlisted_end A v c k t at.0 seats, at.1)
+left_trace A v c (In k ToList) t seats at = (unlisted_end A v c k t at.0 seats, at.1)
 left_trace A v c (In k ToStart) t seats at = at
 left_trace A v c (In k (ToLoad b got)) t seats at = at
 left_trace A v c (In k (ToHold side)) t seats at = at
 left_trace A v c (In k (ToStore b)) t seats at = at
+left_trace A v c (In k (ToSync s)) t seats at =
+    choose (λ g. ListedAt A v c k g t × Opens A c g t) (is_flush c.ask.kind) _ _
+    (λ flush. (unlisted_end A v c k t (at.0.0 flush) (seats.spanless flush), at.1)) (λ _. at)
 left_trace A v c (In k (ToFree side)) t seats at = at
 left_trace A v c (In k (ToEnd answer)) t seats at = at
 
@@ -230,6 +259,13 @@ same_trace A v u c (In k ToStart) t same at = at
 same_trace A v u c (In k (ToLoad b got)) t same at = at
 same_trace A v u c (In k (ToHold side)) t same at = at
 same_trace A v u c (In k (ToStore b)) t same at = at
+same_trace A v u c (In k (ToSync s)) t same at = at
 same_trace A v u c (In k (ToFree side)) t same at = at
-same_trace A v u c (In k (ToEnd answer)) t same at =
-    ((λ h. same_sits A v u c k (same k refl) (at.0.0 h), λ h. same_present _ _ (same k refl) (at.0.1 h)), at.1)
+same_trace A v u c (In k (ToEnd answer)) t same at = (
+  record {
+    sits = λ h. same_sits A v u c k (same k refl) (at.0.sits h);
+    present = λ h. same_present _ _ (same k refl) (at.0.present h);
+    spanned = at.0.spanned;
+  },
+  at.1,
+)

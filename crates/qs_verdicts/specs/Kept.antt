@@ -1,15 +1,18 @@
 -- What holds at every position of a run, of places, spans, holds, pads and clients.
-use Rattle.std.specs.Prelude.{◌≡◌, ◌↔◌, ℕ, ◌⊎◌, true, false, List, [], ◌∷◌, Some, IsTrue}
+use Rattle.std.specs.Prelude.{◌≡◌, ◌≢◌, ◌↔◌, ℕ, Bool, true, false, List, Some, IsTrue}
+use Rattle.qs_bytes.specs.declared.ask.Kind.{Kind}
+use Rattle.qs_bytes.specs.declared.ask.Kind.TheVariants.{Trim, Flush}
 use Rattle.qs_bytes.specs.Spans.{aligned_out}
 use Rattle.qs_part.specs.declared.stripe.Side.{Side}
 use Rattle.qs_tracker.specs.declared.seat.Listing.{Listing}
 use Rattle.qs_tracker.specs.declared.seat.Seat.TheVariants.{Present, Has}
 use Rattle.qs_tracker.specs.Seats.{seat_at}
-use Rattle.qs_model.specs.Requests.{Client, Step, ToLoad, ToHold, ToStore, ToFree, edge, pad, serial, span_of}
+use Rattle.qs_model.specs.Requests.{Client, Step, ToLoad, ToHold, ToStore, ToSync, ToFree, edge, pad, serial, span_of}
 use Rattle.qs_model.specs.Worlds.{Hold, World}
 use Rattle.qs_model.specs.Acts.{Element}
 use Rattle.qs_model.specs.Steps.{after}
 use Rattle.qs_model.specs.Laws.{Begins, InFlight, Placed}
+use Rattle.qs_verdicts.specs.Lists.{IsAmong, IsOnce}
 use Rattle.qs_verdicts.specs.Traces.{attached, kept, traced}
 
 -- the span of a request as the tracker has it: whole blocks, and serialising where it should be
@@ -41,27 +44,26 @@ pub record HasHold (A : ℕ) (w : World) (before : List Element) (h : Hold) (b :
   pub serialising : serial A flight.request.client ≡ true
   pub open_ : kept (traced A number before) h.side ≡ true
 
--- a session is in a list
-abbrev pub IsAmong : ℕ → List ℕ → Type 0
-IsAmong s [] = ⊥
-IsAmong s (x ∷ xs) = (x ≡ s) ⊎ IsAmong s xs
-
--- a list without repetition
-abbrev pub IsOnce : List ℕ → Type 0
-IsOnce [] = Unit {0}
-IsOnce (x ∷ xs) = (IsAmong x xs → ⊥) × IsOnce xs
+-- a FLUSH or a TRIM has no span
+abbrev pub is_spanless : Kind → Bool
+is_spanless Flush = true
+is_spanless Trim = true
+is_spanless _ = false
 
 -- The state behind these steps. Requests in flight have distinct places, and no other place is taken. A place has a span exactly
--- where its request was listed, and it is that request's; a request at its blocks has started. The holds are exactly the blocks
--- whose bytes a request has kept and has since neither stored nor freed, head at Head and tail at Tail, each on the request's
--- serialising span; the block that a request frees is one, and the block holds what was kept of it. The clients of an export
--- are exactly the sessions that are attached to it, each once.
+-- where its request was listed, and it is that request's; a FLUSH or a TRIM has none. A request at its blocks has started, and so
+-- has one that syncs and is no FLUSH. The holds are exactly the blocks whose bytes a request has kept and has since neither stored
+-- nor freed, head at Head and tail at Tail, each on the request's serialising span; the block that a request frees is one, and the
+-- block holds what was kept of it. The clients of an export are exactly the sessions that are attached to it, each once.
 pub record Kept (A : ℕ) (w : World) (before : List Element) : Type 0 where
   pub placed : Placed w
   pub span : (r k : ℕ) (f : InFlight w r k) → (traced A r before).listed ≡ true →
       (l : Listing) × ((seat_at w.tracker.seats k ≡ Has l) × IsSpanOf A f.request.client l)
   pub spanless : (r k : ℕ) → InFlight w r k → (traced A r before).listed ≡ false → seat_at w.tracker.seats k ≡ Present
+  pub unlisted : (r k : ℕ) (f : InFlight w r k) → is_spanless f.request.client.ask.kind ≡ true → seat_at w.tracker.seats k ≡ Present
   pub started : (r k : ℕ) (f : InFlight w r k) → IsAtBlocks f.step →
+      (l : Listing) × ((seat_at w.tracker.seats k ≡ Has l) × (l.started ≡ true))
+  pub syncing : (r k s : ℕ) (f : InFlight w r k) → f.step ≡ ToSync s → f.request.client.ask.kind ≢ Flush →
       (l : Listing) × ((seat_at w.tracker.seats k ≡ Has l) × (l.started ≡ true))
   pub held : (b : ℕ) (h : Hold) → w.image.holder b ≡ Some h → HasHold A w before h b
   pub holds : (r k : ℕ) (f : InFlight w r k) (side : Side) → kept (traced A r before) side ≡ true →

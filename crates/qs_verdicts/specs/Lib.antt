@@ -1,3 +1,4 @@
+pub mod Lists
 pub mod Stories
 pub mod Verdicts
 pub mod Traces

@@ -1,9 +1,9 @@
--- What happened to one request in a run, as its Ask, its Route and its blocks tell it. No stage of the machine is named here.
+-- What happened to one request in a run, as its Ask, its Route, its blocks and its syncs tell it. No stage of the machine is named here.
 use Rattle.std.specs.Prelude.{◌≡◌, ℕ, Bool, true, false, ◌||◌, ◌==◌, if◌then◌else◌, List, [], ◌∷◌, ◌++◌, Option, Some, None}
 use Rattle.qs_part.specs.declared.graph.Route.{Route}
 use Rattle.qs_part.specs.declared.stripe.Side.TheVariants.{Tail}
 use Rattle.qs_model.specs.Requests.{Client, Stage, edge, no_route, piece}
-use Rattle.qs_model.specs.Acts.{Act, Routes, Shuts, Lists, Loads, LoadFails, Holds, HoldFails, Stores, StoreFails, Frees, Element, Left, Asked, Did, Crashed}
+use Rattle.qs_model.specs.Acts.{Act, Routes, Shuts, Lists, Loads, LoadFails, Holds, HoldFails, Stores, StoreFails, Syncs, Cleans, SyncFails, Frees, Element, Left, Asked, Did, Crashed}
 
 -- what the graph said of a request's way: nothing yet, that its export doesn't stand any more, or the way
 pub data Way : Type 0 where
@@ -12,7 +12,8 @@ pub data Way : Type 0 where
   Given : Route → Way
 
 -- The request as it was made, its way, whether its session has left, whether its span was listed, whether it did anything to a
--- block, whether a disk failed in such a step, whether it loaded or stored its last block, and the covered bytes that it loaded.
+-- block or a stripe, whether a disk failed in such a step, whether it loaded or stored its last block, the covered bytes that it
+-- loaded, and the stripes that it synced since its last store, done or refused, in order: those that were answered Synced or Clean.
 pub record Story : Type 0 where
   pub client : Client
   pub way : Way
@@ -22,10 +23,11 @@ pub record Story : Type 0 where
   pub fault : Bool
   pub ended : Bool
   pub got : List ℕ
+  pub synced : List ℕ
 
 -- a request that was just made
 abbrev pub begun : Client → Story
-begun c = record { client = c; way = Unknown; left = false; listed = false; worked = false; fault = false; ended = false; got = [] }
+begun c = record { client = c; way = Unknown; left = false; listed = false; worked = false; fault = false; ended = false; got = []; synced = [] }
 
 abbrev pub route_by : Way → Route
 route_by (Given route) = route
@@ -48,8 +50,11 @@ told_row A n (Loads {b = b} bytes) = record n { worked = true; ended = n.ended |
 told_row A n LoadFails = record n { worked = true; fault = true }
 told_row A n (Holds bytes) = record n { worked = true }
 told_row A n HoldFails = record n { worked = true; fault = true }
-told_row A n (Stores {b = b} bytes past) = record n { worked = true; ended = n.ended || is_last A (sent n) b }
-told_row A n (StoreFails bytes took past) = record n { worked = true; fault = true }
+told_row A n (Stores {b = b} bytes past) = record n { worked = true; ended = n.ended || is_last A (sent n) b; synced = [] }
+told_row A n (StoreFails bytes took past) = record n { worked = true; fault = true; synced = [] }
+told_row A n (Syncs {s = s}) = record n { worked = true; synced = n.synced ++ s ∷ [] }
+told_row A n (Cleans {s = s}) = record n { worked = true; synced = n.synced ++ s ∷ [] }
+told_row A n SyncFails = record n { worked = true; fault = true }
 told_row A n Frees = record n { worked = true }
 told_row A n _ = n
 
