@@ -1,5 +1,5 @@
 -- A run of one actor ends: each step that goes on leads to a lower rank, and the next step may come.
-use Rattle.std.proofs.Common.{◌≡◌, ℕ, ◌+◌, ◌*◌, ◌-◌, ◌<◌, ◌≤◌, Bool, true, false, not, ◌&&◌, ◌==◌, nat_lt, List, Option, Some, None}
+use Rattle.std.proofs.Common.{◌≡◌, ℕ, zero, suc, ◌+◌, ◌*◌, ◌-◌, ◌<◌, ◌≤◌, Bool, true, false, not, ◌&&◌, ◌||◌, ◌==◌, nat_lt, List, Option, Some, None}
 use Rattle.std.proofs.Common.{refl, sym, ap, ◌∙◌, subst, arith, true≢false}
 use Rattle.qs_outside.specs.Blocks.{Seen}
 use Rattle.qs_part.specs.declared.event.Actor.{Actor}
@@ -11,9 +11,9 @@ use Rattle.qs_part.specs.declared.stripe.Side.{Side}
 use Rattle.qs_part.specs.declared.stripe.Side.TheVariants.{Head, Tail}
 use Rattle.qs_request.specs.declared.shape.Shape.{Shape}
 use Rattle.qs_model.specs.Requests.{Client, Pads, Req, Step, Stage, ToList, ToStart, ToHold, ToStore, ToFree, ToEnd, Entering, In}
-use Rattle.qs_model.specs.Requests.{edge, has, reads, writes, routed, held, started, loaded, stored, hold_failed, store_failed}
+use Rattle.qs_model.specs.Requests.{edge, has, is_flush, is_trim, reads, wants_writable, routed, held, started, loaded, stored, syncs, synced, to_sync, hold_failed, store_failed}
 use Rattle.qs_model.specs.Worlds.{World}
-use Rattle.qs_model.specs.Acts.{Act, Answers, Waits, Enters, Routes, Shuts, Lists, Starts, Loads, LoadFails, Holds, HoldFails, Stores, StoreFails, Frees, Ends}
+use Rattle.qs_model.specs.Acts.{Act, Answers, Waits, Enters, Routes, Shuts, Lists, Starts, Loads, LoadFails, Holds, HoldFails, Stores, StoreFails, Syncs, Cleans, SyncFails, Frees, Ends}
 use Rattle.qs_model.specs.Acts.{Wait, Quiesced, Full, NotYet, HeldBy, Taken, Strange, NotHeld, Element, Did, block_of}
 use Rattle.qs_model.specs.Guards.{May}
 use Rattle.qs_model.specs.Steps.{moved, happens}
@@ -28,44 +28,63 @@ use Rattle.qs_replay.specs.Ranks.{rank_of, rank_or, rank_at}
 
 -- where the operation of each stage leads
 
-routed_falls : (size k : ℕ) (c : Client) → rank_of size (In k (routed c)) < size + 8
+routed_falls : (size k : ℕ) (c : Client) → rank_of size (In k (routed c)) < size + 16
 unfolding routed
 routed_falls size k c =
-    let P : Step → Type 0 = λ g. rank_of size (In k g) < size + 8 in
-    choose P (writes c && not c.route.writable) _ _ (λ e. omega arith)
-    (λ may. choose P (nat_lt c.route.size (c.ask.offset + c.ask.length)) _ _ (λ e. omega arith)
-    (λ inside. choose P (c.ask.length == 0) _ _ (λ e. omega arith) (λ some. omega arith)))
+    let P : Step → Type 0 = λ g. rank_of size (In k g) < size + 16 in
+    choose P (wants_writable c.ask.kind && not c.route.writable) _ _ (λ e. omega arith)
+    (λ may. choose P (is_flush c.ask.kind) _ _ (λ e. omega arith)
+    (λ other. choose P (nat_lt c.route.size (c.ask.offset + c.ask.length)) _ _ (λ e. omega arith)
+    (λ inside. choose P (c.ask.length == 0 || is_trim c.ask.kind) _ _ (λ e. omega arith) (λ some. omega arith))))
 
 held_falls : (A size k : ℕ) (c : Client) (side : Side) → rank_of size (In k (held A c side)) < rank_of size (In k (ToHold side))
 unfolding held
-held_falls A size k c Head = choose (λ g. rank_of size (In k g) < size + 5) (has A c Tail) _ _ (λ e. omega arith) (λ e. omega arith)
+held_falls A size k c Head = choose (λ g. rank_of size (In k g) < size + 13) (has A c Tail) _ _ (λ e. omega arith) (λ e. omega arith)
 held_falls A size k c Tail = omega arith
 
-started_falls : (A size k : ℕ) (c : Client) → rank_of size (In k (started A c)) < size + 6
+started_falls : (A size k : ℕ) (c : Client) → rank_of size (In k (started A c)) < size + 14
 unfolding started
 started_falls A size k c =
-    let P : Step → Type 0 = λ g. rank_of size (In k g) < size + 6 in
-    let f : rank_of size (In k (held A c Head)) < size + 5 = held_falls A size k c Head in
+    let P : Step → Type 0 = λ g. rank_of size (In k g) < size + 14 in
+    let f : rank_of size (In k (held A c Head)) < size + 13 = held_falls A size k c Head in
     choose P (reads c) _ _ (λ e. omega arith) (λ e. choose P (has A c Head) _ _ (λ h. omega arith) (λ h. omega arith))
 
-loaded_falls : (A size k : ℕ) (c : Client) (b : ℕ) (got bytes : List ℕ) → b < size → rank_of size (In k (loaded A c b got bytes)) < (size - b) + 3
+loaded_falls : (A size k : ℕ) (c : Client) (b : ℕ) (got bytes : List ℕ) → b < size → rank_of size (In k (loaded A c b got bytes)) < (size - b) + 11
 unfolding loaded
 loaded_falls A size k c b got bytes inside =
-    choose (λ g. rank_of size (In k g) < (size - b) + 3) (b == edge A c Tail) _ _ (λ e. omega arith) (λ e. omega arith)
+    choose (λ g. rank_of size (In k g) < (size - b) + 11) (b == edge A c Tail) _ _ (λ e. omega arith) (λ e. omega arith)
 
-stored_falls : (A size k : ℕ) (c : Client) (b : ℕ) → b < size → rank_of size (In k (stored A c b)) < (size - b) + 3
+to_sync_falls : (A size k : ℕ) (c : Client) (n : ℕ) → rank_of size (In k (to_sync A c n)) ≤ n + 2
+unfolding to_sync
+to_sync_falls A size k c zero = omega arith
+to_sync_falls A size k c (suc n) =
+    let rest = to_sync_falls A size k c n in
+    choose (λ g. rank_of size (In k g) ≤ suc n + 2) (syncs A c (7 - n)) _ _ (λ e. omega arith) (λ e. omega (arith, rest))
+
+stored_falls : (A size k : ℕ) (c : Client) (b : ℕ) → b < size → rank_of size (In k (stored A c b)) < (size - b) + 11
 unfolding stored
-stored_falls A size k c b inside = choose (λ g. rank_of size (In k g) < (size - b) + 3) (b == edge A c Tail) _ _ (λ e. omega arith) (λ e. omega arith)
+stored_falls A size k c b inside =
+    let P : Step → Type 0 = λ g. rank_of size (In k g) < (size - b) + 11 in
+    let f = to_sync_falls A size k c 8 in
+    choose P (b == edge A c Tail) _ _ (λ e. choose P c.ask.fua _ _ (λ fua. omega (arith, f, inside)) (λ plain. omega arith)) (λ e. omega arith)
+
+synced_falls : (A size k : ℕ) (c : Client) (s : ℕ) → rank_of size (In k (synced A c s)) < (8 - s) + 2
+unfolding synced to_sync
+synced_falls A size k c s = go (7 - s) refl
+  where
+    go : (n : ℕ) → n ≡ 7 - s → rank_of size (In k (to_sync A c n)) < (8 - s) + 2
+    go zero e = omega arith
+    go (suc n) e = let f = to_sync_falls A size k c (suc n) in omega (arith, f, e)
 
 hold_failed_falls : (A size k : ℕ) (c : Client) (side : Side) → rank_of size (In k (hold_failed A c side)) < rank_of size (In k (ToHold side))
 unfolding hold_failed
 hold_failed_falls A size k c Head = omega arith
-hold_failed_falls A size k c Tail = choose (λ g. rank_of size (In k g) < size + 4) (has A c Head) _ _ (λ e. omega arith) (λ e. omega arith)
+hold_failed_falls A size k c Tail = choose (λ g. rank_of size (In k g) < size + 12) (has A c Head) _ _ (λ e. omega arith) (λ e. omega arith)
 
-store_failed_falls : (A size k : ℕ) (c : Client) (b : ℕ) → rank_of size (In k (store_failed A c b)) < (size - b) + 3
+store_failed_falls : (A size k : ℕ) (c : Client) (b : ℕ) → rank_of size (In k (store_failed A c b)) < (size - b) + 11
 unfolding store_failed
 store_failed_falls A size k c b =
-    choose (λ g. rank_of size (In k g) < (size - b) + 3) (has A c Tail && not (b == edge A c Tail)) _ _ (λ e. omega arith) (λ e. omega arith)
+    choose (λ g. rank_of size (In k g) < (size - b) + 11) (has A c Tail && not (b == edge A c Tail)) _ _ (λ e. omega arith) (λ e. omega arith)
 
 -- whether there is an outcome, and a run goes on behind it
 abbrev goes : Option Outcome → Bool
@@ -113,6 +132,9 @@ row_falls A size c d p (HoldFails {k = k} {side = side}) inside on = (hold_faile
 row_falls A size c d p (Stores {k = k} {b = b} bytes past) inside on =
     let (positive, fits) = inside b refl in (stored_falls A size k c b (block_below A size b positive fits), λ e. some_none e)
 row_falls A size c d p (StoreFails {k = k} {b = b} bytes took past) inside on = (store_failed_falls A size k c b, λ e. some_none e)
+row_falls A size c d p (Syncs {k = k} {s = s}) inside on = (synced_falls A size k c s, λ e. some_none e)
+row_falls A size c d p (Cleans {k = k} {s = s}) inside on = (synced_falls A size k c s, λ e. some_none e)
+row_falls A size c d p (SyncFails {k = k} {s = s}) inside on = (omega arith, λ e. some_none e)
 row_falls A size c d p Frees inside on = (omega arith, λ e. some_none e)
 row_falls A size c d p Ends inside on = absurd (true≢false (sym on))
 

@@ -1,6 +1,6 @@
 -- What a line did, by the way that its function ended.
 use Rattle.std.proofs.Common.{◌≡◌, ◌⊎◌, ◌<◌, ℕ, zero, suc, arith, List, [], ◌∷◌, ◌++◌, refl, append-nil, sym, subst, inl, inr, ap, ◌∙◌}
-use Rattle.std.specs.Prelude.{All, Bool, Option, Result, Ok, Err, true, false}
+use Rattle.std.specs.Prelude.{All, Bool, Option, None, Result, Ok, Err, true, false}
 use Rattle.std.specs.Result.{IsErrAnd}
 use Rattle.std.proofs.lemmas.List.Elements.{All-append, All-cons, All-nil}
 use Rattle.qs_part.specs.declared.event.Actor.{Actor}
@@ -19,7 +19,8 @@ use Rattle.qs_replay.specs.declared.stop.Stop.TheVariants as stop
 use Rattle.qs_replay.specs.declared.desk.Desk.{Desk}
 use Rattle.qs_replay.specs.Calls.{Call, Happened, Plays}
 use Rattle.qs_replay.specs.Tables.{Gives, IsKnown, IsUsed, Names, adds}
-use Rattle.qs_replay.specs.Effects.{GoesOn, IsActor, goes_on, AreFirst, IsAsked, IsEventOf, Played, PlaysLine, Stopped, UsesAgain, write_ask}
+use Rattle.qs_replay.specs.Effects.{GoesOn, IsActor, goes_on, AreFirst, AskedBy, IsAsked, IsEventOf, Played, PlaysLine, Stopped, UsesAgain, WasUsed}
+use Rattle.qs_replay.specs.Effects.{bytes_or, flush_ask, trim_ask, write_ask, zero_ask}
 
 -- nothing happened, and nothing was printed
 pub stopped_none : {D : Type 0} (seen : D → Seen) (old : Desk D) (l : Line) (new : Desk D) → new.world ≡ old.world → new.out ≡ old.out →
@@ -48,18 +49,27 @@ pub stops : {D : Type 0} (seen : D → Seen) (old : Desk D) (l : Line) (lost : B
 stops seen old l lost s (Ok u) new is stopped = absurd is
 stops seen old l lost s (Err e) new is stopped = subst (λ (x : Stop). Stopped seen old l x new) (sym is) stopped
 
+-- a session asks so
+by_ask : (t t' : Names) (n : ℕ) (s session : List ℕ) (asks ask : Ask) (brings body : Option (List ℕ)) → (s ≡ session) × (ask ≡ asks) × (body ≡ brings) →
+    Gives t session n t' → AskedBy t s asks brings (event.Ask n ask body) t'
+by_ask t t' n s session asks ask brings body is gives = (
+  n,
+  (
+    subst (λ (x : List ℕ). Gives t x n t') (sym is.0) gives,
+    ap (λ (a : Ask). event.Ask n a body) is.1 ∙ ap (λ (b : Option (List ℕ)). event.Ask n asks b) is.2,
+  ),
+)
+
 -- a line that asks has this event
 pub asks_event : (t t' : Names) (l : Line) (lost : Bool) (n : ℕ) (session : List ℕ) (ask : Ask) (body : Option (List ℕ)) → IsAsked l lost session ask body →
     Gives t session n t' → IsEventOf t l lost (event.Ask n ask body) t'
 asks_event t t' (line.Read s c offset long) lost n session ask body is gives =
     (n, body, (subst (λ (x : List ℕ). Gives t x n t') (sym is.0) gives, is.2, ap (λ (a : Ask). event.Ask n a body) is.1))
-asks_event t t' (line.Write s c offset bytes) lost n session ask body is gives = (
-  n,
-  (
-    subst (λ (x : List ℕ). Gives t x n t') (sym is.0) gives,
-    ap (λ (a : Ask). event.Ask n a body) is.1 ∙ ap (λ (b : Option (List ℕ)). event.Ask n (write_ask c offset bytes) b) is.2,
-  ),
-)
+asks_event t t' (line.Write s c offset bytes fua) lost n session ask body is gives =
+    by_ask t t' n s session (write_ask c offset bytes fua) ask (bytes_or lost bytes) body is gives
+asks_event t t' (line.Zero s c offset long fua) lost n session ask body is gives = by_ask t t' n s session (zero_ask c offset long fua) ask None body is gives
+asks_event t t' (line.Trim s c offset long) lost n session ask body is gives = by_ask t t' n s session (trim_ask c offset long) ask None body is gives
+asks_event t t' (line.Flush s c) lost n session ask body is gives = by_ask t t' n s session (flush_ask c) ask None body is gives
 asks_event t t' line.Nothing lost n session ask body is gives = absurd is
 asks_event t t' (line.Session s e) lost n session ask body is gives = absurd is
 asks_event t t' (line.End s) lost n session ask body is gives = absurd is
@@ -67,13 +77,19 @@ asks_event t t' (line.Step a now) lost n session ask body is gives = absurd is
 asks_event t t' (line.Run a now) lost n session ask body is gives = absurd is
 asks_event t t' (line.Fail j k) lost n session ask body is gives = absurd is
 
+-- the cookie that a session asks with was used
+by_used : (t a : Names) (n cookie : ℕ) (s session : List ℕ) (ask : Ask) → s ≡ session → ask.cookie ≡ cookie → Gives t session n a → IsUsed a n ask.cookie → WasUsed t s cookie
+by_used t a n cookie s session ask name_is cookie_is gives used =
+    (n, a, (subst (λ (x : List ℕ). Gives t x n a) (sym name_is) gives, subst (λ (c : ℕ). IsUsed a n c) cookie_is used))
+
 -- a line that asks with a used cookie uses it again
 pub asks_again : (t a : Names) (l : Line) (lost : Bool) (n : ℕ) (session : List ℕ) (ask : Ask) (body : Option (List ℕ)) → IsAsked l lost session ask body →
     Gives t session n a → IsUsed a n ask.cookie → UsesAgain t l
-asks_again t a (line.Read s c offset long) lost n session ask body is gives used =
-    (n, a, (subst (λ (x : List ℕ). Gives t x n a) (sym is.0) gives, subst (λ (k : Ask). IsUsed a n k.cookie) is.1 used))
-asks_again t a (line.Write s c offset bytes) lost n session ask body is gives used =
-    (n, a, (subst (λ (x : List ℕ). Gives t x n a) (sym is.0) gives, subst (λ (k : Ask). IsUsed a n k.cookie) is.1 used))
+asks_again t a (line.Read s c offset long) lost n session ask body is gives used = by_used t a n c s session ask is.0 (ap (λ (k : Ask). k.cookie) is.1) gives used
+asks_again t a (line.Write s c offset bytes fua) lost n session ask body is gives used = by_used t a n c s session ask is.0 (ap (λ (k : Ask). k.cookie) is.1) gives used
+asks_again t a (line.Zero s c offset long fua) lost n session ask body is gives used = by_used t a n c s session ask is.0 (ap (λ (k : Ask). k.cookie) is.1) gives used
+asks_again t a (line.Trim s c offset long) lost n session ask body is gives used = by_used t a n c s session ask is.0 (ap (λ (k : Ask). k.cookie) is.1) gives used
+asks_again t a (line.Flush s c) lost n session ask body is gives used = by_used t a n c s session ask is.0 (ap (λ (k : Ask). k.cookie) is.1) gives used
 asks_again t a line.Nothing lost n session ask body is gives used = absurd is
 asks_again t a (line.Session s e) lost n session ask body is gives used = absurd is
 asks_again t a (line.End s) lost n session ask body is gives used = absurd is
@@ -85,7 +101,10 @@ asks_again t a (line.Fail j k) lost n session ask body is gives used = absurd is
 pub asks_first : (l : Line) (lost : Bool) (session : List ℕ) (ask : Ask) (body : Option (List ℕ)) (made : Event) (o : Outcome) → IsAsked l lost session ask body →
     AreFirst l made (Happened made o ∷ [])
 asks_first (line.Read s c offset long) lost session ask body made o is = (o, refl)
-asks_first (line.Write s c offset bytes) lost session ask body made o is = (o, refl)
+asks_first (line.Write s c offset bytes fua) lost session ask body made o is = (o, refl)
+asks_first (line.Zero s c offset long fua) lost session ask body made o is = (o, refl)
+asks_first (line.Trim s c offset long) lost session ask body made o is = (o, refl)
+asks_first (line.Flush s c) lost session ask body made o is = (o, refl)
 asks_first line.Nothing lost session ask body made o is = absurd is
 asks_first (line.Session s e) lost session ask body made o is = absurd is
 asks_first (line.End s) lost session ask body made o is = absurd is
@@ -125,14 +144,19 @@ fresh_once t a b s n m cookie one fresh two used =
     fresh (subst (λ (k : ℕ). IsUsed a k cookie) (gives_number t b a s m n two one)
     (subst (λ (u : Type 0). u) (gives_used t b s m m cookie two ∙ sym (gives_used t a s n m cookie one)) used))
 
+once_used : (t a : Names) (n cookie : ℕ) (s session : List ℕ) (ask : Ask) → s ≡ session → ask.cookie ≡ cookie → Gives t session n a → (IsUsed a n ask.cookie → ⊥) →
+    WasUsed t s cookie → ⊥
+once_used t a n cookie s session ask name_is cookie_is gives fresh again =
+    fresh_once t a again.1 session n again.0 cookie gives (λ used. fresh (subst (λ (c : ℕ). IsUsed a n c) (sym cookie_is) used))
+    (subst (λ (x : List ℕ). Gives t x again.0 again.1) name_is again.2.0) again.2.1
+
 pub asks_once : (t a : Names) (l : Line) (lost : Bool) (n : ℕ) (session : List ℕ) (ask : Ask) (body : Option (List ℕ)) → IsAsked l lost session ask body →
     Gives t session n a → (IsUsed a n ask.cookie → ⊥) → UsesAgain t l → ⊥
-asks_once t a (line.Read s c offset long) lost n session ask body is gives fresh again =
-    fresh_once t a again.1 session n again.0 c gives (λ used. fresh (subst (λ (k : Ask). IsUsed a n k.cookie) (sym is.1) used))
-    (subst (λ (x : List ℕ). Gives t x again.0 again.1) is.0 again.2.0) again.2.1
-asks_once t a (line.Write s c offset bytes) lost n session ask body is gives fresh again =
-    fresh_once t a again.1 session n again.0 c gives (λ used. fresh (subst (λ (k : Ask). IsUsed a n k.cookie) (sym is.1) used))
-    (subst (λ (x : List ℕ). Gives t x again.0 again.1) is.0 again.2.0) again.2.1
+asks_once t a (line.Read s c offset long) lost n session ask body is gives fresh again = once_used t a n c s session ask is.0 (ap (λ (k : Ask). k.cookie) is.1) gives fresh again
+asks_once t a (line.Write s c offset bytes fua) lost n session ask body is gives fresh again = once_used t a n c s session ask is.0 (ap (λ (k : Ask). k.cookie) is.1) gives fresh again
+asks_once t a (line.Zero s c offset long fua) lost n session ask body is gives fresh again = once_used t a n c s session ask is.0 (ap (λ (k : Ask). k.cookie) is.1) gives fresh again
+asks_once t a (line.Trim s c offset long) lost n session ask body is gives fresh again = once_used t a n c s session ask is.0 (ap (λ (k : Ask). k.cookie) is.1) gives fresh again
+asks_once t a (line.Flush s c) lost n session ask body is gives fresh again = once_used t a n c s session ask is.0 (ap (λ (k : Ask). k.cookie) is.1) gives fresh again
 asks_once t a line.Nothing lost n session ask body is gives fresh again = absurd is
 asks_once t a (line.Session s e) lost n session ask body is gives fresh again = absurd is
 asks_once t a (line.End s) lost n session ask body is gives fresh again = absurd is
@@ -163,7 +187,7 @@ asks_played seen old (line.Read s c offset long) lost new n r mid session ask bo
   };
   printed = out ∙ sym (append-nil old.out);
 }
-asks_played seen old (line.Write s c offset bytes) lost new n r mid session ask body is gives fresh plays table out = record {
+asks_played seen old (line.Write s c offset bytes fua) lost new n r mid session ask body is gives fresh plays table out = record {
   calls = Happened (event.Ask n ask body) (Made r) ∷ [];
   text = [];
   is = record {
@@ -172,7 +196,58 @@ asks_played seen old (line.Write s c offset bytes) lost new n r mid session ask 
       made = event.Ask n ask body;
       mid = mid;
       outcome = Made r;
-      event_is = asks_event old.table mid (line.Write s c offset bytes) lost n session ask body is gives;
+      event_is = asks_event old.table mid (line.Write s c offset bytes fua) lost n session ask body is gives;
+      calls_are = refl;
+      notes = (fresh, table);
+      text_is = refl;
+    };
+  };
+  printed = out ∙ sym (append-nil old.out);
+}
+asks_played seen old (line.Zero s c offset long fua) lost new n r mid session ask body is gives fresh plays table out = record {
+  calls = Happened (event.Ask n ask body) (Made r) ∷ [];
+  text = [];
+  is = record {
+    plays = plays;
+    does = record {
+      made = event.Ask n ask body;
+      mid = mid;
+      outcome = Made r;
+      event_is = asks_event old.table mid (line.Zero s c offset long fua) lost n session ask body is gives;
+      calls_are = refl;
+      notes = (fresh, table);
+      text_is = refl;
+    };
+  };
+  printed = out ∙ sym (append-nil old.out);
+}
+asks_played seen old (line.Trim s c offset long) lost new n r mid session ask body is gives fresh plays table out = record {
+  calls = Happened (event.Ask n ask body) (Made r) ∷ [];
+  text = [];
+  is = record {
+    plays = plays;
+    does = record {
+      made = event.Ask n ask body;
+      mid = mid;
+      outcome = Made r;
+      event_is = asks_event old.table mid (line.Trim s c offset long) lost n session ask body is gives;
+      calls_are = refl;
+      notes = (fresh, table);
+      text_is = refl;
+    };
+  };
+  printed = out ∙ sym (append-nil old.out);
+}
+asks_played seen old (line.Flush s c) lost new n r mid session ask body is gives fresh plays table out = record {
+  calls = Happened (event.Ask n ask body) (Made r) ∷ [];
+  text = [];
+  is = record {
+    plays = plays;
+    does = record {
+      made = event.Ask n ask body;
+      mid = mid;
+      outcome = Made r;
+      event_is = asks_event old.table mid (line.Flush s c) lost n session ask body is gives;
       calls_are = refl;
       notes = (fresh, table);
       text_is = refl;

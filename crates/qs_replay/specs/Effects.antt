@@ -37,8 +37,18 @@ use Rattle.qs_replay.specs.Tables.{Gives, IsKnown, IsUsed, Names, adds, settled}
 abbrev pub read_ask : ℕ → ℕ → ℕ → Ask
 read_ask cookie offset length = record { kind = kind.Read; fua = false; flags_fit = true; cookie = cookie; offset = offset; length = length }
 
-abbrev pub write_ask : ℕ → ℕ → List ℕ → Ask
-write_ask cookie offset bytes = record { kind = kind.Write; fua = false; flags_fit = true; cookie = cookie; offset = offset; length = length bytes }
+abbrev pub write_ask : ℕ → ℕ → List ℕ → Bool → Ask
+write_ask cookie offset bytes fua = record { kind = kind.Write; fua = fua; flags_fit = true; cookie = cookie; offset = offset; length = length bytes }
+
+abbrev pub zero_ask : ℕ → ℕ → ℕ → Bool → Ask
+zero_ask cookie offset length fua = record { kind = kind.Zero; fua = fua; flags_fit = true; cookie = cookie; offset = offset; length = length }
+
+abbrev pub trim_ask : ℕ → ℕ → ℕ → Ask
+trim_ask cookie offset length = record { kind = kind.Trim; fua = false; flags_fit = true; cookie = cookie; offset = offset; length = length }
+
+-- a FLUSH names no places
+abbrev pub flush_ask : ℕ → Ask
+flush_ask cookie = record { kind = kind.Flush; fua = false; flags_fit = true; cookie = cookie; offset = 0; length = 0 }
 
 -- the actor that a script names; a request is one that isn't answered yet
 abbrev pub IsActor : Names → ScriptActor → Actor → Names → Type 0
@@ -61,14 +71,20 @@ abbrev pub bytes_or : Bool → List ℕ → Option (List ℕ)
 bytes_or true (b ∷ bytes) = None
 bytes_or lost bytes = Some bytes
 
--- The event that a line makes.
+-- the session of this name asks so, with this body
+abbrev pub AskedBy : Names → List ℕ → Ask → Option (List ℕ) → Event → Names → Type 0
+AskedBy t s ask body made t' = (n : ℕ) × (Gives t s n t' × (made ≡ event.Ask n ask body))
+
+-- The event that a line makes. A WRITE_ZEROES, a TRIM and a FLUSH bring no body.
 abbrev pub IsEventOf : Names → Line → Bool → Event → Names → Type 0
 IsEventOf t (line.Session s e) lost made t' = (n : ℕ) × (Gives t s n t' × (made ≡ event.Attach n e))
 IsEventOf t (line.End s) lost made t' = (n : ℕ) × (Gives t s n t' × (made ≡ event.Leave n))
 IsEventOf t (line.Read s c offset long) lost made t' =
     (n : ℕ) × (body : Option (List ℕ)) × (Gives t s n t' × IsRoom body long × (made ≡ event.Ask n (read_ask c offset long) body))
-IsEventOf t (line.Write s c offset bytes) lost made t' =
-    (n : ℕ) × (Gives t s n t' × (made ≡ event.Ask n (write_ask c offset bytes) (bytes_or lost bytes)))
+IsEventOf t (line.Write s c offset bytes fua) lost made t' = AskedBy t s (write_ask c offset bytes fua) (bytes_or lost bytes) made t'
+IsEventOf t (line.Zero s c offset long fua) lost made t' = AskedBy t s (zero_ask c offset long fua) None made t'
+IsEventOf t (line.Trim s c offset long) lost made t' = AskedBy t s (trim_ask c offset long) None made t'
+IsEventOf t (line.Flush s c) lost made t' = AskedBy t s (flush_ask c) None made t'
 IsEventOf t (line.Step actor now) lost made t' = (a : Actor) × (IsActor t actor a t' × (made ≡ event.Step a now))
 IsEventOf t (line.Run actor now) lost made t' = (a : Actor) × (IsActor t actor a t' × (made ≡ event.Step a now))
 IsEventOf t line.Nothing lost made t' = ⊥
@@ -202,10 +218,17 @@ pub record Played {D : Type 0} (seen : D → Seen) (old : Desk D) (l : Line) (lo
   pub is : IsPlayed seen old.world old.table l lost calls text new.world new.table
   pub printed : new.out ≡ old.out ++ text
 
+-- the cookie was used with the name of a session
+abbrev pub WasUsed : Names → List ℕ → ℕ → Type 0
+WasUsed t s c = (n : ℕ) × (t' : Names) × (Gives t s n t' × IsUsed t' n c)
+
 -- the line uses a cookie that was used with the name of its session
 abbrev pub UsesAgain : Names → Line → Type 0
-UsesAgain t (line.Read s c offset long) = (n : ℕ) × (t' : Names) × (Gives t s n t' × IsUsed t' n c)
-UsesAgain t (line.Write s c offset bytes) = (n : ℕ) × (t' : Names) × (Gives t s n t' × IsUsed t' n c)
+UsesAgain t (line.Read s c offset long) = WasUsed t s c
+UsesAgain t (line.Write s c offset bytes fua) = WasUsed t s c
+UsesAgain t (line.Zero s c offset long fua) = WasUsed t s c
+UsesAgain t (line.Trim s c offset long) = WasUsed t s c
+UsesAgain t (line.Flush s c) = WasUsed t s c
 UsesAgain t other = ⊥
 
 -- an actor of a script that is no request, or one that was answered
@@ -250,7 +273,10 @@ PlaysLine seen old l lost (Err s) new = Stopped seen old l s new
 -- the line asks so, with this body
 abbrev pub IsAsked : Line → Bool → List ℕ → Ask → Option (List ℕ) → Type 0
 IsAsked (line.Read s c offset long) lost session ask body = (s ≡ session) × (ask ≡ read_ask c offset long) × IsRoom body long
-IsAsked (line.Write s c offset bytes) lost session ask body = (s ≡ session) × (ask ≡ write_ask c offset bytes) × (body ≡ bytes_or lost bytes)
+IsAsked (line.Write s c offset bytes fua) lost session ask body = (s ≡ session) × (ask ≡ write_ask c offset bytes fua) × (body ≡ bytes_or lost bytes)
+IsAsked (line.Zero s c offset long fua) lost session ask body = (s ≡ session) × (ask ≡ zero_ask c offset long fua) × (body ≡ None)
+IsAsked (line.Trim s c offset long) lost session ask body = (s ≡ session) × (ask ≡ trim_ask c offset long) × (body ≡ None)
+IsAsked (line.Flush s c) lost session ask body = (s ≡ session) × (ask ≡ flush_ask c) × (body ≡ None)
 IsAsked other lost session ask body = ⊥
 
 -- a failure is planned for a stripe that is there

@@ -4,21 +4,22 @@ use Rattle.qs_part.specs.declared.event.Actor.TheVariants.{Request as ARequest}
 use Rattle.qs_part.specs.declared.event.Event.{Event}
 use Rattle.qs_part.specs.declared.event.Event.TheVariants.{Step as StepEvent}
 use Rattle.qs_part.specs.declared.stripe.Side.TheVariants.{Head, Tail}
-use Rattle.qs_model.specs.Requests.{Req, Stage, ToRoute, ToList, ToStart, ToLoad, ToHold, ToStore, ToFree, ToEnd, Ready, Entering, In}
+use Rattle.qs_model.specs.Requests.{Req, Stage, ToRoute, ToList, ToStart, ToLoad, ToHold, ToStore, ToSync, ToFree, ToEnd, Ready, Entering, In}
 use Rattle.qs_world.specs.Values.{WorldValue, request_at}
 
 -- How many steps of a request may still go on, at most, by its stage. It makes one for each block from its first one on, and
--- an image of `size` bytes has no more blocks than that.
+-- an image of `size` bytes has no more blocks than that; behind them it makes one for each of the eight stripes.
 abbrev pub rank_of : ℕ → Stage → ℕ
 rank_of size (Ready v) = 0
-rank_of size Entering = size + 9
-rank_of size (In k ToRoute) = size + 8
-rank_of size (In k ToList) = size + 7
-rank_of size (In k ToStart) = size + 6
-rank_of size (In k (ToHold Head)) = size + 5
-rank_of size (In k (ToHold Tail)) = size + 4
-rank_of size (In k (ToLoad b got)) = (size - b) + 3
-rank_of size (In k (ToStore b)) = (size - b) + 3
+rank_of size Entering = size + 17
+rank_of size (In k ToRoute) = size + 16
+rank_of size (In k ToList) = size + 15
+rank_of size (In k ToStart) = size + 14
+rank_of size (In k (ToHold Head)) = size + 13
+rank_of size (In k (ToHold Tail)) = size + 12
+rank_of size (In k (ToLoad b got)) = (size - b) + 11
+rank_of size (In k (ToStore b)) = (size - b) + 11
+rank_of size (In k (ToSync s)) = (8 - s) + 2
 rank_of size (In k (ToFree side)) = 2
 rank_of size (In k (ToEnd v)) = 1
 

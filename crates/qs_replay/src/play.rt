@@ -10,13 +10,13 @@ use qs_outside::{Disk, Fail, RiggedDisk};
 use qs_part::event::{Event, Outcome};
 use qs_script::{Line, ScriptActor, SessionName, SessionNews, put_session};
 
-/// The request of a `read` or a `write`.
-fn plain_ask(kind: Kind, cookie: u64, offset: u64, length: u64) -> Ask
-    ensures { result ≡ record { kind = kind; fua = false; flags_fit = true; cookie = cookie; offset = offset; length = length } }
+/// The request of a line. Its flags fit its kind.
+fn ask_of(kind: Kind, fua: bool, cookie: u64, offset: u64, length: u64) -> Ask
+    ensures { result ≡ record { kind = kind; fua = fua; flags_fit = true; cookie = cookie; offset = offset; length = length } }
 {
     Ask {
         kind,
-        fua: false,
+        fua,
         flags_fit: true,
         cookie,
         offset,
@@ -49,7 +49,7 @@ impl<D: Disk + Drop> Desk<D> {
         Ok(())
     }
 
-    /// A session asks for something, by a `read` or a `write`.
+    /// A session asks for something, by the line of a request.
     fn ask(&mut self, session: SessionName, ask: Ask, body: Option<Bytes>) -> Result<(), Stop>
         ensures { (l : ALine) (lost : Bool) → IsAsked l lost session ask body → PlaysLine D.seen self.old l lost result self.new }
     {
@@ -81,37 +81,76 @@ impl<D: Disk + Drop> Desk<D> {
         ensures { PlaysLine D.seen self.old (line.Read session cookie offset length) false result self.new }
     {
         let body = room_for(self.alloc, length);
-        self.ask(session, plain_ask(Kind::Read, cookie, offset, length), body)
+        let ask = ask_of(Kind::Read, false, cookie, offset, length);
+        self.ask(session, ask, body)
     }
 
-    /// `write S C OFFSET BYTES`
+    /// `write S C OFFSET BYTES [fua]`
     pub fn write(
         &mut self,
         session: SessionName,
         cookie: u64,
         offset: u64,
         body: Bytes,
+        fua: bool,
     ) -> Result<(), Stop>
-        ensures { PlaysLine D.seen self.old (line.Write session cookie offset body) false result self.new }
+        ensures { PlaysLine D.seen self.old (line.Write session cookie offset body fua) false result self.new }
     {
-        let ask = plain_ask(Kind::Write, cookie, offset, body.len() as u64);
+        let ask = ask_of(Kind::Write, fua, cookie, offset, body.len() as u64);
         self.ask(session, ask, Some(body))
     }
 
-    /// `write S C OFFSET BYTES`, where memory was refused for the bytes: the request has none.
+    /// `write S C OFFSET BYTES [fua]`, where memory was refused for the bytes: the request has none.
     pub fn write_lost(
         &mut self,
         session: SessionName,
         cookie: u64,
         offset: u64,
         length: u64,
+        fua: bool,
     ) -> Result<(), Stop>
         ensures { (bytes : List ℕ) → list_length bytes ≡ length →
-            PlaysLine D.seen self.old (line.Write session cookie offset bytes) true result self.new }
+            PlaysLine D.seen self.old (line.Write session cookie offset bytes fua) true result self.new }
     {
         let body = lost_bytes(self.alloc, length);
-        let ask = plain_ask(Kind::Write, cookie, offset, length);
+        let ask = ask_of(Kind::Write, fua, cookie, offset, length);
         self.ask(session, ask, body)
+    }
+
+    /// `zero S C OFFSET LENGTH [fua]`
+    pub fn zero(
+        &mut self,
+        session: SessionName,
+        cookie: u64,
+        offset: u64,
+        length: u64,
+        fua: bool,
+    ) -> Result<(), Stop>
+        ensures { PlaysLine D.seen self.old (line.Zero session cookie offset length fua) false result self.new }
+    {
+        let ask = ask_of(Kind::Zero, fua, cookie, offset, length);
+        self.ask(session, ask, None)
+    }
+
+    /// `trim S C OFFSET LENGTH`
+    pub fn trim(
+        &mut self,
+        session: SessionName,
+        cookie: u64,
+        offset: u64,
+        length: u64,
+    ) -> Result<(), Stop>
+        ensures { PlaysLine D.seen self.old (line.Trim session cookie offset length) false result self.new }
+    {
+        let ask = ask_of(Kind::Trim, false, cookie, offset, length);
+        self.ask(session, ask, None)
+    }
+
+    /// `flush S C`
+    pub fn flush(&mut self, session: SessionName, cookie: u64) -> Result<(), Stop>
+        ensures { PlaysLine D.seen self.old (line.Flush session cookie) false result self.new }
+    {
+        self.ask(session, ask_of(Kind::Flush, false, cookie, 0, 0), None)
     }
 
     /// `step ACTOR [READING]`
@@ -185,7 +224,22 @@ impl<D: RiggedDisk + Drop> Desk<D> {
                 cookie,
                 offset,
                 body,
-            } => self.write(session, cookie, offset, body),
+                fua,
+            } => self.write(session, cookie, offset, body, fua),
+            Line::Zero {
+                session,
+                cookie,
+                offset,
+                length,
+                fua,
+            } => self.zero(session, cookie, offset, length, fua),
+            Line::Trim {
+                session,
+                cookie,
+                offset,
+                length,
+            } => self.trim(session, cookie, offset, length),
+            Line::Flush { session, cookie } => self.flush(session, cookie),
             Line::Step { actor, now } => self.step(&actor, now),
             Line::Run { actor, now } => self.run(&actor, now),
             Line::Fail { stripe, kind } => self.plan(stripe, kind),

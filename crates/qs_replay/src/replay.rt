@@ -41,7 +41,8 @@ fn play_fault<D: RiggedDisk + Drop>(desk: &mut Desk<D>, fault: &LineFault) -> Re
             cookie,
             offset,
             length,
-        } => desk.write_lost(*session, *cookie, *offset, *length),
+            fua,
+        } => desk.write_lost(*session, *cookie, *offset, *length, *fua),
     }
 }
 

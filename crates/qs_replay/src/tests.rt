@@ -91,6 +91,45 @@ A.2 started\nB.2 not-yet 2\nA.2 = 0 00\nB.2 = 0\nA left\nA detached\nA attached 
 }
 
 #[test]
+fn requests_without_data(rt: HostRuntime) -> Result<(), Fail> {
+    for (text, printed) in [
+        // A flush syncs the stripe that was stored to, and finds the others clean.
+        (
+            b"session A disk\nwrite A 1 0 11*512\nrun A.1\nflush A 2\nstep A.2\nstep A.2\nstep A.2\n\
+step A.2\nrun A.2\nflush A 3\nstep A.3\nstep A.3\nstep A.3\nrun A.3\n"
+                .as_slice(),
+            b"A attached 4096 rw\nA.1 = 0\nA.2 enter 0\nA.2 route 0 4096\nA.2 synced 0\nA.2 clean 1\n\
+A.2 = 0\nA.3 enter 0\nA.3 route 0 4096\nA.3 clean 0\nA.3 = 0\n"
+                .as_slice(),
+        ),
+        // Zeros over four bytes in two blocks.
+        (
+            b"session A disk\nwrite A 1 0 11*1024\nrun A.1\nzero A 2 510 4\nrun A.2\nread A 3 508 8\n\
+run A.3\nzero A 4 4096 1\nrun A.4\nzero A 5 0 0 fua\nrun A.5\n",
+            b"A attached 4096 rw\nA.1 = 0\nA.2 = 0\nA.3 = 0 1111000000001111\nA.4 = 28\nA.5 = 0\n",
+        ),
+        // A trim does nothing to its places.
+        (
+            b"session A disk\nwrite A 1 0 11*2\nrun A.1\ntrim A 2 0 4096\nrun A.2\nread A 3 0 2\n\
+run A.3\ntrim A 4 4096 1\nrun A.4\n",
+            b"A attached 4096 rw\nA.1 = 0\nA.2 = 0\nA.3 = 0 1111\nA.4 = 22\n",
+        ),
+        // A write with the flag syncs the stripe of its block; the sync fails, and the next one doesn't.
+        (
+            b"session A disk\nfail 0 sync\nwrite A 1 0 11*512 fua\nrun A.1\nwrite A 2 0 22*512 fua\n\
+step A.2\nstep A.2\nstep A.2\nstep A.2\nstep A.2\nstep A.2\nstep A.2\n",
+            b"A attached 4096 rw\nA.1 = 5\nA.2 enter 0\nA.2 route 0 4096\nA.2 listed 1\nA.2 started\n\
+A.2 stored 0\nA.2 synced 0\nA.2 ended\nA.2 = 0\n",
+        ),
+    ] {
+        let (status, out) = script(rt.alloc(), text)?;
+        assert_eq!(rt; status, Status::Done);
+        assert_eq!(rt; out.as_slice(), printed);
+    }
+    Ok(())
+}
+
+#[test]
 fn refused_stores(rt: HostRuntime) -> Result<(), Fail> {
     for (text, printed) in [
         (
@@ -141,6 +180,20 @@ fn refused_lines(rt: HostRuntime) -> Result<(), Fail> {
         (b"session A disk\nsession A disk\n", Status::NotNext(2)),
         (b"end A", Status::NotNext(1)),
         (b"read A 1 0 1\n", Status::NotNext(1)),
+        (b"flush A 1\n", Status::NotNext(1)),
+        (
+            b"session A disk\nflush A 1\nzero A 1 0 1\n",
+            Status::BadLine(3),
+        ),
+        (
+            b"session A disk\nzero A 1 0 1\ntrim A 1 0 1\n",
+            Status::BadLine(3),
+        ),
+        (
+            b"session A disk\ntrim A 1 0 1\nflush A 1\n",
+            Status::BadLine(3),
+        ),
+        (b"session A disk\nflush A 1 fua\n", Status::BadLine(2)),
     ] {
         assert_eq!(rt; script(rt.alloc(), text)?.0, status);
     }

@@ -27,7 +27,7 @@ use Rattle.qs_world.specs.Events.{IsNotNext}
 use Rattle.qs_world.specs.Stands.{Stands}
 use Rattle.qs_world.specs.Values.{WorldValue, request_at, session_at}
 use Rattle.qs_replay.specs.Calls.{Call, Happened}
-use Rattle.qs_replay.specs.Effects.{Acts, CallsOf, Does, DrivesNotLive, GoesOn, IsActor, IsEventOf, IsNotLive, Adds, UsesAgain, bytes_or, read_ask, write_ask}
+use Rattle.qs_replay.specs.Effects.{Acts, CallsOf, Does, DrivesNotLive, GoesOn, IsActor, IsEventOf, IsNotLive, Adds, AskedBy, UsesAgain, bytes_or, flush_ask, read_ask, trim_ask, write_ask, zero_ask}
 use Rattle.qs_replay.specs.Readings.{IsText}
 use Rattle.qs_replay.specs.Scripts.{DoesText, IsBad, IsUntimely}
 use Rattle.qs_replay.specs.Tables.{IsUsed, Names}
@@ -50,10 +50,22 @@ used_never t t1 (line.Read s c offset long) lost calls printed does again =
     let (n, body, (gives, room, made_is)) = does.event_is in
     asks_once t does.mid (line.Read s c offset long) lost n s (read_ask c offset long) body (refl, refl, room) gives
     (note_fresh does.made does.outcome n (read_ask c offset long) body does.mid t1 made_is does.notes) again
-used_never t t1 (line.Write s c offset bytes) lost calls printed does again =
+used_never t t1 (line.Write s c offset bytes fua) lost calls printed does again =
     let (n, (gives, made_is)) = does.event_is in
-    asks_once t does.mid (line.Write s c offset bytes) lost n s (write_ask c offset bytes) _ (refl, refl, refl) gives
-    (note_fresh does.made does.outcome n (write_ask c offset bytes) _ does.mid t1 made_is does.notes) again
+    asks_once t does.mid (line.Write s c offset bytes fua) lost n s (write_ask c offset bytes fua) _ (refl, refl, refl) gives
+    (note_fresh does.made does.outcome n (write_ask c offset bytes fua) _ does.mid t1 made_is does.notes) again
+used_never t t1 (line.Zero s c offset long fua) lost calls printed does again =
+    let (n, (gives, made_is)) = does.event_is in
+    asks_once t does.mid (line.Zero s c offset long fua) lost n s (zero_ask c offset long fua) _ (refl, refl, refl) gives
+    (note_fresh does.made does.outcome n (zero_ask c offset long fua) _ does.mid t1 made_is does.notes) again
+used_never t t1 (line.Trim s c offset long) lost calls printed does again =
+    let (n, (gives, made_is)) = does.event_is in
+    asks_once t does.mid (line.Trim s c offset long) lost n s (trim_ask c offset long) _ (refl, refl, refl) gives
+    (note_fresh does.made does.outcome n (trim_ask c offset long) _ does.mid t1 made_is does.notes) again
+used_never t t1 (line.Flush s c) lost calls printed does again =
+    let (n, (gives, made_is)) = does.event_is in
+    asks_once t does.mid (line.Flush s c) lost n s (flush_ask c) _ (refl, refl, refl) gives
+    (note_fresh does.made does.outcome n (flush_ask c) _ does.mid t1 made_is does.notes) again
 used_never t t1 line.Nothing lost calls printed does again = again
 used_never t t1 (line.Session s e) lost calls printed does again = again
 used_never t t1 (line.End s) lost calls printed does again = again
@@ -85,8 +97,18 @@ driven_never t t1 line.Nothing lost calls printed does unmade = unmade
 driven_never t t1 (line.Session s e) lost calls printed does unmade = unmade
 driven_never t t1 (line.End s) lost calls printed does unmade = unmade
 driven_never t t1 (line.Read s c offset long) lost calls printed does unmade = unmade
-driven_never t t1 (line.Write s c offset bytes) lost calls printed does unmade = unmade
+driven_never t t1 (line.Write s c offset bytes fua) lost calls printed does unmade = unmade
+driven_never t t1 (line.Zero s c offset long fua) lost calls printed does unmade = unmade
+driven_never t t1 (line.Trim s c offset long) lost calls printed does unmade = unmade
+driven_never t t1 (line.Flush s c) lost calls printed does unmade = unmade
 driven_never t t1 (line.Fail j k) lost calls printed does unmade = unmade
+
+-- whether a request can be made hangs on no body
+same_asked : {D : Type 0} (w : WorldValue D) (t mid mid' : Names) (s : List ℕ) (ask : Ask) (body body' : Option (List ℕ)) (made made' : Event) →
+    AskedBy t s ask body made mid → AskedBy t s ask body' made' mid' → IsNotNext w made → IsNotNext w made'
+same_asked w t mid mid' s ask body body' made made' is at not_next =
+    let same = gives_one t mid mid' s is.0 at.0 is.1.0 at.1.0 in
+    subst (IsNotNext w) (sym at.1.1) (subst (λ (n : ℕ). IsNotNext w (event.Ask n ask body)) (sym same.0) (subst (IsNotNext w) is.1.1 not_next))
 
 -- whether a line's event can come hangs on no body
 same_target : {D : Type 0} (w : WorldValue D) (t mid mid' : Names) (l : Line) (lost lost' : Bool) (made made' : Event) → IsEventOf t l lost made mid → IsEventOf t l lost' made' mid' →
@@ -101,10 +123,14 @@ same_target w t mid mid' (line.Read s c offset long) lost lost' made made' is at
     let same = gives_one t mid mid' s is.0 at.0 is.2.0 at.2.0 in
     subst (IsNotNext w) (sym at.2.2)
     (subst (λ (n : ℕ). IsNotNext w (event.Ask n (read_ask c offset long) at.1)) (sym same.0) (subst (IsNotNext w) is.2.2 not_next))
-same_target w t mid mid' (line.Write s c offset bytes) lost lost' made made' is at not_next =
-    let same = gives_one t mid mid' s is.0 at.0 is.1.0 at.1.0 in
-    subst (IsNotNext w) (sym at.1.1)
-    (subst (λ (n : ℕ). IsNotNext w (event.Ask n (write_ask c offset bytes) (bytes_or lost bytes))) (sym same.0) (subst (IsNotNext w) is.1.1 not_next))
+same_target w t mid mid' (line.Write s c offset bytes fua) lost lost' made made' is at not_next =
+    same_asked w t mid mid' s (write_ask c offset bytes fua) (bytes_or lost bytes) (bytes_or lost' bytes) made made' is at not_next
+same_target w t mid mid' (line.Zero s c offset long fua) lost lost' made made' is at not_next =
+    same_asked w t mid mid' s (zero_ask c offset long fua) None None made made' is at not_next
+same_target w t mid mid' (line.Trim s c offset long) lost lost' made made' is at not_next =
+    same_asked w t mid mid' s (trim_ask c offset long) None None made made' is at not_next
+same_target w t mid mid' (line.Flush s c) lost lost' made made' is at not_next =
+    same_asked w t mid mid' s (flush_ask c) None None made made' is at not_next
 same_target w t mid mid' (line.Step a now) lost lost' made made' is at not_next =
     let same = actor_one t mid mid' a is.0 at.0 is.1.0 at.1.0 in
     subst (IsNotNext w) (is.1.1 ∙ ap (λ (x : Actor). event.Step x now) (sym same.0) ∙ sym at.1.1) not_next

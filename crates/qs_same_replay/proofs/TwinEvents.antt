@@ -1,7 +1,8 @@
 -- The event of a line, and the names after it, in one way.
-use Rattle.std.proofs.Common.{◌≡◌, ℕ, ◌<◌, inl, inr, List, [], ◌∷◌, length, Bool, true, false, nat_lt, cond, refl, sym, subst, ap, ◌∙◌, arith, true≢false}
+use Rattle.std.proofs.Common.{◌≡◌, ℕ, ◌<◌, inl, inr, List, [], ◌∷◌, length, Bool, true, false, not, ◌&&◌, nat_lt, cond, refl, sym, subst, ap, ◌∙◌, arith, true≢false}
 use Rattle.std.specs.Prelude.{Option, Some, None, replicate}
 use Rattle.std.specs.FinMap as map
+use Rattle.std.proofs.lemmas.Bool.{ne_eqb}
 use Rattle.qs_bytes.specs.Payloads.{max_payload}
 use Rattle.qs_bytes.specs.declared.ask.Ask.{Ask}
 use Rattle.qs_part.specs.declared.event.Actor.{Actor}
@@ -15,7 +16,7 @@ use Rattle.qs_script.specs.declared.line.Line.{Line}
 use Rattle.qs_script.specs.declared.line.Line.TheVariants as line
 use Rattle.qs_model.specs.Acts.{Element, Asked}
 use Rattle.qs_model.specs.Events.{IsEvent}
-use Rattle.qs_model.specs.Requests.{form_error}
+use Rattle.qs_model.specs.Requests.{form_error, wants_buffers}
 use Rattle.qs_model.proofs.Basics.{either}
 use Rattle.qs_same_replay.specs.Same.{IsGiven}
 use Rattle.qs_replay.specs.Effects.{Adds, IsActor, IsKey, IsRoom, Notes, Settles, bytes_or, read_ask, write_ask}
@@ -46,13 +47,20 @@ actor_one t a b (who.Request s c) x y is at =
 abbrev pub room_of : ℕ → Option (List ℕ)
 room_of n = cond (nat_lt max_payload n) None (Some (replicate n 0))
 
+-- a READ and a WRITE of some bytes want buffers
+pub read_wants : (cookie offset long : ℕ) → 0 < long → wants_buffers (read_ask cookie offset long) ≡ true
+read_wants cookie offset long some = ap (λ (b : Bool). not b && true) (ne_eqb long 0 (λ e. omega (arith, e, some)))
+
+write_wants : (cookie offset : ℕ) (bytes : List ℕ) (fua : Bool) → 0 < length bytes → wants_buffers (write_ask cookie offset bytes fua) ≡ true
+write_wants cookie offset bytes fua some = ap (λ (b : Bool). not b && true) (ne_eqb (length bytes) 0 (λ e. omega (arith, e, some)))
+
 -- a READ brings it
 pub read_body : (n cookie offset long : ℕ) (body : Option (List ℕ)) (e : Element) → IsRoom body long → IsEvent (event.Ask n (read_ask cookie offset long) body) e →
     IsGiven e → body ≡ room_of long
 read_body n cookie offset long None (Asked s c) room is given = elim (either (nat_lt max_payload long)) [
   | inl big ↦ sym (ap (λ (b : Bool). cond b None (Some (replicate long 0))) big)
   | inr fits ↦ absurd (elim is.2.wanted [
-    | inl empty ↦ let none : long ≡ 0 = ap (λ (a : Ask). a.length) is.1 ∙ empty in omega (arith, none, room)
+    | inl unwanted ↦ true≢false (sym (read_wants cookie offset long room) ∙ ap wants_buffers is.1 ∙ unwanted)
     | inr refused ↦ true≢false (sym (given (ap form_error (sym is.1) ∙ fits)) ∙ refused)
   ])
 ]
@@ -63,16 +71,16 @@ read_body n cookie offset long (Some bytes) (Asked s c) room is given = elim (ei
 read_body n cookie offset long body _ room is given = absurd is
 
 -- a WRITE brings its bytes
-pub write_body : (n cookie offset : ℕ) (bytes : List ℕ) (lost : Bool) (e : Element) → IsEvent (event.Ask n (write_ask cookie offset bytes) (bytes_or lost bytes)) e → IsGiven e →
-    bytes_or lost bytes ≡ Some bytes
-write_body n cookie offset [] true e is given = refl
-write_body n cookie offset [] false e is given = refl
-write_body n cookie offset (b ∷ bytes) true (Asked s c) is given = absurd (elim is.2.wanted [
-  | inl empty ↦ let none : length (b ∷ bytes) ≡ 0 = ap (λ (a : Ask). a.length) is.1 ∙ empty in omega (arith, none)
+pub write_body : (n cookie offset : ℕ) (bytes : List ℕ) (fua lost : Bool) (e : Element) →
+    IsEvent (event.Ask n (write_ask cookie offset bytes fua) (bytes_or lost bytes)) e → IsGiven e → bytes_or lost bytes ≡ Some bytes
+write_body n cookie offset [] fua true e is given = refl
+write_body n cookie offset [] fua false e is given = refl
+write_body n cookie offset (b ∷ bytes) fua true (Asked s c) is given = absurd (elim is.2.wanted [
+  | inl unwanted ↦ true≢false (sym (write_wants cookie offset (b ∷ bytes) fua (omega arith)) ∙ ap wants_buffers is.1 ∙ unwanted)
   | inr refused ↦ true≢false (sym (given (ap form_error (sym is.1))) ∙ refused)
 ])
-write_body n cookie offset (b ∷ bytes) true _ is given = absurd is
-write_body n cookie offset (b ∷ bytes) false e is given = refl
+write_body n cookie offset (b ∷ bytes) fua true _ is given = absurd is
+write_body n cookie offset (b ∷ bytes) fua false e is given = refl
 
 -- what a request is kept under is one
 key_one : (t : Names) (w : ScriptActor) (x y : Option (ℕ × ℕ)) → IsKey t w x → IsKey t w y → y ≡ x
@@ -97,5 +105,8 @@ notes_one line.Nothing made o t a b p q = adds_one made o t a b p q
 notes_one (line.Session s e) made o t a b p q = adds_one made o t a b p q
 notes_one (line.End s) made o t a b p q = adds_one made o t a b p q
 notes_one (line.Read s c offset long) made o t a b p q = adds_one made o t a b p q
-notes_one (line.Write s c offset bytes) made o t a b p q = adds_one made o t a b p q
+notes_one (line.Write s c offset bytes fua) made o t a b p q = adds_one made o t a b p q
+notes_one (line.Zero s c offset long fua) made o t a b p q = adds_one made o t a b p q
+notes_one (line.Trim s c offset long) made o t a b p q = adds_one made o t a b p q
+notes_one (line.Flush s c) made o t a b p q = adds_one made o t a b p q
 notes_one (line.Fail j k) made o t a b p q = adds_one made o t a b p q

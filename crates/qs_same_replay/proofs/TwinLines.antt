@@ -3,6 +3,7 @@ use Rattle.std.proofs.Common.{◌≡◌, ◌<◌, ℕ, List, [], ◌∷◌, ◌+
 use Rattle.std.specs.Prelude.{All, Option, None, Some, replicate}
 use Rattle.std.proofs.lemmas.List.Elements.{All-head, All-tail}
 use Rattle.qs_bytes.specs.Payloads.{max_payload}
+use Rattle.qs_bytes.specs.declared.ask.Ask.{Ask}
 use Rattle.qs_outside.specs.Blocks.{Seen}
 use Rattle.qs_part.specs.declared.event.Actor.{Actor}
 use Rattle.qs_part.specs.declared.event.Event.{Event}
@@ -13,14 +14,15 @@ use Rattle.qs_script.specs.declared.line.Line.{Line}
 use Rattle.qs_script.specs.declared.line.Line.TheVariants as line
 use Rattle.qs_script.proofs.OneLine.{one_line}
 use Rattle.qs_model.specs.Events.{IsEvent}
+use Rattle.qs_model.specs.Requests.{form_error}
 use Rattle.qs_model.specs.Steps.{happens}
 use Rattle.qs_model.specs.Worlds.{World}
 use Rattle.qs_world.specs.Values.{WorldValue}
 use Rattle.qs_replay.specs.Calls.{Call, Happened, Rigged}
-use Rattle.qs_replay.specs.Effects.{Acts, Does, GoesOn, IsRoom, Notes, RunsOut, bytes_or, goes_on, read_ask, text_of, write_ask}
+use Rattle.qs_replay.specs.Effects.{Acts, AskedBy, Does, GoesOn, IsRoom, Notes, RunsOut, bytes_or, flush_ask, goes_on, read_ask, text_of, trim_ask, write_ask, zero_ask}
 use Rattle.qs_replay.specs.Scripts.{AllDone, DoesText}
 use Rattle.qs_replay.specs.Tables.{Names}
-use Rattle.qs_same_replay.proofs.TwinEvents.{actor_one, gives_one, notes_one, read_body, room_of, write_body}
+use Rattle.qs_same_replay.proofs.TwinEvents.{actor_one, gives_one, notes_one, read_body, read_wants, room_of, write_body}
 use Rattle.qs_same_replay.proofs.Twins.{CalmStep, Calmly, IsTame, Twins, calm_parts, input_of, twin_call}
 
 -- two that do the same leave twins
@@ -111,11 +113,12 @@ module _ (A : ℕ) where
       let step : CalmStep A m (Happened made x) = (given_calls m n calls (Happened made x ∷ []) is one).0 in
       read_body k cookie offset long body step.element room (subst (λ (i : Event). IsEvent i step.element) made_is step.comes.is) step.given
 
-  write_is : (m n : World) (k cookie offset : ℕ) (bytes : List ℕ) (lost : Bool) (made : Event) (x : Outcome) (calls : List Call) → calls ≡ Happened made x ∷ [] →
-      Calmly A m calls n → made ≡ event.Ask k (write_ask cookie offset bytes) (bytes_or lost bytes) → bytes_or lost bytes ≡ Some bytes
-  write_is m n k cookie offset bytes lost made x calls is one made_is =
+  write_is : (m n : World) (k cookie offset : ℕ) (bytes : List ℕ) (fua lost : Bool) (made : Event) (x : Outcome) (calls : List Call) →
+      calls ≡ Happened made x ∷ [] → Calmly A m calls n → made ≡ event.Ask k (write_ask cookie offset bytes fua) (bytes_or lost bytes) →
+      bytes_or lost bytes ≡ Some bytes
+  write_is m n k cookie offset bytes fua lost made x calls is one made_is =
       let step : CalmStep A m (Happened made x) = (given_calls m n calls (Happened made x ∷ []) is one).0 in
-      write_body k cookie offset bytes lost step.element (subst (λ (i : Event). IsEvent i step.element) made_is step.comes.is) step.given
+      write_body k cookie offset bytes fua lost step.element (subst (λ (i : Event). IsEvent i step.element) made_is step.comes.is) step.given
 
   tame_as : (made other : Event) → made ≡ other → IsTame (Happens other) → IsTame (Happens made)
   tame_as made other is tame = subst (λ (e : Event). IsTame (Happens e)) (sym is) tame
@@ -124,7 +127,21 @@ module _ (A : ℕ) where
   read_tame n cookie offset long body is bad =
       let big : nat_lt max_payload long ≡ true = bad in
       let above : max_payload < long = grind (arith, big) in
-      (is ∙ ap (λ (b : Bool). cond b None (Some (replicate long 0))) big, λ none. omega (arith, above, none))
+      (is ∙ ap (λ (b : Bool). cond b None (Some (replicate long 0))) big, read_wants cookie offset long (omega (arith, above)))
+
+  -- a request without a body, whose form is good
+  twin_ask : (m m' n n' : World) (t t1 t1' : Names) (l : Line) (lost lost' : Bool) (calls calls' : List Call) (printed printed' : List ℕ) (s : List ℕ) (ask : Ask)
+      (does : Acts t l lost calls printed t1) (also : Acts t l lost' calls' printed' t1') → form_error ask ≡ false → Twins m m' →
+      AskedBy t s ask None does.made does.mid → AskedBy t s ask None also.made also.mid → calls ≡ Happened does.made does.outcome ∷ [] →
+      calls' ≡ Happened also.made also.outcome ∷ [] → Calmly A m calls n → Calmly A m' calls' n' → Together n n' calls calls' printed printed' t1 t1'
+  twin_ask m m' n n' t t1 t1' l lost lost' calls calls' printed printed' s ask does also good twins asked asked_too calls_are calls_too one two =
+      let (k, (gives, made_is)) = asked in
+      let (h, (gives_too, made_too)) = asked_too in
+      let same = gives_one t does.mid also.mid s k h gives gives_too in
+      let event_is : also.made ≡ does.made = made_too ∙ ap (λ (i : ℕ). event.Ask i ask None) same.0 ∙ sym made_is in
+      acts_one n n' t t1 t1' l lost lost' calls calls' printed printed' does also event_is same.1
+      (twin_event m m' n n' does.made also.made does.outcome also.outcome calls calls'
+      (tame_as does.made _ made_is (λ bad. absurd (true≢false (sym bad ∙ good)))) twins event_is calls_are calls_too one two)
 
   -- one line
   twin_line : (m m' n n' : World) (t : Names) (l : Line) (lost lost' : Bool) (calls calls' : List Call) (printed printed' : List ℕ) (t1 t1' : Names) →
@@ -166,17 +183,26 @@ module _ (A : ℕ) where
       acts_one n n' t t1 t1' (line.Read s c offset long) lost lost' calls calls' printed printed' does also event_is same.1
       (twin_event m m' n n' does.made also.made does.outcome also.outcome calls calls' (tame_as does.made _ made_is (read_tame k c offset long body is)) twins event_is
       does.calls_are also.calls_are one two)
-  twin_line m m' n n' t (line.Write s c offset bytes) lost lost' calls calls' printed printed' t1 t1' twins does also one two =
+  twin_line m m' n n' t (line.Write s c offset bytes fua) lost lost' calls calls' printed printed' t1 t1' twins does also one two =
       let (k, (gives, made_is)) = does.event_is in
       let (h, (gives_too, made_too)) = also.event_is in
       let same = gives_one t does.mid also.mid s k h gives gives_too in
-      let is : bytes_or lost bytes ≡ Some bytes = write_is m n k c offset bytes lost does.made does.outcome calls does.calls_are one made_is in
-      let at : bytes_or lost' bytes ≡ Some bytes = write_is m' n' h c offset bytes lost' also.made also.outcome calls' also.calls_are two made_too in
-      let event_is : also.made ≡ does.made = made_too ∙ ap (λ (i : ℕ). event.Ask i (write_ask c offset bytes) (bytes_or lost' bytes)) same.0
-      ∙ ap (λ (b : Option (List ℕ)). event.Ask k (write_ask c offset bytes) b) (at ∙ sym is) ∙ sym made_is in
-      acts_one n n' t t1 t1' (line.Write s c offset bytes) lost lost' calls calls' printed printed' does also event_is same.1
+      let is : bytes_or lost bytes ≡ Some bytes = write_is m n k c offset bytes fua lost does.made does.outcome calls does.calls_are one made_is in
+      let at : bytes_or lost' bytes ≡ Some bytes = write_is m' n' h c offset bytes fua lost' also.made also.outcome calls' also.calls_are two made_too in
+      let event_is : also.made ≡ does.made = made_too ∙ ap (λ (i : ℕ). event.Ask i (write_ask c offset bytes fua) (bytes_or lost' bytes)) same.0
+      ∙ ap (λ (b : Option (List ℕ)). event.Ask k (write_ask c offset bytes fua) b) (at ∙ sym is) ∙ sym made_is in
+      acts_one n n' t t1 t1' (line.Write s c offset bytes fua) lost lost' calls calls' printed printed' does also event_is same.1
       (twin_event m m' n n' does.made also.made does.outcome also.outcome calls calls' (tame_as does.made _ made_is (λ bad. absurd (true≢false (sym bad)))) twins event_is
       does.calls_are also.calls_are one two)
+  twin_line m m' n n' t (line.Zero s c offset long fua) lost lost' calls calls' printed printed' t1 t1' twins does also one two =
+      twin_ask m m' n n' t t1 t1' (line.Zero s c offset long fua) lost lost' calls calls' printed printed' s (zero_ask c offset long fua) does also refl twins does.event_is also.event_is
+      does.calls_are also.calls_are one two
+  twin_line m m' n n' t (line.Trim s c offset long) lost lost' calls calls' printed printed' t1 t1' twins does also one two =
+      twin_ask m m' n n' t t1 t1' (line.Trim s c offset long) lost lost' calls calls' printed printed' s (trim_ask c offset long) does also refl twins does.event_is also.event_is
+      does.calls_are also.calls_are one two
+  twin_line m m' n n' t (line.Flush s c) lost lost' calls calls' printed printed' t1 t1' twins does also one two =
+      twin_ask m m' n n' t t1 t1' (line.Flush s c) lost lost' calls calls' printed printed' s (flush_ask c) does also refl twins does.event_is also.event_is
+      does.calls_are also.calls_are one two
   twin_line m m' n n' t (line.Step who now) lost lost' calls calls' printed printed' t1 t1' twins does also one two =
       let same = actor_one t does.mid also.mid who does.event_is.0 also.event_is.0 does.event_is.1.0 also.event_is.1.0 in
       let event_is : also.made ≡ does.made = also.event_is.1.1 ∙ ap (λ (a : Actor). event.Step a now) same.0 ∙ sym does.event_is.1.1 in

@@ -9,7 +9,7 @@ use Rattle.qs_outside.specs.declared.rigged_disk.Fail.{Fail}
 use Rattle.qs_outside.specs.declared.rigged_disk.Fail.TheVariants as fail
 use Rattle.qs_bytes.specs.Payloads.{max_payload}
 use Rattle.qs_script.specs.Finds.{HasNo}
-use Rattle.qs_script.specs.Lines.{Asks, Drives, IsQuiet, Reads, WordsSpell, words_of}
+use Rattle.qs_script.specs.Lines.{Asks, AsksLength, Drives, IsQuiet, Reads, WordsSpell, words_of}
 use Rattle.qs_script.specs.SessionNames.{IsSessionName}
 use Rattle.qs_script.specs.Spelled.{Repeats, SpellsActor, SpellsData, SpellsNumber, fail_word, greatest, greatest_length, nothing, repeated, pairs}
 use Rattle.qs_script.specs.declared.actor.ScriptActor.{ScriptActor}
@@ -18,6 +18,7 @@ use Rattle.qs_script.specs.declared.line.Line.{Line}
 use Rattle.qs_script.specs.declared.line.Line.TheVariants as line
 use Rattle.qs_script.proofs.DataWords.{starred, pair_is_two, no_star, spelled_star}
 use Rattle.qs_script.proofs.Digits.{spelled_value}
+use Rattle.qs_script.proofs.Reading.{one_fua}
 use Rattle.qs_script.proofs.Splitting.{name_no_dot}
 
 one_number : (most : ℕ) (word : List ℕ) (n m : ℕ) → most < 2 ^ 64 → SpellsNumber most word n → SpellsNumber most word m → n ≡ m
@@ -106,20 +107,21 @@ one_drive v words a b n m x y = elim x.rest [
     same : x.who ≡ y.who → a ≡ b
     same e = one_actor x.who a b x.actor_is (subst (λ (w : List ℕ). SpellsActor w b) (sym e) y.actor_is)
 
--- the same session, cookie and offset, and the same last word
-record SameAsk (s s' : List ℕ) (c c' o o' : ℕ) (last last' : List ℕ) : Type 0 where
+-- the same session, cookie and offset, the same last word, and the same flag
+record SameAsk (s s' : List ℕ) (c c' o o' : ℕ) (last last' : List ℕ) (fua fua' : Bool) : Type 0 where
   session_is : s ≡ s'
   cookie_is : c ≡ c'
   offset_is : o ≡ o'
   last_is : last ≡ last'
+  fua_is : fua ≡ fua'
 
-asked_same : {X : Type 0} (make : List ℕ → ℕ → ℕ → X → Line) {s s' : List ℕ} {c c' o o' : ℕ} {last last' : List ℕ} {x x' : X} →
-    SameAsk s s' c c' o o' last last' → x ≡ x' → make s c o x ≡ make s' c' o' x'
-asked_same make is e = let a = is.session_is in let b = is.cookie_is in let c = is.offset_is in cc
+asked_same : {X : Type 0} (make : List ℕ → ℕ → ℕ → X → Bool → Line) {s s' : List ℕ} {c c' o o' : ℕ} {last last' : List ℕ} {x x' : X} {fua fua' : Bool} →
+    SameAsk s s' c c' o o' last last' fua fua' → x ≡ x' → make s c o x fua ≡ make s' c' o' x' fua'
+asked_same make is e = let a = is.session_is in let b = is.cookie_is in let c = is.offset_is in let d = is.fua_is in cc
 
-one_asks : (v : List ℕ) (words : List (List ℕ)) (s s' : List ℕ) (c c' o o' : ℕ) (last last' : List ℕ) → Asks v words s c o last → Asks v words s' c' o' last' →
-    SameAsk s s' c c' o o' last last'
-one_asks v words s s' c c' o o' last last' x y =
+one_asks : (v : List ℕ) (words : List (List ℕ)) (s s' : List ℕ) (c c' o o' : ℕ) (last last' : List ℕ) (fua fua' : Bool) →
+    Asks v words s c o last fua → Asks v words s' c' o' last' fua' → SameAsk s s' c c' o o' last last' fua fua'
+one_asks v words s s' c c' o o' last last' fua fua' x y =
     let e = x.whole in
     let e' = y.whole in
     let cookie : x.cookie_word ≡ y.cookie_word = cc in
@@ -130,7 +132,16 @@ one_asks v words s s' c c' o o' last last' x y =
       cookie_is = one_number greatest x.cookie_word c c' (omega arith) x.place.2 (subst (spells c') (sym cookie) y.place.2);
       offset_is = one_number greatest x.offset_word o o' (omega arith) x.place.3 (subst (spells o') (sym offset) y.place.3);
       last_is = cc;
+      fua_is = one_fua fua fua' (cc);
     }
+
+-- two requests of one length, by the same words
+one_sized : (make : List ℕ → ℕ → ℕ → ℕ → Bool → Line) (v : List ℕ) (words : List (List ℕ)) (s s' : List ℕ) (c c' o o' n n' : ℕ) (fua fua' : Bool) →
+    AsksLength v words s c o n fua → AsksLength v words s' c' o' n' fua' → make s c o n fua ≡ make s' c' o' n' fua'
+one_sized make v words s s' c c' o o' n n' fua fua' is is' =
+    let x = one_asks v words s s' c c' o o' is.0 is'.0 fua fua' is.1.0 is'.1.0 in
+    let spells : List ℕ → Type 0 = λ w. SpellsNumber greatest_length w n' in
+    asked_same make x (one_number greatest_length is.0 n n' (omega arith) is.1.1 (subst spells (sym x.last_is) is'.1.1))
 
 -- two letters that tell the failures' words apart
 two_of : List ℕ → ℕ
@@ -165,6 +176,15 @@ one_fail words stripe stripe' kind kind' x y =
     let number = one_number 7 x.0 stripe stripe' (omega arith) x.1.1 (subst (λ (w : List ℕ). SpellsNumber 7 w stripe') (sym digits) y.1.1) in
     cc
 
+one_flush : (words : List (List ℕ)) (s s' : List ℕ) (c c' : ℕ) → WordsSpell words (line.Flush s c) → WordsSpell words (line.Flush s' c') →
+    line.Flush s c ≡ line.Flush s' c'
+one_flush words s s' c c' x y =
+    let e = x.1.0 in
+    let e' = y.1.0 in
+    let digits : x.0 ≡ y.0 = cc in
+    let number = one_number greatest x.0 c c' (omega arith) x.1.2 (subst (λ (w : List ℕ). SpellsNumber greatest w c') (sym digits) y.1.2) in
+    cc
+
 -- the first letters of a line's first word
 first_of : List (List ℕ) → ℕ
 first_of words = get_or (get_or words 0 []) 0 0
@@ -177,7 +197,10 @@ initial line.Nothing = 0
 initial (line.Session s e) = 115
 initial (line.End s) = 101
 initial (line.Read s c o n) = 114
-initial (line.Write s c o bytes) = 119
+initial (line.Write s c o bytes fua) = 119
+initial (line.Zero s c o n fua) = 122
+initial (line.Trim s c o n) = 116
+initial (line.Flush s c) = 102
 initial (line.Step who now) = 115
 initial (line.Run who now) = 114
 initial (line.Fail stripe kind) = 102
@@ -187,7 +210,10 @@ second line.Nothing = 0
 second (line.Session s e) = 101
 second (line.End s) = 110
 second (line.Read s c o n) = 101
-second (line.Write s c o bytes) = 114
+second (line.Write s c o bytes fua) = 114
+second (line.Zero s c o n fua) = 101
+second (line.Trim s c o n) = 114
+second (line.Flush s c) = 108
 second (line.Step who now) = 116
 second (line.Run who now) = 117
 second (line.Fail stripe kind) = 97
@@ -198,7 +224,10 @@ letters words line.Nothing is = absurd is
 letters words (line.Session s e) is = (ap first_of is.0, ap second_of is.0)
 letters words (line.End s) is = (ap first_of is.0, ap second_of is.0)
 letters words (line.Read s c o n) is = (ap first_of is.1.0.whole, ap second_of is.1.0.whole)
-letters words (line.Write s c o bytes) is = (ap first_of is.1.0.whole, ap second_of is.1.0.whole)
+letters words (line.Write s c o bytes fua) is = (ap first_of is.1.0.whole, ap second_of is.1.0.whole)
+letters words (line.Zero s c o n fua) is = (ap first_of is.1.0.whole, ap second_of is.1.0.whole)
+letters words (line.Trim s c o n) is = (ap first_of is.1.0.whole, ap second_of is.1.0.whole)
+letters words (line.Flush s c) is = (ap first_of is.1.0, ap second_of is.1.0)
 letters words (line.Step who now) is = elim is.rest [
   | inl bare ↦ (ap first_of bare.0, ap second_of bare.0)
   | inr timed ↦ (ap first_of timed.1.0, ap second_of timed.1.0)
@@ -217,7 +246,10 @@ one_session_line words s e is (line.Session s' e') i j is' =
     let x = is.0 in let y = is'.0 in cc
 one_session_line words s e is (line.End s') i j is' = absurd (omega (arith, i, j))
 one_session_line words s e is (line.Read s' c' o' n') i j is' = absurd (omega (arith, i, j))
-one_session_line words s e is (line.Write s' c' o' bytes') i j is' = absurd (omega (arith, i, j))
+one_session_line words s e is (line.Write s' c' o' bytes' fua') i j is' = absurd (omega (arith, i, j))
+one_session_line words s e is (line.Zero s' c' o' n' fua') i j is' = absurd (omega (arith, i, j))
+one_session_line words s e is (line.Trim s' c' o' n') i j is' = absurd (omega (arith, i, j))
+one_session_line words s e is (line.Flush s' c') i j is' = absurd (omega (arith, i, j))
 one_session_line words s e is (line.Step who' now') i j is' = absurd (omega (arith, i, j))
 one_session_line words s e is (line.Run who' now') i j is' = absurd (omega (arith, i, j))
 one_session_line words s e is (line.Fail stripe' kind') i j is' = absurd (omega (arith, i, j))
@@ -230,7 +262,10 @@ one_end_line words s is (line.Session s' e') i j is' = absurd (omega (arith, i, 
 one_end_line words s is (line.End s') i j is' =
     let x = is.0 in let y = is'.0 in cc
 one_end_line words s is (line.Read s' c' o' n') i j is' = absurd (omega (arith, i, j))
-one_end_line words s is (line.Write s' c' o' bytes') i j is' = absurd (omega (arith, i, j))
+one_end_line words s is (line.Write s' c' o' bytes' fua') i j is' = absurd (omega (arith, i, j))
+one_end_line words s is (line.Zero s' c' o' n' fua') i j is' = absurd (omega (arith, i, j))
+one_end_line words s is (line.Trim s' c' o' n') i j is' = absurd (omega (arith, i, j))
+one_end_line words s is (line.Flush s' c') i j is' = absurd (omega (arith, i, j))
 one_end_line words s is (line.Step who' now') i j is' = absurd (omega (arith, i, j))
 one_end_line words s is (line.Run who' now') i j is' = absurd (omega (arith, i, j))
 one_end_line words s is (line.Fail stripe' kind') i j is' = absurd (omega (arith, i, j))
@@ -242,28 +277,79 @@ one_read_line words s c o n is line.Nothing i j is' = absurd is'
 one_read_line words s c o n is (line.Session s' e') i j is' = absurd (omega (arith, i, j))
 one_read_line words s c o n is (line.End s') i j is' = absurd (omega (arith, i, j))
 one_read_line words s c o n is (line.Read s' c' o' n') i j is' =
-    let x = one_asks (codes "read") words s s' c c' o o' is.0 is'.0 is.1.0 is'.1.0 in
-    let n_is = one_number greatest_length is.0 n n' (omega arith) is.1.1 (subst (λ (w : List ℕ). SpellsNumber greatest_length w n') (sym x.last_is) is'.1.1) in
-    asked_same line.Read x n_is
-one_read_line words s c o n is (line.Write s' c' o' bytes') i j is' = absurd (omega (arith, i, j))
+    one_sized (λ s c o n fua. line.Read s c o n) (codes "read") words s s' c c' o o' n n' false false is is'
+one_read_line words s c o n is (line.Write s' c' o' bytes' fua') i j is' = absurd (omega (arith, i, j))
+one_read_line words s c o n is (line.Zero s' c' o' n' fua') i j is' = absurd (omega (arith, i, j))
+one_read_line words s c o n is (line.Trim s' c' o' n') i j is' = absurd (omega (arith, i, j))
+one_read_line words s c o n is (line.Flush s' c') i j is' = absurd (omega (arith, i, j))
 one_read_line words s c o n is (line.Step who' now') i j is' = absurd (omega (arith, i, j))
 one_read_line words s c o n is (line.Run who' now') i j is' = absurd (omega (arith, i, j))
 one_read_line words s c o n is (line.Fail stripe' kind') i j is' = absurd (omega (arith, i, j))
 
-one_write_line : (words : List (List ℕ)) (s : List ℕ) (c o : ℕ) (bytes : List ℕ) → WordsSpell words (line.Write s c o bytes) →
-    (b : Line) → initial b ≡ 119 → second b ≡ 114 → WordsSpell words b → line.Write s c o bytes ≡ b
+one_write_line : (words : List (List ℕ)) (s : List ℕ) (c o : ℕ) (bytes : List ℕ) (fua : Bool) → WordsSpell words (line.Write s c o bytes fua) →
+    (b : Line) → initial b ≡ 119 → second b ≡ 114 → WordsSpell words b → line.Write s c o bytes fua ≡ b
 unfolding initial second
-one_write_line words s c o bytes is line.Nothing i j is' = absurd is'
-one_write_line words s c o bytes is (line.Session s' e') i j is' = absurd (omega (arith, i, j))
-one_write_line words s c o bytes is (line.End s') i j is' = absurd (omega (arith, i, j))
-one_write_line words s c o bytes is (line.Read s' c' o' n') i j is' = absurd (omega (arith, i, j))
-one_write_line words s c o bytes is (line.Write s' c' o' bytes') i j is' =
-    let x = one_asks (codes "write") words s s' c c' o o' is.0 is'.0 is.1.0 is'.1.0 in
+one_write_line words s c o bytes fua is line.Nothing i j is' = absurd is'
+one_write_line words s c o bytes fua is (line.Session s' e') i j is' = absurd (omega (arith, i, j))
+one_write_line words s c o bytes fua is (line.End s') i j is' = absurd (omega (arith, i, j))
+one_write_line words s c o bytes fua is (line.Read s' c' o' n') i j is' = absurd (omega (arith, i, j))
+one_write_line words s c o bytes fua is (line.Write s' c' o' bytes' fua') i j is' =
+    let x = one_asks (codes "write") words s s' c c' o o' is.0 is'.0 fua fua' is.1.0 is'.1.0 in
     let bytes_are = one_data is.0 bytes bytes' is.1.1 (subst (λ (w : List ℕ). SpellsData w bytes') (sym x.last_is) is'.1.1) in
     asked_same line.Write x bytes_are
-one_write_line words s c o bytes is (line.Step who' now') i j is' = absurd (omega (arith, i, j))
-one_write_line words s c o bytes is (line.Run who' now') i j is' = absurd (omega (arith, i, j))
-one_write_line words s c o bytes is (line.Fail stripe' kind') i j is' = absurd (omega (arith, i, j))
+one_write_line words s c o bytes fua is (line.Zero s' c' o' n' fua') i j is' = absurd (omega (arith, i, j))
+one_write_line words s c o bytes fua is (line.Trim s' c' o' n') i j is' = absurd (omega (arith, i, j))
+one_write_line words s c o bytes fua is (line.Flush s' c') i j is' = absurd (omega (arith, i, j))
+one_write_line words s c o bytes fua is (line.Step who' now') i j is' = absurd (omega (arith, i, j))
+one_write_line words s c o bytes fua is (line.Run who' now') i j is' = absurd (omega (arith, i, j))
+one_write_line words s c o bytes fua is (line.Fail stripe' kind') i j is' = absurd (omega (arith, i, j))
+
+one_zero_line : (words : List (List ℕ)) (s : List ℕ) (c o n : ℕ) (fua : Bool) → WordsSpell words (line.Zero s c o n fua) →
+    (b : Line) → initial b ≡ 122 → second b ≡ 101 → WordsSpell words b → line.Zero s c o n fua ≡ b
+unfolding initial second
+one_zero_line words s c o n fua is line.Nothing i j is' = absurd is'
+one_zero_line words s c o n fua is (line.Session s' e') i j is' = absurd (omega (arith, i, j))
+one_zero_line words s c o n fua is (line.End s') i j is' = absurd (omega (arith, i, j))
+one_zero_line words s c o n fua is (line.Read s' c' o' n') i j is' = absurd (omega (arith, i, j))
+one_zero_line words s c o n fua is (line.Write s' c' o' bytes' fua') i j is' = absurd (omega (arith, i, j))
+one_zero_line words s c o n fua is (line.Zero s' c' o' n' fua') i j is' =
+    one_sized line.Zero (codes "zero") words s s' c c' o o' n n' fua fua' is is'
+one_zero_line words s c o n fua is (line.Trim s' c' o' n') i j is' = absurd (omega (arith, i, j))
+one_zero_line words s c o n fua is (line.Flush s' c') i j is' = absurd (omega (arith, i, j))
+one_zero_line words s c o n fua is (line.Step who' now') i j is' = absurd (omega (arith, i, j))
+one_zero_line words s c o n fua is (line.Run who' now') i j is' = absurd (omega (arith, i, j))
+one_zero_line words s c o n fua is (line.Fail stripe' kind') i j is' = absurd (omega (arith, i, j))
+
+one_trim_line : (words : List (List ℕ)) (s : List ℕ) (c o n : ℕ) → WordsSpell words (line.Trim s c o n) →
+    (b : Line) → initial b ≡ 116 → second b ≡ 114 → WordsSpell words b → line.Trim s c o n ≡ b
+unfolding initial second
+one_trim_line words s c o n is line.Nothing i j is' = absurd is'
+one_trim_line words s c o n is (line.Session s' e') i j is' = absurd (omega (arith, i, j))
+one_trim_line words s c o n is (line.End s') i j is' = absurd (omega (arith, i, j))
+one_trim_line words s c o n is (line.Read s' c' o' n') i j is' = absurd (omega (arith, i, j))
+one_trim_line words s c o n is (line.Write s' c' o' bytes' fua') i j is' = absurd (omega (arith, i, j))
+one_trim_line words s c o n is (line.Zero s' c' o' n' fua') i j is' = absurd (omega (arith, i, j))
+one_trim_line words s c o n is (line.Trim s' c' o' n') i j is' =
+    one_sized (λ s c o n fua. line.Trim s c o n) (codes "trim") words s s' c c' o o' n n' false false is is'
+one_trim_line words s c o n is (line.Flush s' c') i j is' = absurd (omega (arith, i, j))
+one_trim_line words s c o n is (line.Step who' now') i j is' = absurd (omega (arith, i, j))
+one_trim_line words s c o n is (line.Run who' now') i j is' = absurd (omega (arith, i, j))
+one_trim_line words s c o n is (line.Fail stripe' kind') i j is' = absurd (omega (arith, i, j))
+
+one_flush_line : (words : List (List ℕ)) (s : List ℕ) (c : ℕ) → WordsSpell words (line.Flush s c) →
+    (b : Line) → initial b ≡ 102 → second b ≡ 108 → WordsSpell words b → line.Flush s c ≡ b
+unfolding initial second
+one_flush_line words s c is line.Nothing i j is' = absurd is'
+one_flush_line words s c is (line.Session s' e') i j is' = absurd (omega (arith, i, j))
+one_flush_line words s c is (line.End s') i j is' = absurd (omega (arith, i, j))
+one_flush_line words s c is (line.Read s' c' o' n') i j is' = absurd (omega (arith, i, j))
+one_flush_line words s c is (line.Write s' c' o' bytes' fua') i j is' = absurd (omega (arith, i, j))
+one_flush_line words s c is (line.Zero s' c' o' n' fua') i j is' = absurd (omega (arith, i, j))
+one_flush_line words s c is (line.Trim s' c' o' n') i j is' = absurd (omega (arith, i, j))
+one_flush_line words s c is (line.Flush s' c') i j is' = one_flush words s s' c c' is is'
+one_flush_line words s c is (line.Step who' now') i j is' = absurd (omega (arith, i, j))
+one_flush_line words s c is (line.Run who' now') i j is' = absurd (omega (arith, i, j))
+one_flush_line words s c is (line.Fail stripe' kind') i j is' = absurd (omega (arith, i, j))
 
 one_step_line : (words : List (List ℕ)) (who : ScriptActor) (now : ℕ) → WordsSpell words (line.Step who now) →
     (b : Line) → initial b ≡ 115 → second b ≡ 116 → WordsSpell words b → line.Step who now ≡ b
@@ -272,7 +358,10 @@ one_step_line words who now is line.Nothing i j is' = absurd is'
 one_step_line words who now is (line.Session s' e') i j is' = absurd (omega (arith, i, j))
 one_step_line words who now is (line.End s') i j is' = absurd (omega (arith, i, j))
 one_step_line words who now is (line.Read s' c' o' n') i j is' = absurd (omega (arith, i, j))
-one_step_line words who now is (line.Write s' c' o' bytes') i j is' = absurd (omega (arith, i, j))
+one_step_line words who now is (line.Write s' c' o' bytes' fua') i j is' = absurd (omega (arith, i, j))
+one_step_line words who now is (line.Zero s' c' o' n' fua') i j is' = absurd (omega (arith, i, j))
+one_step_line words who now is (line.Trim s' c' o' n') i j is' = absurd (omega (arith, i, j))
+one_step_line words who now is (line.Flush s' c') i j is' = absurd (omega (arith, i, j))
 one_step_line words who now is (line.Step who' now') i j is' =
     driven_same line.Step (one_drive (codes "step") words who who' now now' is is')
 one_step_line words who now is (line.Run who' now') i j is' = absurd (omega (arith, i, j))
@@ -285,7 +374,10 @@ one_run_line words who now is line.Nothing i j is' = absurd is'
 one_run_line words who now is (line.Session s' e') i j is' = absurd (omega (arith, i, j))
 one_run_line words who now is (line.End s') i j is' = absurd (omega (arith, i, j))
 one_run_line words who now is (line.Read s' c' o' n') i j is' = absurd (omega (arith, i, j))
-one_run_line words who now is (line.Write s' c' o' bytes') i j is' = absurd (omega (arith, i, j))
+one_run_line words who now is (line.Write s' c' o' bytes' fua') i j is' = absurd (omega (arith, i, j))
+one_run_line words who now is (line.Zero s' c' o' n' fua') i j is' = absurd (omega (arith, i, j))
+one_run_line words who now is (line.Trim s' c' o' n') i j is' = absurd (omega (arith, i, j))
+one_run_line words who now is (line.Flush s' c') i j is' = absurd (omega (arith, i, j))
 one_run_line words who now is (line.Step who' now') i j is' = absurd (omega (arith, i, j))
 one_run_line words who now is (line.Run who' now') i j is' =
     driven_same line.Run (one_drive (codes "run") words who who' now now' is is')
@@ -298,11 +390,13 @@ one_fail_line words stripe kind is line.Nothing i j is' = absurd is'
 one_fail_line words stripe kind is (line.Session s' e') i j is' = absurd (omega (arith, i, j))
 one_fail_line words stripe kind is (line.End s') i j is' = absurd (omega (arith, i, j))
 one_fail_line words stripe kind is (line.Read s' c' o' n') i j is' = absurd (omega (arith, i, j))
-one_fail_line words stripe kind is (line.Write s' c' o' bytes') i j is' = absurd (omega (arith, i, j))
+one_fail_line words stripe kind is (line.Write s' c' o' bytes' fua') i j is' = absurd (omega (arith, i, j))
+one_fail_line words stripe kind is (line.Zero s' c' o' n' fua') i j is' = absurd (omega (arith, i, j))
+one_fail_line words stripe kind is (line.Trim s' c' o' n') i j is' = absurd (omega (arith, i, j))
+one_fail_line words stripe kind is (line.Flush s' c') i j is' = absurd (omega (arith, i, j))
 one_fail_line words stripe kind is (line.Step who' now') i j is' = absurd (omega (arith, i, j))
 one_fail_line words stripe kind is (line.Run who' now') i j is' = absurd (omega (arith, i, j))
-one_fail_line words stripe kind is (line.Fail stripe' kind') i j is' =
-    one_fail words stripe stripe' kind kind' is is'
+one_fail_line words stripe kind is (line.Fail stripe' kind') i j is' = one_fail words stripe stripe' kind kind' is is'
 
 one_of_words : (words : List (List ℕ)) (a b : Line) → WordsSpell words a → WordsSpell words b → a ≡ b
 unfolding initial second
@@ -319,10 +413,22 @@ one_of_words words (line.Read s c o n) b x y =
     let a_is = letters words (line.Read s c o n) x in
     let b_is = letters words b y in
     one_read_line words s c o n x b (sym b_is.0 ∙ a_is.0) (sym b_is.1 ∙ a_is.1) y
-one_of_words words (line.Write s c o bytes) b x y =
-    let a_is = letters words (line.Write s c o bytes) x in
+one_of_words words (line.Write s c o bytes fua) b x y =
+    let a_is = letters words (line.Write s c o bytes fua) x in
     let b_is = letters words b y in
-    one_write_line words s c o bytes x b (sym b_is.0 ∙ a_is.0) (sym b_is.1 ∙ a_is.1) y
+    one_write_line words s c o bytes fua x b (sym b_is.0 ∙ a_is.0) (sym b_is.1 ∙ a_is.1) y
+one_of_words words (line.Zero s c o n fua) b x y =
+    let a_is = letters words (line.Zero s c o n fua) x in
+    let b_is = letters words b y in
+    one_zero_line words s c o n fua x b (sym b_is.0 ∙ a_is.0) (sym b_is.1 ∙ a_is.1) y
+one_of_words words (line.Trim s c o n) b x y =
+    let a_is = letters words (line.Trim s c o n) x in
+    let b_is = letters words b y in
+    one_trim_line words s c o n x b (sym b_is.0 ∙ a_is.0) (sym b_is.1 ∙ a_is.1) y
+one_of_words words (line.Flush s c) b x y =
+    let a_is = letters words (line.Flush s c) x in
+    let b_is = letters words b y in
+    one_flush_line words s c x b (sym b_is.0 ∙ a_is.0) (sym b_is.1 ∙ a_is.1) y
 one_of_words words (line.Step who now) b x y =
     let a_is = letters words (line.Step who now) x in
     let b_is = letters words b y in
@@ -356,7 +462,10 @@ initial_above words line.Nothing is = absurd is
 initial_above words (line.Session s e) is = omega arith
 initial_above words (line.End s) is = omega arith
 initial_above words (line.Read s c o n) is = omega arith
-initial_above words (line.Write s c o bytes) is = omega arith
+initial_above words (line.Write s c o bytes fua) is = omega arith
+initial_above words (line.Zero s c o n fua) is = omega arith
+initial_above words (line.Trim s c o n) is = omega arith
+initial_above words (line.Flush s c) is = omega arith
 initial_above words (line.Step who now) is = omega arith
 initial_above words (line.Run who now) is = omega arith
 initial_above words (line.Fail stripe kind) is = omega arith
@@ -374,7 +483,10 @@ quiet_reads text line.Nothing quiet is = refl
 quiet_reads text (line.Session s e) quiet is = absurd (quiet_spells text (line.Session s e) quiet is)
 quiet_reads text (line.End s) quiet is = absurd (quiet_spells text (line.End s) quiet is)
 quiet_reads text (line.Read s c o n) quiet is = absurd (quiet_spells text (line.Read s c o n) quiet is)
-quiet_reads text (line.Write s c o bytes) quiet is = absurd (quiet_spells text (line.Write s c o bytes) quiet is)
+quiet_reads text (line.Write s c o bytes fua) quiet is = absurd (quiet_spells text (line.Write s c o bytes fua) quiet is)
+quiet_reads text (line.Zero s c o n fua) quiet is = absurd (quiet_spells text (line.Zero s c o n fua) quiet is)
+quiet_reads text (line.Trim s c o n) quiet is = absurd (quiet_spells text (line.Trim s c o n) quiet is)
+quiet_reads text (line.Flush s c) quiet is = absurd (quiet_spells text (line.Flush s c) quiet is)
 quiet_reads text (line.Step who now) quiet is = absurd (quiet_spells text (line.Step who now) quiet is)
 quiet_reads text (line.Run who now) quiet is = absurd (quiet_spells text (line.Run who now) quiet is)
 quiet_reads text (line.Fail stripe kind) quiet is = absurd (quiet_spells text (line.Fail stripe kind) quiet is)
@@ -384,7 +496,10 @@ spoken_reads text a line.Nothing x y = absurd (quiet_spells text a y x)
 spoken_reads text a (line.Session s e) x y = one_of_words (words_of text) a (line.Session s e) x y
 spoken_reads text a (line.End s) x y = one_of_words (words_of text) a (line.End s) x y
 spoken_reads text a (line.Read s c o n) x y = one_of_words (words_of text) a (line.Read s c o n) x y
-spoken_reads text a (line.Write s c o bytes) x y = one_of_words (words_of text) a (line.Write s c o bytes) x y
+spoken_reads text a (line.Write s c o bytes fua) x y = one_of_words (words_of text) a (line.Write s c o bytes fua) x y
+spoken_reads text a (line.Zero s c o n fua) x y = one_of_words (words_of text) a (line.Zero s c o n fua) x y
+spoken_reads text a (line.Trim s c o n) x y = one_of_words (words_of text) a (line.Trim s c o n) x y
+spoken_reads text a (line.Flush s c) x y = one_of_words (words_of text) a (line.Flush s c) x y
 spoken_reads text a (line.Step who now) x y = one_of_words (words_of text) a (line.Step who now) x y
 spoken_reads text a (line.Run who now) x y = one_of_words (words_of text) a (line.Run who now) x y
 spoken_reads text a (line.Fail stripe kind) x y = one_of_words (words_of text) a (line.Fail stripe kind) x y
@@ -395,7 +510,10 @@ one_line text line.Nothing b x y = quiet_reads text b x y
 one_line text (line.Session s e) b x y = spoken_reads text (line.Session s e) b x y
 one_line text (line.End s) b x y = spoken_reads text (line.End s) b x y
 one_line text (line.Read s c o n) b x y = spoken_reads text (line.Read s c o n) b x y
-one_line text (line.Write s c o bytes) b x y = spoken_reads text (line.Write s c o bytes) b x y
+one_line text (line.Write s c o bytes fua) b x y = spoken_reads text (line.Write s c o bytes fua) b x y
+one_line text (line.Zero s c o n fua) b x y = spoken_reads text (line.Zero s c o n fua) b x y
+one_line text (line.Trim s c o n) b x y = spoken_reads text (line.Trim s c o n) b x y
+one_line text (line.Flush s c) b x y = spoken_reads text (line.Flush s c) b x y
 one_line text (line.Step who now) b x y = spoken_reads text (line.Step who now) b x y
 one_line text (line.Run who now) b x y = spoken_reads text (line.Run who now) b x y
 one_line text (line.Fail stripe kind) b x y = spoken_reads text (line.Fail stripe kind) b x y

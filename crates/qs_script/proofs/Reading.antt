@@ -1,51 +1,50 @@
 -- What the words of a line tell of it.
-use Rattle.std.proofs.Common.{◌≡◌, ℕ, ◌<◌, ◌⊎◌, Bool, true, false, cond, arith, List, [], ◌∷◌, get_or, length, refl, sym, ap, subst, inl, inr}
-use Rattle.std.specs.Prelude.{◌==◌, Option, Some, None, Result, Ok, Err, IfOk, IfErr, IsNone}
+use Rattle.std.proofs.Common.{◌≡◌, ℕ, ◌+◌, ◌*◌, Bool, true, false, arith, List, [], ◌∷◌, get_or, length, refl, sym, ap, ◌∙◌, subst, inl, inr}
+use Rattle.std.specs.Prelude.{◌==◌, if◌then◌else◌, Option, Some, None, Result, Ok, Err, IfOk, IfErr, IsNone, codes}
 use Rattle.qs_script.specs.declared.line.LineFault.{LineFault}
 use Rattle.qs_script.specs.declared.line.LineFault.TheVariants as fault
-use Rattle.std.specs.List.{onto_first}
 use Rattle.std.specs.Option.{ok_or}
 use Rattle.qs_script.specs.SessionNames.{IsSessionName}
-use Rattle.qs_script.specs.Lines.{Asks, Drives, IsLineFault, IsPlace, IsQuiet, Place, Reads, WordsSpell, words_of}
-use Rattle.qs_script.specs.Spelled.{SpellsActor, SpellsData, SpellsNumber, greatest}
+use Rattle.qs_script.specs.Lines.{Asks, Drives, IsLineFault, IsPlace, IsQuiet, Place, Reads, WordsSpell, fua_words, words_of}
+use Rattle.qs_script.specs.Spelled.{SpellsActor, SpellsData, SpellsNumber, fail_word, greatest, greatest_length}
 use Rattle.qs_script.specs.Verbs.{verb_word}
 use Rattle.qs_script.specs.declared.actor.ScriptActor.{ScriptActor}
 use Rattle.qs_script.specs.declared.line.Line.{Line}
 use Rattle.qs_script.specs.declared.line.Line.TheVariants as line
 use Rattle.qs_script.specs.declared.read.Verb.{Verb}
 use Rattle.qs_script.specs.declared.read.Verb.TheVariants as verb
+use Rattle.qs_script.proofs.Splitting.{only_word, some_word}
 
 -- the verb is the first word
 pub record Begins (words : List (List ℕ)) : Type 0 where
   pub verb_is : Verb
   pub rest : List (List ℕ)
   pub whole : words ≡ verb_word verb_is ∷ rest
-  pub count : (length words ≡ 2) ⊎ (length words ≡ 3) ⊎ (length words ≡ 5)
 
-two : (words : List (List ℕ)) (v : Verb) (a : List ℕ) → words ≡ verb_word v ∷ a ∷ [] → Begins words
-two words v a whole = record { verb_is = v; rest = a ∷ []; whole = whole; count = inl (ap length whole) }
-
-three : (words : List (List ℕ)) (v : Verb) (a b : List ℕ) → words ≡ verb_word v ∷ a ∷ b ∷ [] → Begins words
-three words v a b whole = record { verb_is = v; rest = a ∷ b ∷ []; whole = whole; count = inr (inl (ap length whole)) }
-
-five : (words : List (List ℕ)) (v : Verb) (a b c d : List ℕ) → words ≡ verb_word v ∷ a ∷ b ∷ c ∷ d ∷ [] → Begins words
-five words v a b c d whole = record { verb_is = v; rest = a ∷ b ∷ c ∷ d ∷ []; whole = whole; count = inr (inr (ap length whole)) }
+begun_by : (words : List (List ℕ)) (v : Verb) (rest : List (List ℕ)) → words ≡ verb_word v ∷ rest → Begins words
+begun_by words v rest whole = record { verb_is = v; rest = rest; whole = whole }
 
 driven : (words : List (List ℕ)) (v : Verb) (who : ScriptActor) (now : ℕ) → Drives (verb_word v) words who now → Begins words
 driven words v who now is = elim is.rest [
-  | inl bare ↦ two words v is.who bare.0
-  | inr timed ↦ three words v is.who timed.0 timed.1.0
+  | inl bare ↦ begun_by words v (is.who ∷ []) bare.0
+  | inr timed ↦ begun_by words v (is.who ∷ timed.0 ∷ []) timed.1.0
 ]
+
+asked : (words : List (List ℕ)) (v : Verb) (s : List ℕ) (c o : ℕ) (last : List ℕ) (fua : Bool) → Asks (verb_word v) words s c o last fua → Begins words
+asked words v s c o last fua is = begun_by words v (s ∷ is.cookie_word ∷ is.offset_word ∷ last ∷ fua_words fua) is.whole
 
 pub begins : (words : List (List ℕ)) (read : Line) → WordsSpell words read → Begins words
 begins words line.Nothing is = absurd is
-begins words (line.Session s e) is = three words verb.Session s e is.0
-begins words (line.End s) is = two words verb.End s is.0
-begins words (line.Read s c offset count) is = five words verb.Read s is.1.0.cookie_word is.1.0.offset_word is.0 is.1.0.whole
-begins words (line.Write s c offset bytes) is = five words verb.Write s is.1.0.cookie_word is.1.0.offset_word is.0 is.1.0.whole
+begins words (line.Session s e) is = begun_by words verb.Session (s ∷ e ∷ []) is.0
+begins words (line.End s) is = begun_by words verb.End (s ∷ []) is.0
+begins words (line.Read s c offset count) is = asked words verb.Read s c offset is.0 false is.1.0
+begins words (line.Write s c offset bytes fua) is = asked words verb.Write s c offset is.0 fua is.1.0
+begins words (line.Zero s c offset count fua) is = asked words verb.Zero s c offset is.0 fua is.1.0
+begins words (line.Trim s c offset count) is = asked words verb.Trim s c offset is.0 false is.1.0
+begins words (line.Flush s c) is = begun_by words verb.Flush (s ∷ is.0 ∷ []) is.1.0
 begins words (line.Step who now) is = driven words verb.Step who now is
 begins words (line.Run who now) is = driven words verb.Run who now is
-begins words (line.Fail stripe kind) is = three words verb.Fail is.0 _ is.1.0
+begins words (line.Fail stripe kind) is = begun_by words verb.Fail (is.0 ∷ fail_word kind ∷ []) is.1.0
 
 -- a line whose first word is no verb is out of form
 pub no_verb : (first : List ℕ) (rest : List (List ℕ)) → ((v : Verb) → first ≡ verb_word v → ⊥) → (read : Line) → WordsSpell (first ∷ rest) read → ⊥
@@ -77,7 +76,10 @@ by_words text line.Nothing loud is = absurd (loud is)
 by_words text (line.Session s e) loud is = is
 by_words text (line.End s) loud is = is
 by_words text (line.Read s c offset count) loud is = is
-by_words text (line.Write s c offset bytes) loud is = is
+by_words text (line.Write s c offset bytes fua) loud is = is
+by_words text (line.Zero s c offset count fua) loud is = is
+by_words text (line.Trim s c offset count) loud is = is
+by_words text (line.Flush s c) loud is = is
 by_words text (line.Step who now) loud is = is
 by_words text (line.Run who now) loud is = is
 by_words text (line.Fail stripe kind) loud is = is
@@ -87,7 +89,10 @@ of_words text line.Nothing is = absurd is
 of_words text (line.Session s e) is = is
 of_words text (line.End s) is = is
 of_words text (line.Read s c offset count) is = is
-of_words text (line.Write s c offset bytes) is = is
+of_words text (line.Write s c offset bytes fua) is = is
+of_words text (line.Zero s c offset count fua) is = is
+of_words text (line.Trim s c offset count) is = is
+of_words text (line.Flush s c) is = is
 of_words text (line.Step who now) is = is
 of_words text (line.Run who now) is = is
 of_words text (line.Fail stripe kind) is = is
@@ -99,75 +104,163 @@ out_of text words read e loud bad is =
     let spells : List (List ℕ) → Type 0 = λ ws. WordsSpell ws read in
     bad (subst spells e (by_words text read loud is))
 
--- a text has a word
-some_word : (text : List ℕ) → 0 < length (words_of text)
-some_word [] = omega arith
-some_word (x ∷ xs) =
-    elim (x == 32) as (λ (b : Bool). 0 < length (cond b ([] ∷ words_of xs) (onto_first x (words_of xs)))) [
-      | true ↦ omega arith
-      | false ↦ one_on x (words_of xs)
-    ]
-  where
-    one_on : (y : ℕ) (ws : List (List ℕ)) → 0 < length (onto_first y ws)
-    one_on y [] = omega arith
-    one_on y (w ∷ ws) = omega arith
-
--- more than five words spell no line
-pub too_many : (a b c d e : List ℕ) (more : List ℕ) (read : Line) → WordsSpell (a ∷ b ∷ c ∷ d ∷ e ∷ words_of more) read → ⊥
-too_many a b c d e more read is =
-    let some = some_word more in
-    let begun = begins (a ∷ b ∷ c ∷ d ∷ e ∷ words_of more) read is in
-    elim begun.count [
-      | inl two_words ↦ omega arith
-      | inr others ↦ elim others [ inl three_words ↦ omega arith | inr five_words ↦ omega arith ]
-    ]
-
-not_driven : {v s cookie offset last : List ℕ} {verb_word : List ℕ} {who : ScriptActor} {now : ℕ} →
-    Drives verb_word (v ∷ s ∷ cookie ∷ offset ∷ last ∷ []) who now → ⊥
+not_driven : {v s cookie offset last verb_word : List ℕ} {more : List (List ℕ)} {who : ScriptActor} {now : ℕ} →
+    Drives verb_word (v ∷ s ∷ cookie ∷ offset ∷ last ∷ more) who now → ⊥
 not_driven is = elim is.rest [
   | inl bare ↦ let whole = bare.0 in cc
   | inr timed ↦ let whole = timed.1.0 in cc
 ]
 
-place_of_asks : {v s cookie offset last verb_word a last' : List ℕ} {c o : ℕ} → Asks verb_word (v ∷ s ∷ cookie ∷ offset ∷ last ∷ []) a c o last' →
-    (place : Place) × IsPlace s cookie offset place
-place_of_asks {s} {cookie} {offset} {a} {c} {o} is =
+-- what five words and more that are a request's tell
+record Told (v : List ℕ) (s cookie offset last : List ℕ) (more : List (List ℕ)) (verb_word s' : List ℕ) (last' : List ℕ) (fua : Bool) : Type 0 where
+  verb_is : v ≡ verb_word
+  session_is : s' ≡ s
+  last_is : last' ≡ last
+  ends : more ≡ fua_words fua
+  place : (place : Place) × IsPlace s cookie offset place
+
+told : {v s cookie offset last verb_word s' last' : List ℕ} {more : List (List ℕ)} {c o : ℕ} {fua : Bool} →
+    Asks verb_word (v ∷ s ∷ cookie ∷ offset ∷ last ∷ more) s' c o last' fua → Told v s cookie offset last more verb_word s' last' fua
+told {s} {cookie} {offset} {s'} {c} {o} is =
     let whole = is.whole in
-    let s_is : a ≡ s = cc in
+    let s_is : s' ≡ s = cc in
     let cookie_is : is.cookie_word ≡ cookie = cc in
     let offset_is : is.offset_word ≡ offset = cc in
     let number : ℕ → List ℕ → Type 0 = λ n word. SpellsNumber greatest word n in
-    ((a, c, o), (sym s_is, subst IsSessionName s_is is.place.1, subst (number c) cookie_is is.place.2, subst (number o) offset_is is.place.3))
+    record {
+      verb_is = cc;
+      session_is = s_is;
+      last_is = cc;
+      ends = cc;
+      place = ((s', c, o), (sym s_is, subst IsSessionName s_is is.place.1, subst (number c) cookie_is is.place.2, subst (number o) offset_is is.place.3));
+    }
 
--- five words that spell a line are a request's
-pub placed : (v s cookie offset last : List ℕ) (read : Line) → WordsSpell (v ∷ s ∷ cookie ∷ offset ∷ last ∷ []) read →
+-- five words and more that spell a line are a request's
+pub placed : (v s cookie offset last : List ℕ) (more : List (List ℕ)) (read : Line) → WordsSpell (v ∷ s ∷ cookie ∷ offset ∷ last ∷ more) read →
     (place : Place) × IsPlace s cookie offset place
-placed v s cookie offset last line.Nothing is = absurd is
-placed v s cookie offset last (line.Session a e) is = let whole = is.0 in absurd (cc)
-placed v s cookie offset last (line.End a) is = let whole = is.0 in absurd (cc)
-placed v s cookie offset last (line.Read a c o count) is = place_of_asks is.1.0
-placed v s cookie offset last (line.Write a c o bytes) is = place_of_asks is.1.0
-placed v s cookie offset last (line.Step who now) is = absurd (not_driven is)
-placed v s cookie offset last (line.Run who now) is = absurd (not_driven is)
-placed v s cookie offset last (line.Fail stripe kind) is = let whole = is.1.0 in absurd (cc)
+placed v s cookie offset last more line.Nothing is = absurd is
+placed v s cookie offset last more (line.Session a e) is = let whole = is.0 in absurd (cc)
+placed v s cookie offset last more (line.End a) is = let whole = is.0 in absurd (cc)
+placed v s cookie offset last more (line.Read a c o count) is = (told is.1.0).place
+placed v s cookie offset last more (line.Write a c o bytes fua) is = (told is.1.0).place
+placed v s cookie offset last more (line.Zero a c o count fua) is = (told is.1.0).place
+placed v s cookie offset last more (line.Trim a c o count) is = (told is.1.0).place
+placed v s cookie offset last more (line.Flush a c) is = let whole = is.1.0 in absurd (cc)
+placed v s cookie offset last more (line.Step who now) is = absurd (not_driven is)
+placed v s cookie offset last more (line.Run who now) is = absurd (not_driven is)
+placed v s cookie offset last more (line.Fail stripe kind) is = let whole = is.1.0 in absurd (cc)
+
+-- behind five words of a line stands `fua`, or nothing
+pub ended : (v s cookie offset last : List ℕ) (more : List (List ℕ)) (read : Line) → WordsSpell (v ∷ s ∷ cookie ∷ offset ∷ last ∷ more) read →
+    (fua : Bool) × (more ≡ fua_words fua)
+ended v s cookie offset last more line.Nothing is = absurd is
+ended v s cookie offset last more (line.Session a e) is = let whole = is.0 in absurd (cc)
+ended v s cookie offset last more (line.End a) is = let whole = is.0 in absurd (cc)
+ended v s cookie offset last more (line.Read a c o count) is = (false, (told is.1.0).ends)
+ended v s cookie offset last more (line.Write a c o bytes fua) is = (fua, (told is.1.0).ends)
+ended v s cookie offset last more (line.Zero a c o count fua) is = (fua, (told is.1.0).ends)
+ended v s cookie offset last more (line.Trim a c o count) is = (false, (told is.1.0).ends)
+ended v s cookie offset last more (line.Flush a c) is = let whole = is.1.0 in absurd (cc)
+ended v s cookie offset last more (line.Step who now) is = absurd (not_driven is)
+ended v s cookie offset last more (line.Run who now) is = absurd (not_driven is)
+ended v s cookie offset last more (line.Fail stripe kind) is = let whole = is.1.0 in absurd (cc)
+
+-- the first and the third letter of a verb tell it
+verb_by : ℕ → Verb
+verb_by n =
+    if n == 345 then verb.Session else
+    if n == 301 then verb.End else
+    if n == 308 then verb.Read else
+    if n == 329 then verb.Write else
+    if n == 350 then verb.Zero else
+    if n == 326 then verb.Trim else
+    if n == 336 then verb.Flush else
+    if n == 317 then verb.Step else
+    if n == 334 then verb.Run else verb.Fail
+
+sign : List ℕ → ℕ
+sign word = get_or word 0 0 + 2 * get_or word 2 0
+
+by_sign : (v : Verb) → verb_by (sign (verb_word v)) ≡ v
+unfolding sign verb_by
+by_sign verb.Session = refl
+by_sign verb.End = refl
+by_sign verb.Read = refl
+by_sign verb.Write = refl
+by_sign verb.Zero = refl
+by_sign verb.Trim = refl
+by_sign verb.Flush = refl
+by_sign verb.Step = refl
+by_sign verb.Run = refl
+by_sign verb.Fail = refl
+
+one_verb : (v w : Verb) → verb_word v ≡ verb_word w → v ≡ w
+one_verb v w e = sym (by_sign v) ∙ ap (λ (word : List ℕ). verb_by (sign word)) e ∙ by_sign w
+
+pub one_fua : (a b : Bool) → fua_words a ≡ fua_words b → a ≡ b
+one_fua true true e = refl
+one_fua true false e = absurd (omega (arith, ap length e))
+one_fua false true e = absurd (omega (arith, ap length e))
+one_fua false false e = refl
+
+-- what is left of a text and isn't `fua`
+pub not_fua : (left : List ℕ) → (left ≡ codes "fua" → ⊥) → (fua : Bool) → words_of left ≡ fua_words fua → ⊥
+not_fua left bad true e = bad (only_word left (codes "fua") e)
+not_fua left bad false e = let some = some_word left in omega (arith, some, ap length e)
 
 -- a line that begins with `write` has data
-pub written : (v s cookie offset last : List ℕ) (read : Line) → v ≡ verb_word verb.Write →
-    WordsSpell (v ∷ s ∷ cookie ∷ offset ∷ last ∷ []) read → (bytes : List ℕ) × SpellsData last bytes
-written v s cookie offset last line.Nothing e is = absurd is
-written v s cookie offset last (line.Session a b) e is = let whole = is.0 in absurd (cc)
-written v s cookie offset last (line.End a) e is = let whole = is.0 in absurd (cc)
-written v s cookie offset last (line.Read a c o count) e is =
-    let whole = is.1.0.whole in
-    let both : verb_word verb.Write ≡ verb_word verb.Read = cc in
-    absurd (let first = ap (λ (l : List ℕ). get_or l 0 0) both in omega arith)
-written v s cookie offset last (line.Write a c o bytes) e is =
-    let whole = is.1.0.whole in
-    let last_is : is.0 ≡ last = cc in
-    (bytes, subst (λ (w : List ℕ). SpellsData w bytes) last_is is.1.1)
-written v s cookie offset last (line.Step who now) e is = absurd (not_driven is)
-written v s cookie offset last (line.Run who now) e is = absurd (not_driven is)
-written v s cookie offset last (line.Fail stripe kind) e is = let whole = is.1.0 in absurd (cc)
+pub written : (s cookie offset last : List ℕ) (more : List (List ℕ)) (read : Line) →
+    WordsSpell (verb_word verb.Write ∷ s ∷ cookie ∷ offset ∷ last ∷ more) read → (bytes : List ℕ) × SpellsData last bytes
+written s cookie offset last more line.Nothing is = absurd is
+written s cookie offset last more (line.Session a b) is = let whole = is.0 in absurd (cc)
+written s cookie offset last more (line.End a) is = let whole = is.0 in absurd (cc)
+written s cookie offset last more (line.Read a c o count) is = absurd (cc (one_verb verb.Write verb.Read (told is.1.0).verb_is))
+written s cookie offset last more (line.Write a c o bytes fua) is = (bytes, subst (λ (w : List ℕ). SpellsData w bytes) (told is.1.0).last_is is.1.1)
+written s cookie offset last more (line.Zero a c o count fua) is = absurd (cc (one_verb verb.Write verb.Zero (told is.1.0).verb_is))
+written s cookie offset last more (line.Trim a c o count) is = absurd (cc (one_verb verb.Write verb.Trim (told is.1.0).verb_is))
+written s cookie offset last more (line.Flush a c) is = let whole = is.1.0 in absurd (cc)
+written s cookie offset last more (line.Step who now) is = absurd (not_driven is)
+written s cookie offset last more (line.Run who now) is = absurd (not_driven is)
+written s cookie offset last more (line.Fail stripe kind) is = let whole = is.1.0 in absurd (cc)
+
+-- the kinds of requests but WRITE, and which of them may have the flag FUA
+pub is_sized : Verb → Bool → Bool
+is_sized verb.Read false = true
+is_sized verb.Zero fua = true
+is_sized verb.Trim false = true
+is_sized other fua = false
+
+-- a request but a WRITE has a length
+pub record Sized (v : Verb) (last : List ℕ) (fua : Bool) : Type 0 where
+  pub length : ℕ
+  pub spells : SpellsNumber greatest_length last length
+  pub kind : is_sized v fua ≡ true
+
+sized_as : {v : Verb} (w : Verb) {s cookie offset last s' last' : List ℕ} {c o n : ℕ} {fua fua' : Bool} → is_sized w fua' ≡ true →
+    Asks (verb_word w) (verb_word v ∷ s ∷ cookie ∷ offset ∷ last ∷ fua_words fua) s' c o last' fua' → SpellsNumber greatest_length last' n → Sized v last fua
+sized_as {v} w {n} {fua} {fua'} kind is spells =
+    let same = one_verb v w (told is).verb_is in
+    let flag = one_fua fua fua' (told is).ends in
+    record {
+      length = n;
+      spells = subst (λ (word : List ℕ). SpellsNumber greatest_length word n) (told is).last_is spells;
+      kind = rw (same, flag) kind;
+    }
+
+pub sized : (v : Verb) (s cookie offset last : List ℕ) (fua : Bool) (read : Line) → (v ≡ verb.Write → ⊥) →
+    WordsSpell (verb_word v ∷ s ∷ cookie ∷ offset ∷ last ∷ fua_words fua) read → Sized v last fua
+unfolding is_sized
+sized v s cookie offset last fua line.Nothing other is = absurd is
+sized v s cookie offset last fua (line.Session a b) other is = let whole = is.0 in absurd (cc)
+sized v s cookie offset last fua (line.End a) other is = let whole = is.0 in absurd (cc)
+sized v s cookie offset last fua (line.Read a c o count) other is = sized_as verb.Read refl is.1.0 is.1.1
+sized v s cookie offset last fua (line.Write a c o bytes fua') other is = absurd (other (one_verb v verb.Write (told is.1.0).verb_is))
+sized v s cookie offset last fua (line.Zero a c o count fua') other is = sized_as verb.Zero refl is.1.0 is.1.1
+sized v s cookie offset last fua (line.Trim a c o count) other is = sized_as verb.Trim refl is.1.0 is.1.1
+sized v s cookie offset last fua (line.Flush a c) other is = let whole = is.1.0 in absurd (cc)
+sized v s cookie offset last fua (line.Step who now) other is = absurd (not_driven is)
+sized v s cookie offset last fua (line.Run who now) other is = absurd (not_driven is)
+sized v s cookie offset last fua (line.Fail stripe kind) other is = let whole = is.1.0 in absurd (cc)
 
 -- what the words spell, the text spells
 pub ok_of : (text : List ℕ) (words : List (List ℕ)) (result : Result Line LineFault) → words_of text ≡ words →
@@ -182,8 +275,8 @@ pub fault_of : (text : List ℕ) (words : List (List ℕ)) (result : Result Line
     IfErr result (IsLineFault (WordsSpell words)) → IfErr result (IsLineFault (Reads text))
 fault_of text words (Ok read) e loud is = tt
 fault_of text words (Err fault.OutOfForm) e loud is = λ read. out_of text words read e loud (is read)
-fault_of text words (Err (fault.NoBody s c offset size)) e loud is =
-    let write : Line = line.Write s c offset is.0 in
+fault_of text words (Err (fault.NoBody s c offset size fua)) e loud is =
+    let write : Line = line.Write s c offset is.0 fua in
     let spells : List (List ℕ) → Type 0 = λ ws. WordsSpell ws write in
     (is.0, (of_words text write (subst spells (sym e) is.1.0), is.1.1))
 
@@ -194,9 +287,9 @@ none_fault words None is = is refl
 none_fault words (Some read) is = tt
 
 -- the words of a request
-pub asks_of : (v : Verb) (first session cookie offset last s : List ℕ) (c o : ℕ) → first ≡ verb_word v →
-    IsPlace session cookie offset (s, c, o) → Asks (verb_word v) (first ∷ session ∷ cookie ∷ offset ∷ last ∷ []) s c o last
-asks_of v first session cookie offset last s c o e is =
+pub asks_of : (v : Verb) (session cookie offset last s : List ℕ) (c o : ℕ) (fua : Bool) → IsPlace session cookie offset (s, c, o) →
+    Asks (verb_word v) (verb_word v ∷ session ∷ cookie ∷ offset ∷ last ∷ fua_words fua) s c o last fua
+asks_of v session cookie offset last s c o fua is =
     let session_is : session ≡ s = is.0 in
     record {
       cookie_word = cookie;

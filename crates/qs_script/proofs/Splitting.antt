@@ -36,6 +36,33 @@ split_first (x ∷ xs) (suc at) is =
     } in
     rw e (ap (onto_first x) (split_first xs at inner))
 
+-- a text has a word
+pub some_word : (text : List ℕ) → 0 < length (words_of text)
+some_word [] = omega arith
+some_word (x ∷ xs) =
+    elim (x == 32) as (λ (b : Bool). 0 < length (cond b ([] ∷ words_of xs) (onto_first x (words_of xs)))) [
+      | true ↦ omega arith
+      | false ↦ one_on x (words_of xs)
+    ]
+  where
+    one_on : (y : ℕ) (ws : List (List ℕ)) → 0 < length (onto_first y ws)
+    one_on y [] = omega arith
+    one_on y (w ∷ ws) = omega arith
+
+-- the only word of a text is the text
+pub only_word : (text word : List ℕ) → words_of text ≡ word ∷ [] → text ≡ word
+only_word [] word e = cc
+only_word (x ∷ xs) word e =
+    elim (x == 32) as (λ (b : Bool). cond b ([] ∷ words_of xs) (onto_first x (words_of xs)) ≡ word ∷ [] → x ∷ xs ≡ word) [
+      | true ↦ λ f. absurd (let some = some_word xs in omega (arith, some, ap length f))
+      | false ↦ λ f. joined (words_of xs) refl (only_word xs) f
+    ] e
+  where
+    joined : (ws : List (List ℕ)) → words_of xs ≡ ws → ((w : List ℕ) → words_of xs ≡ w ∷ [] → xs ≡ w) → onto_first x ws ≡ word ∷ [] → x ∷ xs ≡ word
+    joined [] f same g = absurd (let some = some_word xs in omega (arith, some, ap length f))
+    joined (w ∷ []) f same g = let whole = same w f in cc
+    joined (w ∷ v ∷ ws) f same g = absurd (omega (arith, ap length g))
+
 none_in : (byte : ℕ) → HasNo byte []
 none_in byte = λ k inside. absurd (omega arith)
 

@@ -1,5 +1,5 @@
 -- The grammar of a script's lines, on whole texts without their LF.
-use Rattle.std.specs.Prelude.{◌≡◌, ℕ, ◌≤◌, ◌⊎◌, ◌==◌, List, [], ◌∷◌, length, codes, Option, None, Some}
+use Rattle.std.specs.Prelude.{◌≡◌, ℕ, ◌≤◌, ◌⊎◌, ◌==◌, Bool, true, false, List, [], ◌∷◌, length, codes, Option, None, Some}
 use Rattle.std.specs.List.{slice_split}
 use Rattle.std.specs.Borrow.{Bor}
 use Rattle.qs_bytes.specs.Names.{IsName}
@@ -39,20 +39,32 @@ abbrev pub IsPlace : List ℕ → List ℕ → List ℕ → Place → Type 0
 IsPlace session cookie offset place =
     (session ≡ place.0) × IsSessionName session × SpellsNumber greatest cookie place.1 × SpellsNumber greatest offset place.2
 
--- `VERB S C OFFSET LAST`
-pub record Asks (verb : List ℕ) (words : List (List ℕ)) (s : List ℕ) (c offset : ℕ) (last : List ℕ) : Type 0 where
+-- the word `fua`, where a request has the flag FUA
+abbrev pub fua_words : Bool → List (List ℕ)
+fua_words true = codes "fua" ∷ []
+fua_words false = []
+
+-- `VERB S C OFFSET LAST`, and `fua` behind them where the flag is set
+pub record Asks (verb : List ℕ) (words : List (List ℕ)) (s : List ℕ) (c offset : ℕ) (last : List ℕ) (fua : Bool) : Type 0 where
   pub cookie_word : List ℕ
   pub offset_word : List ℕ
-  pub whole : words ≡ verb ∷ s ∷ cookie_word ∷ offset_word ∷ last ∷ []
+  pub whole : words ≡ verb ∷ s ∷ cookie_word ∷ offset_word ∷ last ∷ fua_words fua
   pub place : IsPlace s cookie_word offset_word (s, c, offset)
+
+-- such words, the last of them a length
+abbrev pub AsksLength : List ℕ → List (List ℕ) → List ℕ → ℕ → ℕ → ℕ → Bool → Type 0
+AsksLength verb words s c offset length fua = (last : List ℕ) × (Asks verb words s c offset last fua × SpellsNumber greatest_length last length)
 
 -- the words spell the line
 abbrev pub WordsSpell : List (List ℕ) → Line → Type 0
 WordsSpell words line.Nothing = ⊥
 WordsSpell words (line.Session s e) = (words ≡ codes "session" ∷ s ∷ e ∷ []) × IsSessionName s × (1 ≤ length e) × IsName e
 WordsSpell words (line.End s) = (words ≡ codes "end" ∷ s ∷ []) × IsSessionName s
-WordsSpell words (line.Read s c offset length) = (last : List ℕ) × (Asks (codes "read") words s c offset last × SpellsNumber greatest_length last length)
-WordsSpell words (line.Write s c offset bytes) = (last : List ℕ) × (Asks (codes "write") words s c offset last × SpellsData last bytes)
+WordsSpell words (line.Read s c offset length) = AsksLength (codes "read") words s c offset length false
+WordsSpell words (line.Write s c offset bytes fua) = (last : List ℕ) × (Asks (codes "write") words s c offset last fua × SpellsData last bytes)
+WordsSpell words (line.Zero s c offset length fua) = AsksLength (codes "zero") words s c offset length fua
+WordsSpell words (line.Trim s c offset length) = AsksLength (codes "trim") words s c offset length false
+WordsSpell words (line.Flush s c) = (digits : List ℕ) × ((words ≡ codes "flush" ∷ s ∷ digits ∷ []) × IsSessionName s × SpellsNumber greatest digits c)
 WordsSpell words (line.Step actor now) = Drives (codes "step") words actor now
 WordsSpell words (line.Run actor now) = Drives (codes "run") words actor now
 WordsSpell words (line.Fail stripe kind) = (digits : List ℕ) × ((words ≡ codes "fail" ∷ digits ∷ fail_word kind ∷ []) × SpellsNumber 7 digits stripe)
@@ -65,4 +77,4 @@ Reads text other = WordsSpell (words_of text) other
 -- why a text isn't read as a line: it spells none, or a WRITE of so many bytes, which found no memory
 abbrev pub IsLineFault : (Line → Type 0) → LineFault → Type 0
 IsLineFault spells fault.OutOfForm = (read : Line) → ¬ spells read
-IsLineFault spells (fault.NoBody s c offset size) = (bytes : List ℕ) × (spells (line.Write s c offset bytes) × (length bytes ≡ size))
+IsLineFault spells (fault.NoBody s c offset size fua) = (bytes : List ℕ) × (spells (line.Write s c offset bytes fua) × (length bytes ≡ size))

@@ -52,6 +52,7 @@ abbrev pub filled_word : OpKind → List ℕ
 filled_word op.Hold = codes "held"
 filled_word _ = codes "loaded"
 
+-- an answer about a block, or to a Sync of the stripe with this number
 abbrev pub stripe_words : OpKind → StripeNote → ℕ → List ℕ
 stripe_words kind stripe.Filled b = counted (filled_word kind) b
 stripe_words kind stripe.Fault b = codes "fault"
@@ -60,6 +61,8 @@ stripe_words kind (stripe.Taken other) b = counted (codes "taken") other
 stripe_words kind stripe.Done b = counted (codes "stored") b
 stripe_words kind stripe.Freed b = counted (codes "freed") b
 stripe_words kind stripe.NotHeld b = codes "strange"
+stripe_words kind stripe.Clean b = counted (codes "clean") b
+stripe_words kind stripe.Synced b = counted (codes "synced") b
 
 -- the words of a step, by its part's answer
 abbrev pub reply_words : OpKind → ℕ → NoteReply → List ℕ

@@ -24,12 +24,33 @@ pub enum Line {
         offset: u64,
         length: u64,
     },
-    /// `write S C OFFSET BYTES`
+    /// `write S C OFFSET BYTES [fua]`
     Write {
         session: SessionName,
         cookie: u64,
         offset: u64,
         body: Bytes,
+        fua: bool,
+    },
+    /// `zero S C OFFSET LENGTH [fua]`
+    Zero {
+        session: SessionName,
+        cookie: u64,
+        offset: u64,
+        length: u64,
+        fua: bool,
+    },
+    /// `trim S C OFFSET LENGTH`
+    Trim {
+        session: SessionName,
+        cookie: u64,
+        offset: u64,
+        length: u64,
+    },
+    /// `flush S C`
+    Flush {
+        session: SessionName,
+        cookie: u64,
     },
     /// `step ACTOR [READING]`
     Step {
@@ -59,5 +80,6 @@ pub enum LineFault {
         cookie: u64,
         offset: u64,
         length: u64,
+        fua: bool,
     },
 }

@@ -155,7 +155,7 @@ fn put_graph(alloc: Global, out: &mut Bytes, reply: GraphNote) -> Result<(), Mem
     }
 }
 
-/// An operation of kind `kind` on block `b`.
+/// An operation of kind `kind` on block `b`; a Sync is of the stripe `b`.
 fn put_stripe(
     alloc: Global,
     out: &mut Bytes,
@@ -173,6 +173,8 @@ fn put_stripe(
         StripeNote::Done => put_counted(alloc, out, b"stored", b),
         StripeNote::Freed => put_counted(alloc, out, b"freed", b),
         StripeNote::NotHeld => out.append(b"strange"),
+        StripeNote::Clean => put_counted(alloc, out, b"clean", b),
+        StripeNote::Synced => put_counted(alloc, out, b"synced", b),
     }
 }
 

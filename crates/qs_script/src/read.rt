@@ -1,5 +1,5 @@
-ghost use Rattle.std.specs.Prelude.{◌≡◌, ◌↔◌, IfErr, IfOk, IsNone, IsTrue, IfSome, [], ◌∷◌};
-ghost use Rattle.qs_script.specs.Lines.{IsLineFault, IsPlace, IsQuiet, Place, Reads, WordsSpell, words_left, words_of};
+ghost use Rattle.std.specs.Prelude.{◌≡◌, ◌≢◌, ◌↔◌, Bool, IfErr, IfOk, IsNone, IsTrue, IfSome, [], ◌∷◌, codes};
+ghost use Rattle.qs_script.specs.Lines.{IsLineFault, IsPlace, IsQuiet, Place, Reads, WordsSpell, fua_words, words_left, words_of};
 ghost use Rattle.qs_outside.specs.declared.rigged_disk.Fail.{Fail as Failure};
 ghost use Rattle.qs_script.specs.Spelled.{fail_word};
 ghost use Rattle.qs_script.specs.Verbs.{verb_word};
@@ -44,9 +44,9 @@ pub fn read_line(alloc: Global, text: &[u8]) -> Result<Line, LineFault>
         return Err(LineFault::OutOfForm);
     };
     let (fourth, rest) = cut_word(rest);
-    match rest {
-        None => five_words(alloc, verb, first, second, third, fourth),
-        Some(_) => Err(LineFault::OutOfForm),
+    match fua_of(rest) {
+        Some(fua) => request(alloc, verb, first, second, third, fourth, fua),
+        None => Err(LineFault::OutOfForm),
     }
 }
 
@@ -70,6 +70,25 @@ fn cut_word(text: &[u8]) -> (&[u8], Option<&[u8]>)
     }
 }
 
+/// Whether `fua` is all that is left of a request's words; `None` where something else is.
+fn fua_of(left: Option<&[u8]>) -> Option<bool>
+    ensures some { IfSome result (λ fua. words_left left.entry ≡ fua_words fua) }
+    ensures none { IsNone result → (fua : Bool) → ¬ (words_left left.entry ≡ fua_words fua) }
+{
+    match left {
+        None => Some(false),
+        Some(text) if is_fua(text) => Some(true),
+        Some(_) => None,
+    }
+}
+
+/// Whether the text is `fua`.
+fn is_fua(text: &[u8]) -> bool
+    ensures { IsTrue result ↔ (text.now ≡ codes "fua") }
+{
+    matches!(text, b"fua")
+}
+
 /// The first word of a line.
 #[derive(Clone, Copy, Debug, PartialEq, Eq)]
 enum Verb {
@@ -77,6 +96,9 @@ enum Verb {
     End,
     Read,
     Write,
+    Zero,
+    Trim,
+    Flush,
     Step,
     Run,
     Fail,
@@ -92,6 +114,9 @@ fn verb_of(word: &[u8]) -> Option<Verb>
         b"end" => Some(Verb::End),
         b"read" => Some(Verb::Read),
         b"write" => Some(Verb::Write),
+        b"zero" => Some(Verb::Zero),
+        b"trim" => Some(Verb::Trim),
+        b"flush" => Some(Verb::Flush),
         b"step" => Some(Verb::Step),
         b"run" => Some(Verb::Run),
         b"fail" => Some(Verb::Fail),
@@ -116,17 +141,27 @@ fn two_words(verb: &[u8], word: &[u8]) -> Option<Line>
             actor: actor_of(word)?,
             now: 0,
         }),
-        Verb::Session | Verb::Read | Verb::Write | Verb::Fail => None,
+        Verb::Session
+        | Verb::Read
+        | Verb::Write
+        | Verb::Zero
+        | Verb::Trim
+        | Verb::Flush
+        | Verb::Fail => None,
     }
 }
 
-/// `session S EXPORT`, `step` or `run` of an actor at a reading, or `fail STRIPE KIND`.
+/// `session S EXPORT`, `flush S C`, `step` or `run` of an actor at a reading, or `fail STRIPE KIND`.
 fn three_words(verb: &[u8], first: &[u8], second: &[u8]) -> Option<Line>
     ensures some { IfSome result (WordsSpell (verb.now ∷ first.now ∷ second.now ∷ [])) }
     ensures none { IsNone result → (line : ALine) → ¬ WordsSpell (verb.now ∷ first.now ∷ second.now ∷ []) line }
 {
     match verb_of(verb)? {
         Verb::Session => session_line(first, second),
+        Verb::Flush => Some(Line::Flush {
+            session: SessionName::of(first)?,
+            cookie: number(second, u64::MAX)?,
+        }),
         Verb::Step => Some(Line::Step {
             actor: actor_of(first)?,
             now: number(second, u64::MAX)?,
@@ -139,7 +174,7 @@ fn three_words(verb: &[u8], first: &[u8], second: &[u8]) -> Option<Line>
             stripe: number(first, 7)?,
             kind: fail_of(second)?,
         }),
-        Verb::End | Verb::Read | Verb::Write => None,
+        Verb::End | Verb::Read | Verb::Write | Verb::Zero | Verb::Trim => None,
     }
 }
 
@@ -171,43 +206,67 @@ fn fail_of(word: &[u8]) -> Option<Fail>
     }
 }
 
-/// `read S C OFFSET LENGTH` or `write S C OFFSET BYTES`.
-fn five_words(
+/// A request whose last word is a length or data: a READ, a WRITE, a WRITE_ZEROES or a TRIM, with the
+/// flag FUA where `fua` stands behind them.
+fn request(
     alloc: Global,
     verb: &[u8],
     session: &[u8],
     cookie: &[u8],
     offset: &[u8],
     last: &[u8],
+    fua: bool,
 ) -> Result<Line, LineFault>
-    ensures ok { IfOk result (WordsSpell (verb.now ∷ session.now ∷ cookie.now ∷ offset.now ∷ last.now ∷ [])) }
-    ensures fault { IfErr result (IsLineFault (WordsSpell (verb.now ∷ session.now ∷ cookie.now ∷ offset.now ∷ last.now ∷ []))) }
+    ensures ok { IfOk result (WordsSpell (verb.now ∷ session.now ∷ cookie.now ∷ offset.now ∷ last.now ∷ fua_words fua)) }
+    ensures fault { IfErr result (IsLineFault (WordsSpell (verb.now ∷ session.now ∷ cookie.now ∷ offset.now ∷ last.now ∷ fua_words fua))) }
 {
-    let Some(verb) = verb_of(verb) else {
-        return Err(LineFault::OutOfForm);
-    };
-    match verb {
-        Verb::Read => read_request(session, cookie, offset, last).ok_or(LineFault::OutOfForm),
-        Verb::Write => write_request(alloc, session, cookie, offset, last),
-        Verb::Session | Verb::End | Verb::Step | Verb::Run | Verb::Fail => {
-            Err(LineFault::OutOfForm)
+    match verb_of(verb) {
+        None => Err(LineFault::OutOfForm),
+        Some(Verb::Write) => write_request(alloc, session, cookie, offset, last, fua),
+        Some(verb) => {
+            sized_request(verb, session, cookie, offset, last, fua).ok_or(LineFault::OutOfForm)
         }
     }
 }
 
-/// A READ, whose last word is its length.
-fn read_request(session: &[u8], cookie: &[u8], offset: &[u8], last: &[u8]) -> Option<Line>
-    ensures some { IfSome result (WordsSpell (verb_word Verb.Read ∷ session.now ∷ cookie.now ∷ offset.now ∷ last.now ∷ [])) }
+/// A request of another kind than WRITE, whose last word is its length.
+fn sized_request(
+    verb: Verb,
+    session: &[u8],
+    cookie: &[u8],
+    offset: &[u8],
+    last: &[u8],
+    fua: bool,
+) -> Option<Line>
+    requires { verb ≢ Verb.Write }
+    ensures some { IfSome result (WordsSpell (verb_word verb ∷ session.now ∷ cookie.now ∷ offset.now ∷ last.now ∷ fua_words fua)) }
     ensures none { IsNone result → (line : ALine) →
-        ¬ WordsSpell (verb_word Verb.Read ∷ session.now ∷ cookie.now ∷ offset.now ∷ last.now ∷ []) line }
+        ¬ WordsSpell (verb_word verb ∷ session.now ∷ cookie.now ∷ offset.now ∷ last.now ∷ fua_words fua) line }
 {
     let (session, cookie, offset) = place_of(session, cookie, offset)?;
-    Some(Line::Read {
-        session,
-        cookie,
-        offset,
-        length: number(last, GREATEST_LENGTH)?,
-    })
+    let length = number(last, GREATEST_LENGTH)?;
+    match (verb, fua) {
+        (Verb::Read, false) => Some(Line::Read {
+            session,
+            cookie,
+            offset,
+            length,
+        }),
+        (Verb::Zero, _) => Some(Line::Zero {
+            session,
+            cookie,
+            offset,
+            length,
+            fua,
+        }),
+        (Verb::Trim, false) => Some(Line::Trim {
+            session,
+            cookie,
+            offset,
+            length,
+        }),
+        _ => None,
+    }
 }
 
 /// A WRITE, whose last word is its data.
@@ -217,9 +276,10 @@ fn write_request(
     cookie: &[u8],
     offset: &[u8],
     last: &[u8],
+    fua: bool,
 ) -> Result<Line, LineFault>
-    ensures ok { IfOk result (WordsSpell (verb_word Verb.Write ∷ session.now ∷ cookie.now ∷ offset.now ∷ last.now ∷ [])) }
-    ensures fault { IfErr result (IsLineFault (WordsSpell (verb_word Verb.Write ∷ session.now ∷ cookie.now ∷ offset.now ∷ last.now ∷ []))) }
+    ensures ok { IfOk result (WordsSpell (verb_word Verb.Write ∷ session.now ∷ cookie.now ∷ offset.now ∷ last.now ∷ fua_words fua)) }
+    ensures fault { IfErr result (IsLineFault (WordsSpell (verb_word Verb.Write ∷ session.now ∷ cookie.now ∷ offset.now ∷ last.now ∷ fua_words fua))) }
 {
     let Some((session, cookie, offset)) = place_of(session, cookie, offset) else {
         return Err(LineFault::OutOfForm);
@@ -230,6 +290,7 @@ fn write_request(
             cookie,
             offset,
             body,
+            fua,
         }),
         Err(DataFault::OutOfForm) => Err(LineFault::OutOfForm),
         Err(DataFault::Memory(length)) => Err(LineFault::NoBody {
@@ -237,6 +298,7 @@ fn write_request(
             cookie,
             offset,
             length,
+            fua,
         }),
     }
 }

@@ -36,6 +36,83 @@ fn tell_failure(out: &mut Bytes, kind: Failing) -> Result<(), Memory> {
     }
 }
 
+/// Tells a request in other words: its session, a verb and numbers.
+fn tell_request(
+    alloc: Global,
+    out: &mut Bytes,
+    session: &SessionName,
+    verb: &[u8],
+    numbers: &[u64],
+) -> Result<(), Memory> {
+    out.append(session.as_slice())?;
+    tell(alloc, out, verb, numbers)
+}
+
+fn tell_fua(out: &mut Bytes, fua: bool) -> Result<(), Memory> {
+    match fua {
+        true => out.append(b" through"),
+        false => Ok(()),
+    }
+}
+
+/// Tells a WRITE_ZEROES, a TRIM or a FLUSH in other words.
+fn tell_dataless(alloc: Global, out: &mut Bytes, line: &Line) -> Result<(), Memory> {
+    match line {
+        Line::Zero {
+            session,
+            cookie,
+            offset,
+            length,
+            fua,
+        } => {
+            let numbers = [*cookie, *offset, *length];
+            tell_request(alloc, out, session, b" zeroes", &numbers)?;
+            tell_fua(out, *fua)
+        }
+        Line::Trim {
+            session,
+            cookie,
+            offset,
+            length,
+        } => {
+            let numbers = [*cookie, *offset, *length];
+            tell_request(alloc, out, session, b" trims", &numbers)
+        }
+        Line::Flush { session, cookie } => {
+            tell_request(alloc, out, session, b" flushes", &[*cookie])
+        }
+        _ => Ok(()),
+    }
+}
+
+/// Tells a READ or a WRITE in other words.
+fn tell_data(alloc: Global, out: &mut Bytes, line: &Line) -> Result<(), Memory> {
+    match line {
+        Line::Read {
+            session,
+            cookie,
+            offset,
+            length,
+        } => {
+            let numbers = [*cookie, *offset, *length];
+            tell_request(alloc, out, session, b" reads", &numbers)
+        }
+        Line::Write {
+            session,
+            cookie,
+            offset,
+            body,
+            fua,
+        } => {
+            tell_request(alloc, out, session, b" writes", &[*cookie, *offset])?;
+            out.append(b" ")?;
+            out.append(body.as_slice())?;
+            tell_fua(out, *fua)
+        }
+        _ => Ok(()),
+    }
+}
+
 /// Tells a line in other words.
 fn tell_line(alloc: Global, out: &mut Bytes, line: &Line) -> Result<(), Memory> {
     match line {
@@ -49,25 +126,9 @@ fn tell_line(alloc: Global, out: &mut Bytes, line: &Line) -> Result<(), Memory> 
             out.append(session.as_slice())?;
             out.append(b" ends")
         }
-        Line::Read {
-            session,
-            cookie,
-            offset,
-            length,
-        } => {
-            out.append(session.as_slice())?;
-            tell(alloc, out, b" reads", &[*cookie, *offset, *length])
-        }
-        Line::Write {
-            session,
-            cookie,
-            offset,
-            body,
-        } => {
-            out.append(session.as_slice())?;
-            tell(alloc, out, b" writes", &[*cookie, *offset])?;
-            out.append(b" ")?;
-            out.append(body.as_slice())
+        Line::Read { .. } | Line::Write { .. } => tell_data(alloc, out, line),
+        Line::Zero { .. } | Line::Trim { .. } | Line::Flush { .. } => {
+            tell_dataless(alloc, out, line)
         }
         Line::Step { actor, now } => {
             tell_actor(alloc, out, actor)?;
@@ -97,7 +158,7 @@ fn told(alloc: Global, text: &[u8]) -> Result<Bytes, Memory> {
 
 #[test]
 fn lines_are_read(rt: HostRuntime) -> Result<(), Fail> {
-    let rows: [(&[u8], &[u8]); 15] = [
+    let rows: [(&[u8], &[u8]); 21] = [
         (b"", b""),
         (b"# read A 1 0 512", b""),
         (b"session A disk", b"A at disk"),
@@ -107,6 +168,15 @@ fn lines_are_read(rt: HostRuntime) -> Result<(), Fail> {
         (b"write A 1 7 -", b"A writes 1 7 "),
         (b"write A 1 7 61*3", b"A writes 1 7 aaa"),
         (b"write A 1 7 61*0", b"A writes 1 7 "),
+        (b"write A 1 7 61*3 fua", b"A writes 1 7 aaa through"),
+        (b"zero A 3 4096 4294967295", b"A zeroes 3 4096 4294967295"),
+        (b"zero A 3 0 0 fua", b"A zeroes 3 0 0 through"),
+        (b"trim A 4 510 1000", b"A trims 4 510 1000"),
+        (
+            b"trim A 4 18446744073709551615 1",
+            b"A trims 4 18446744073709551615 1",
+        ),
+        (b"flush A 5", b"A flushes 5"),
         (b"step A.1", b"A request 1 steps 0"),
         (b"step A", b"A steps 0"),
         (
@@ -147,7 +217,21 @@ fn what_is_out_of_form_is_refused(rt: HostRuntime) {
         b"write A 1 0 6d6g",
         b"write A 1 0 2*2",
         b"write A 1 0 22*33554433",
-        b"write A 1 0 22 fua",
+        b"write A 1 0 22 fua ",
+        b"write A 1 0 22  fua",
+        b"write A 1 0 22 fua fua",
+        b"write A 1 0 22 FUA",
+        b"write A 1 0 fua",
+        b"read A 1 0 512 fua",
+        b"zero A 1 0 4294967296",
+        b"zero A 1 0 512 0",
+        b"zero A 1 512",
+        b"trim A 1 0 512 fua",
+        b"trim A 1 18446744073709551616 512",
+        b"flush A",
+        b"flush A 01",
+        b"flush A 1 fua",
+        b"flush A 1 0 0",
         b"fail 8 load",
         b"fail 0 store",
         b"crash 0",
@@ -160,15 +244,16 @@ fn what_is_out_of_form_is_refused(rt: HostRuntime) {
 #[test]
 fn requests_without_memory_are_told(rt: HostRuntime) -> Result<(), Fail> {
     let session = SessionName::of(b"A").ok_or("no name")?;
-    for (text, length) in [
-        (b"write A 1 510 6d6D4a".as_slice(), 3),
-        (b"write A 1 510 61*9", 9),
+    for (text, length, fua) in [
+        (b"write A 1 510 6d6D4a".as_slice(), 3, false),
+        (b"write A 1 510 61*9 fua", 9, true),
     ] {
         let lacking = LineFault::NoBody {
             session,
             cookie: 1,
             offset: 510,
             length,
+            fua,
         };
         match read_line(rt.alloc(), text) {
             Ok(line) => assert!(rt; matches!(&line, Line::Write { .. })),
@@ -240,6 +325,9 @@ fn lines_are_printed(rt: HostRuntime) -> Result<(), Fail> {
             Some(1),
             NoteReply::Stripe(StripeNote::HeldBy(9)),
         ),
+        (OpKind::Sync, Some(7), NoteReply::Stripe(StripeNote::Clean)),
+        (OpKind::Sync, Some(0), NoteReply::Stripe(StripeNote::Synced)),
+        (OpKind::Sync, Some(3), NoteReply::Stripe(StripeNote::Fault)),
     ] {
         put_step(alloc, &mut out, &request, &Note { kind, at, reply })?;
     }
@@ -263,7 +351,7 @@ fn lines_are_printed(rt: HostRuntime) -> Result<(), Fail> {
         put_session(alloc, &mut out, a, news)?;
     }
     let printed = b"A.1 enter 0\nA.1 route 512 1024\nA.1 not-yet 3\nA.1 held 1\nA.1 loaded 2\n\
-A.1 stored 1\nA.1 busy 9\nA.1 = 0 00aa0f\nA.1 = 0 -\nA.1 = 0\nA.1 = 28\nA.1 dropped\n\
+A.1 stored 1\nA.1 busy 9\nA.1 clean 7\nA.1 synced 0\nA.1 fault\nA.1 = 0 00aa0f\nA.1 = 0 -\nA.1 = 0\nA.1 = 28\nA.1 dropped\n\
 A attached 4096 rw\nA attached 4096 ro\nA refused\nA crowded\nA left\nA detached\n";
     assert_eq!(rt; out.as_slice(), printed.as_slice());
     Ok(())

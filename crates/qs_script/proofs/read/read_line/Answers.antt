@@ -1,8 +1,8 @@
--- A line has two, three or five words.
-use Rattle.std.proofs.Common.{◌≡◌, ℕ, List, ◌∷◌, Option, ap, ◌∙◌}
+-- A line has two, three, five or six words.
+use Rattle.std.proofs.Common.{◌≡◌, ℕ, List, ◌∷◌, Option, refl, ap, ◌∙◌}
 use Rattle.std.specs.Borrow.{Bor}
 use Rattle.qs_script.specs.Lines.{words_left, words_of}
-use Rattle.qs_script.proofs.Reading.{fault_of, none_fault, ok_of, out_of, too_many}
+use Rattle.qs_script.proofs.Reading.{ended, fault_of, none_fault, ok_of, out_of}
 use Rattle.qs_script.proofs.read.read_line.Goals as goal
 
 -- the words of a text: its first, and those of what is left
@@ -27,24 +27,26 @@ returns-in_default-rest-2-clause-fault c =
     fault_of c.args.text.now _ _ words (λ quiet. let told = c.if-is_quiet.ensures.1 quiet in cc)
     (rw c.ok_or-in_default-rest-2.ensures.value (none_fault _ c.three_words.result c.three_words.ensures.none))
 
-pub returns-in-None-clause-ok : goal.returns-in-None-clause-ok
-returns-in-None-clause-ok c =
+pub returns-in-Some-fua_of-clause-ok : goal.returns-in-Some-fua_of-clause-ok
+returns-in-Some-fua_of-clause-ok c =
     let words = next c.args.text.now c.cut_word.ensures c.in-Some.is
     (next c.in-Some.rest.now c.cut_word-2.ensures c.in-Some-rest.is
     (next c.in-Some-rest.rest.now c.cut_word-3.ensures c.in-Some-rest-2.is
-    (next c.in-Some-rest-2.rest.now c.cut_word-4.ensures c.in-Some-rest-3.is (last c.in-Some-rest-3.rest.now c.cut_word-5.ensures c.in-None.is)))) in
-    ok_of c.args.text.now _ c.five_words.result words c.five_words.ensures.ok
+    (next c.in-Some-rest-2.rest.now c.cut_word-4.ensures c.in-Some-rest-3.is
+    (next c.in-Some-rest-3.rest.now {left = c.cut_word-5.result.1} c.cut_word-5.ensures refl c.in-Some-fua_of.ensures.some)))) in
+    ok_of c.args.text.now _ c.request.result words c.request.ensures.ok
+
+pub returns-in-Some-fua_of-clause-fault : goal.returns-in-Some-fua_of-clause-fault
+returns-in-Some-fua_of-clause-fault c =
+    let words = next c.args.text.now c.cut_word.ensures c.in-Some.is
+    (next c.in-Some.rest.now c.cut_word-2.ensures c.in-Some-rest.is
+    (next c.in-Some-rest.rest.now c.cut_word-3.ensures c.in-Some-rest-2.is
+    (next c.in-Some-rest-2.rest.now c.cut_word-4.ensures c.in-Some-rest-3.is
+    (next c.in-Some-rest-3.rest.now {left = c.cut_word-5.result.1} c.cut_word-5.ensures refl c.in-Some-fua_of.ensures.some)))) in
+    fault_of c.args.text.now _ c.request.result words (λ quiet. let told = c.if-is_quiet.ensures.1 quiet in cc) c.request.ensures.fault
 
 pub returns-in-None-clause-fault : goal.returns-in-None-clause-fault
-returns-in-None-clause-fault c =
-    let words = next c.args.text.now c.cut_word.ensures c.in-Some.is
-    (next c.in-Some.rest.now c.cut_word-2.ensures c.in-Some-rest.is
-    (next c.in-Some-rest.rest.now c.cut_word-3.ensures c.in-Some-rest-2.is
-    (next c.in-Some-rest-2.rest.now c.cut_word-4.ensures c.in-Some-rest-3.is (last c.in-Some-rest-3.rest.now c.cut_word-5.ensures c.in-None.is)))) in
-    fault_of c.args.text.now _ c.five_words.result words (λ quiet. let told = c.if-is_quiet.ensures.1 quiet in cc) c.five_words.ensures.fault
-
-pub returns-in-Some-rest-4-clause-fault : goal.returns-in-Some-rest-4-clause-fault
-returns-in-Some-rest-4-clause-fault c = λ read is.
+returns-in-None-clause-fault c = λ read is.
     let one = c.cut_word.result in
     let two = c.cut_word-2.result in
     let three = c.cut_word-3.result in
@@ -53,6 +55,7 @@ returns-in-Some-rest-4-clause-fault c = λ read is.
     let words = next c.args.text.now c.cut_word.ensures c.in-Some.is
     (next c.in-Some.rest.now c.cut_word-2.ensures c.in-Some-rest.is
     (next c.in-Some-rest.rest.now c.cut_word-3.ensures c.in-Some-rest-2.is
-    (next c.in-Some-rest-2.rest.now c.cut_word-4.ensures c.in-Some-rest-3.is (last c.in-Some-rest-3.rest.now c.cut_word-5.ensures c.in-Some-rest-4.is)))) in
+    (next c.in-Some-rest-2.rest.now c.cut_word-4.ensures c.in-Some-rest-3.is c.cut_word-5.ensures))) in
     out_of c.args.text.now _ read words (λ quiet. let told = c.if-is_quiet.ensures.1 quiet in cc)
-    (too_many one.0.now two.0.now three.0.now four.0.now five.0.now c.in-Some-rest-4.field-0.now read) is
+    (λ spelled. let how = ended one.0.now two.0.now three.0.now four.0.now five.0.now (words_left five.1) read spelled in
+    c.in-None.ensures.none refl how.0 how.1) is
