@@ -16,6 +16,8 @@ enum Act {
     Leave(u32),
     Write(u32, u64, usize, u8),
     Read(u32, u64, usize),
+    Zero(u32, u64, usize),
+    Flush(u32),
     /// A READ of four bytes whose buffer has five.
     WrongBuffer(u32),
     Step(u64),
@@ -39,6 +41,8 @@ enum Said {
     Stored(u64),
     Freed(u64),
     Fault(u64),
+    Clean(u64),
+    Synced(u64),
     Detached,
     Got(usize, u8, u8),
     Fine,
@@ -62,6 +66,8 @@ fn noted(note: &Note) -> Said {
         NoteReply::Stripe(StripeNote::Done) => Said::Stored(at),
         NoteReply::Stripe(StripeNote::Freed) => Said::Freed(at),
         NoteReply::Stripe(StripeNote::Fault) => Said::Fault(at),
+        NoteReply::Stripe(StripeNote::Clean) => Said::Clean(at),
+        NoteReply::Stripe(StripeNote::Synced) => Said::Synced(at),
         _ => Said::Other,
     }
 }
@@ -133,6 +139,19 @@ fn event(alloc: Global, act: Act) -> Result<Event, Failure> {
             session,
             ask: ask(Kind::Read, offset, length),
             body: Some(bytes(alloc, length, 0)?),
+        },
+        Act::Zero(session, offset, length) => Event::Ask {
+            session,
+            ask: Ask {
+                fua: true,
+                ..ask(Kind::Zero, offset, length)
+            },
+            body: None,
+        },
+        Act::Flush(session) => Event::Ask {
+            session,
+            ask: ask(Kind::Flush, 0, 0),
+            body: None,
         },
         Act::WrongBuffer(session) => Event::Ask {
             session,
@@ -249,6 +268,42 @@ fn two_writers_of_one_block_both_keep_their_bytes(rt: HostRuntime) -> Result<(),
         (Act::Step(2), Said::Started),
         (Act::Step(2), Said::Filled(0)),
         (Act::Step(2), Said::Got(512, 0x11, 0x22)),
+    ];
+    play(&rt, rt.alloc(), &mut world, &script)
+}
+
+#[test]
+fn zeros_with_fua_and_a_flush_sync_what_was_stored(rt: HostRuntime) -> Result<(), Failure> {
+    let mut world = world(rt.alloc())?;
+    let script = [
+        (Act::Attach(1), Said::Attached(4096, true)),
+        (Act::Zero(1, 100, 300), Said::Made(0)),
+        (Act::Step(0), Said::Enter(0)),
+        (Act::Step(0), Said::Route(0, 4096)),
+        (Act::Step(0), Said::Listed(0)),
+        (Act::Step(0), Said::Started),
+        (Act::Step(0), Said::Filled(0)),
+        (Act::Step(0), Said::Stored(0)),
+        (Act::Step(0), Said::Synced(0)),
+        (Act::Step(0), Said::Fine),
+        (Act::Write(1, 0, 512, 0x11), Said::Made(1)),
+        (Act::Step(1), Said::Enter(0)),
+        (Act::Step(1), Said::Route(0, 4096)),
+        (Act::Step(1), Said::Listed(1)),
+        (Act::Step(1), Said::Started),
+        (Act::Step(1), Said::Stored(0)),
+        (Act::Step(1), Said::Fine),
+        (Act::Plan(0, Fail::Sync), Said::Planned),
+        (Act::Flush(1), Said::Made(2)),
+        (Act::Step(2), Said::Enter(0)),
+        (Act::Step(2), Said::Route(0, 4096)),
+        (Act::Step(2), Said::Fault(0)),
+        (Act::Step(2), Said::Refused(Errno::Io)),
+        (Act::Flush(1), Said::Made(3)),
+        (Act::Step(3), Said::Enter(0)),
+        (Act::Step(3), Said::Route(0, 4096)),
+        (Act::Step(3), Said::Synced(0)),
+        (Act::Step(3), Said::Clean(1)),
     ];
     play(&rt, rt.alloc(), &mut world, &script)
 }
