@@ -150,6 +150,7 @@ twins_flip m m' t = record {
     tracker = sym t.alike.tracker;
     now = λ b. sym (t.alike.now b);
     holder = λ b. sym (t.alike.holder b);
+    clean = λ s. sym (t.alike.clean s);
     plans = λ j. sym (t.alike.plans j);
   };
   tells = t.alike.tells ∙ t.tells;

@@ -63,6 +63,7 @@ twins_begin seen disks others w w' place place_too one two may may_too alike =
         tracker = refl;
         now = alike.now;
         holder = λ b. refl;
+        clean = λ s. refl;
         plans = alike.planned;
       };
       tells = told seen disks w one alike.tell;
