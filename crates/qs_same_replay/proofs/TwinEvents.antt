@@ -16,7 +16,7 @@ use Rattle.qs_script.specs.declared.line.Line.{Line}
 use Rattle.qs_script.specs.declared.line.Line.TheVariants as line
 use Rattle.qs_model.specs.Acts.{Element, Asked}
 use Rattle.qs_model.specs.Events.{IsEvent}
-use Rattle.qs_model.specs.Requests.{form_error, wants_buffers}
+use Rattle.qs_model.specs.Requests.{form_error, wants_body}
 use Rattle.qs_model.proofs.Basics.{either}
 use Rattle.qs_same_replay.specs.Same.{IsGiven}
 use Rattle.qs_replay.specs.Effects.{Adds, IsActor, IsKey, IsRoom, Notes, Settles, bytes_or, read_ask, write_ask}
@@ -47,11 +47,11 @@ actor_one t a b (who.Request s c) x y is at =
 abbrev pub room_of : ℕ → Option (List ℕ)
 room_of n = cond (nat_lt max_payload n) None (Some (replicate n 0))
 
--- a READ and a WRITE of some bytes want buffers
-pub read_wants : (cookie offset long : ℕ) → 0 < long → wants_buffers (read_ask cookie offset long) ≡ true
+-- a READ and a WRITE of some bytes want a body
+pub read_wants : (cookie offset long : ℕ) → 0 < long → wants_body (read_ask cookie offset long) ≡ true
 read_wants cookie offset long some = ap (λ (b : Bool). not b && true) (ne_eqb long 0 (λ e. omega (arith, e, some)))
 
-write_wants : (cookie offset : ℕ) (bytes : List ℕ) (fua : Bool) → 0 < length bytes → wants_buffers (write_ask cookie offset bytes fua) ≡ true
+write_wants : (cookie offset : ℕ) (bytes : List ℕ) (fua : Bool) → 0 < length bytes → wants_body (write_ask cookie offset bytes fua) ≡ true
 write_wants cookie offset bytes fua some = ap (λ (b : Bool). not b && true) (ne_eqb (length bytes) 0 (λ e. omega (arith, e, some)))
 
 -- a READ brings it
@@ -60,7 +60,7 @@ pub read_body : (n cookie offset long : ℕ) (body : Option (List ℕ)) (e : Ele
 read_body n cookie offset long None (Asked s c) room is given = elim (either (nat_lt max_payload long)) [
   | inl big ↦ sym (ap (λ (b : Bool). cond b None (Some (replicate long 0))) big)
   | inr fits ↦ absurd (elim is.2.wanted [
-    | inl unwanted ↦ true≢false (sym (read_wants cookie offset long room) ∙ ap wants_buffers is.1 ∙ unwanted)
+    | inl unwanted ↦ true≢false (sym (read_wants cookie offset long room) ∙ ap wants_body is.1 ∙ unwanted)
     | inr refused ↦ true≢false (sym (given (ap form_error (sym is.1) ∙ fits)) ∙ refused)
   ])
 ]
@@ -76,7 +76,7 @@ pub write_body : (n cookie offset : ℕ) (bytes : List ℕ) (fua lost : Bool) (e
 write_body n cookie offset [] fua true e is given = refl
 write_body n cookie offset [] fua false e is given = refl
 write_body n cookie offset (b ∷ bytes) fua true (Asked s c) is given = absurd (elim is.2.wanted [
-  | inl unwanted ↦ true≢false (sym (write_wants cookie offset (b ∷ bytes) fua (omega arith)) ∙ ap wants_buffers is.1 ∙ unwanted)
+  | inl unwanted ↦ true≢false (sym (write_wants cookie offset (b ∷ bytes) fua (omega arith)) ∙ ap wants_body is.1 ∙ unwanted)
   | inr refused ↦ true≢false (sym (given (ap form_error (sym is.1))) ∙ refused)
 ])
 write_body n cookie offset (b ∷ bytes) fua true _ is given = absurd is

@@ -10,7 +10,7 @@ use Rattle.qs_determined.specs.Determined.{Alike, Input, Happens, Fails, IsGiven
 use Rattle.qs_determined.proofs.Steps.{Comes, one_outcome}
 use Rattle.qs_model.specs.Events.{Brings, IsEvent, outcome_of}
 use Rattle.qs_model.specs.Laws.{NeverOdd}
-use Rattle.qs_model.specs.Requests.{Client, form_error, wants_buffers}
+use Rattle.qs_model.specs.Requests.{Client, form_error, wants_body}
 use Rattle.qs_model.specs.Steps.{Runs, after, happens}
 use Rattle.qs_model.specs.Worlds.{World}
 use Rattle.qs_model.proofs.Basics.{either}
@@ -76,9 +76,9 @@ calm_parts A m n (c ∷ first) later calm =
     let (mid, (front, back)) = calm_parts A (happens A m calm.0.element) n first later calm.1 in
     (mid, ((calm.0, front), back))
 
--- an Ask that its form refuses brings no body, and wants buffers
+-- an Ask that its form refuses brings no body, and wants one
 abbrev pub IsTame : Input → Type 0
-IsTame (Happens (event.Ask n ask body)) = form_error ask ≡ true → (body ≡ None) × (wants_buffers ask ≡ true)
+IsTame (Happens (event.Ask n ask body)) = form_error ask ≡ true → (body ≡ None) × (wants_body ask ≡ true)
 IsTame other = Unit {0}
 
 -- whether a request that was made has its buffers hangs on its event alone
@@ -89,9 +89,9 @@ buffered_is n r ask body c tame is given = elim (either (form_error ask)) [
   | inr good ↦ given (ap form_error (sym is.1) ∙ good) ∙ sym (ap not good)
 ]
   where
-    lacks : (body ≡ None) × (wants_buffers ask ≡ true) → Brings None c → c.buffered ≡ false
+    lacks : (body ≡ None) × (wants_body ask ≡ true) → Brings None c → c.buffered ≡ false
     lacks bare none = elim none.wanted [
-      | inl unwanted ↦ absurd (true≢false (sym bare.1 ∙ ap wants_buffers is.1 ∙ unwanted))
+      | inl unwanted ↦ absurd (true≢false (sym bare.1 ∙ ap wants_body is.1 ∙ unwanted))
       | inr refused ↦ refused
     ]
 
