@@ -267,6 +267,17 @@ mod tests {
                 },
                 Err(Rule::MaxBelowAvg(Dim::BpsWrite)),
             ),
+        ];
+        for (limits, answer) in rows.iter() {
+            assert_eq!(rt; limits.check(), *answer, "{limits:?}");
+        }
+        Ok(())
+    }
+
+    #[test]
+    fn first_broken_rule_of_bursts_is_told(rt: HostRuntime) -> Result<(), Fail> {
+        let none = Limits::NONE;
+        let rows = [
             (
                 Limits {
                     bps_write: limit(0, 0, 0),

@@ -13,8 +13,6 @@ pub mod req;
 pub mod shape;
 mod stage;
 mod stripes;
-#[cfg(test)]
-mod tests;
 pub mod todo;
 
 pub use req::Req;

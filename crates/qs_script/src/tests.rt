@@ -222,7 +222,18 @@ fn what_is_out_of_form_is_refused(rt: HostRuntime) {
         b"write A 1 0 22 fua fua",
         b"write A 1 0 22 FUA",
         b"write A 1 0 fua",
-        b"read A 1 0 512 fua",
+        b"fail 8 load",
+        b"fail 0 store",
+        b"crash 0",
+    ] {
+        assert!(rt; matches!(read_line(rt.alloc(), text), Err(LineFault::OutOfForm)));
+    }
+}
+
+#[test]
+fn requests_without_bytes_keep_their_form(rt: HostRuntime) {
+    for text in [
+        b"read A 1 0 512 fua".as_slice(),
         b"zero A 1 0 4294967296",
         b"zero A 1 0 512 0",
         b"zero A 1 512",
@@ -232,9 +243,6 @@ fn what_is_out_of_form_is_refused(rt: HostRuntime) {
         b"flush A 01",
         b"flush A 1 fua",
         b"flush A 1 0 0",
-        b"fail 8 load",
-        b"fail 0 store",
-        b"crash 0",
     ] {
         assert!(rt; matches!(read_line(rt.alloc(), text), Err(LineFault::OutOfForm)));
     }
@@ -288,49 +296,63 @@ fn lines_are_cut_from_pieces(rt: HostRuntime) -> Result<(), Fail> {
     Ok(())
 }
 
+const ROUTE: Route = Route {
+    offset: 512,
+    size: 1024,
+    writable: true,
+    groups: [(0, 0); 8],
+    count: 0,
+};
+
+fn stripe(kind: OpKind, at: u64, reply: StripeNote) -> Note {
+    Note {
+        kind,
+        at: Some(at),
+        reply: NoteReply::Stripe(reply),
+    }
+}
+
+fn other(kind: OpKind, reply: NoteReply) -> Note {
+    Note {
+        kind,
+        at: None,
+        reply,
+    }
+}
+
 #[test]
-fn lines_are_printed(rt: HostRuntime) -> Result<(), Fail> {
+fn steps_are_printed(rt: HostRuntime) -> Result<(), Fail> {
     let alloc = rt.alloc();
     let a = SessionName::of(b"A").ok_or("no name")?;
     let request = ScriptActor::Request(a, 1);
-    let route = Route {
-        offset: 512,
-        size: 1024,
-        writable: true,
-        groups: [(0, 0); 8],
-        count: 0,
-    };
     let mut out = Bytes::of(Vec::new(alloc));
-    for (kind, at, reply) in [
-        (
-            OpKind::Enter,
-            None,
-            NoteReply::Tracker(TrackerReply::Entered(0)),
-        ),
-        (
-            OpKind::Route,
-            None,
-            NoteReply::Graph(GraphNote::Routed(route)),
-        ),
-        (
-            OpKind::Start,
-            None,
-            NoteReply::Tracker(TrackerReply::NotYet(3)),
-        ),
-        (OpKind::Hold, Some(1), NoteReply::Stripe(StripeNote::Filled)),
-        (OpKind::Load, Some(2), NoteReply::Stripe(StripeNote::Filled)),
-        (OpKind::Store, Some(1), NoteReply::Stripe(StripeNote::Done)),
-        (
-            OpKind::Store,
-            Some(1),
-            NoteReply::Stripe(StripeNote::HeldBy(9)),
-        ),
-        (OpKind::Sync, Some(7), NoteReply::Stripe(StripeNote::Clean)),
-        (OpKind::Sync, Some(0), NoteReply::Stripe(StripeNote::Synced)),
-        (OpKind::Sync, Some(3), NoteReply::Stripe(StripeNote::Fault)),
+    let entered = NoteReply::Tracker(TrackerReply::Entered(0));
+    let not_yet = NoteReply::Tracker(TrackerReply::NotYet(3));
+    for note in [
+        other(OpKind::Enter, entered),
+        other(OpKind::Route, NoteReply::Graph(GraphNote::Routed(ROUTE))),
+        other(OpKind::Start, not_yet),
+        stripe(OpKind::Hold, 1, StripeNote::Filled),
+        stripe(OpKind::Load, 2, StripeNote::Filled),
+        stripe(OpKind::Store, 1, StripeNote::Done),
+        stripe(OpKind::Store, 1, StripeNote::HeldBy(9)),
+        stripe(OpKind::Sync, 7, StripeNote::Clean),
+        stripe(OpKind::Sync, 0, StripeNote::Synced),
+        stripe(OpKind::Sync, 3, StripeNote::Fault),
     ] {
-        put_step(alloc, &mut out, &request, &Note { kind, at, reply })?;
+        put_step(alloc, &mut out, &request, &note)?;
     }
+    let printed = b"A.1 enter 0\nA.1 route 512 1024\nA.1 not-yet 3\nA.1 held 1\nA.1 loaded 2\n\
+A.1 stored 1\nA.1 busy 9\nA.1 clean 7\nA.1 synced 0\nA.1 fault\n";
+    assert_eq!(rt; out.as_slice(), printed.as_slice());
+    Ok(())
+}
+
+#[test]
+fn answers_and_news_are_printed(rt: HostRuntime) -> Result<(), Fail> {
+    let alloc = rt.alloc();
+    let a = SessionName::of(b"A").ok_or("no name")?;
+    let mut out = Bytes::of(Vec::new(alloc));
     for verdict in [
         Verdict::Got(Bytes::of([0, 0xaa, 0x0f].to_vec(alloc)?)),
         Verdict::Got(Bytes::of(Vec::new(alloc))),
@@ -350,8 +372,7 @@ fn lines_are_printed(rt: HostRuntime) -> Result<(), Fail> {
     ] {
         put_session(alloc, &mut out, a, news)?;
     }
-    let printed = b"A.1 enter 0\nA.1 route 512 1024\nA.1 not-yet 3\nA.1 held 1\nA.1 loaded 2\n\
-A.1 stored 1\nA.1 busy 9\nA.1 clean 7\nA.1 synced 0\nA.1 fault\nA.1 = 0 00aa0f\nA.1 = 0 -\nA.1 = 0\nA.1 = 28\nA.1 dropped\n\
+    let printed = b"A.1 = 0 00aa0f\nA.1 = 0 -\nA.1 = 0\nA.1 = 28\nA.1 dropped\n\
 A attached 4096 rw\nA attached 4096 ro\nA refused\nA crowded\nA left\nA detached\n";
     assert_eq!(rt; out.as_slice(), printed.as_slice());
     Ok(())

@@ -174,41 +174,40 @@ fn what_is_not_served_is_refused(rt: HostRuntime) -> Result<(), Fail> {
     Ok(())
 }
 
+/// Words, the count of disks and their image's length, the read that fails, and the room of the output;
+/// and the status.
+type Case = (&'static [&'static str], u8, u64, Option<u64>, usize, Status);
+
+const GOOD: &[&str] = &["--transmission", "disk.img"];
+
+const CASES: [Case; 7] = [
+    (&[], 8, 4096, None, 544, Status::Usage),
+    (
+        &["--transmission", "--align"],
+        8,
+        4096,
+        None,
+        544,
+        Status::Usage,
+    ),
+    (&["disk.img"], 8, 4096, None, 544, Status::Usage),
+    (GOOD, 7, 4096, None, 544, Status::OpenBad(OpenBad::Count(7))),
+    (
+        GOOD,
+        8,
+        700,
+        None,
+        544,
+        Status::OpenBad(OpenBad::Length(700)),
+    ),
+    (GOOD, 8, 4096, Some(0), 544, Status::ReadFault),
+    (GOOD, 8, 4096, None, 543, Status::WriteFault),
+];
+
 #[test]
 fn words_disks_and_faults_have_their_statuses(rt: HostRuntime) -> Result<(), Fail> {
     let alloc = rt.alloc();
-    let good: [&str; 2] = ["--transmission", "disk.img"];
-    let cases: [(&[&str], u8, u64, Option<u64>, usize, Status); 7] = [
-        (&[], 8, 4096, None, 544, Status::Usage),
-        (
-            &["--transmission", "--align"],
-            8,
-            4096,
-            None,
-            544,
-            Status::Usage,
-        ),
-        (&["disk.img"], 8, 4096, None, 544, Status::Usage),
-        (
-            &good,
-            7,
-            4096,
-            None,
-            544,
-            Status::OpenBad(OpenBad::Count(7)),
-        ),
-        (
-            &good,
-            8,
-            700,
-            None,
-            544,
-            Status::OpenBad(OpenBad::Length(700)),
-        ),
-        (&good, 8, 4096, Some(0), 544, Status::ReadFault),
-        (&good, 8, 4096, None, 543, Status::WriteFault),
-    ];
-    for (words, count, length, fail, room, status) in cases {
+    for (words, count, length, fail, room, status) in CASES {
         let mut fails = Vec::new(alloc);
         if let Some(call) = fail {
             fails.push(call)?;

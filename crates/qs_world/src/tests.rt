@@ -119,6 +119,14 @@ fn name(text: &[u8]) -> Result<Name, Failure> {
     }
 }
 
+fn asked(session: u32, ask: Ask, body: Option<Bytes>) -> Event {
+    Event::Ask { session, ask, body }
+}
+
+fn stepped(actor: Actor) -> Event {
+    Event::Step { actor, now: 0 }
+}
+
 fn event(alloc: Global, act: Act) -> Result<Event, Failure> {
     Ok(match act {
         Act::Attach(session) => Event::Attach {
@@ -130,42 +138,23 @@ fn event(alloc: Global, act: Act) -> Result<Event, Failure> {
             name: name(b"other")?,
         },
         Act::Leave(session) => Event::Leave { session },
-        Act::Write(session, offset, length, byte) => Event::Ask {
-            session,
-            ask: ask(Kind::Write, offset, length),
-            body: Some(bytes(alloc, length, byte)?),
-        },
-        Act::Read(session, offset, length) => Event::Ask {
-            session,
-            ask: ask(Kind::Read, offset, length),
-            body: Some(bytes(alloc, length, 0)?),
-        },
-        Act::Zero(session, offset, length) => Event::Ask {
-            session,
-            ask: Ask {
-                fua: true,
-                ..ask(Kind::Zero, offset, length)
-            },
-            body: None,
-        },
-        Act::Flush(session) => Event::Ask {
-            session,
-            ask: ask(Kind::Flush, 0, 0),
-            body: None,
-        },
-        Act::WrongBuffer(session) => Event::Ask {
-            session,
-            ask: ask(Kind::Read, 0, 4),
-            body: Some(bytes(alloc, 5, 0)?),
-        },
-        Act::Step(r) => Event::Step {
-            actor: Actor::Request(r),
-            now: 0,
-        },
-        Act::StepSession(s) => Event::Step {
-            actor: Actor::Session(s),
-            now: 0,
-        },
+        Act::Write(s, offset, length, byte) => {
+            let body = bytes(alloc, length, byte)?;
+            asked(s, ask(Kind::Write, offset, length), Some(body))
+        }
+        Act::Read(s, offset, length) => {
+            let body = bytes(alloc, length, 0)?;
+            asked(s, ask(Kind::Read, offset, length), Some(body))
+        }
+        Act::Zero(s, offset, length) => {
+            let mut zero = ask(Kind::Zero, offset, length);
+            zero.fua = true;
+            asked(s, zero, None)
+        }
+        Act::Flush(s) => asked(s, ask(Kind::Flush, 0, 0), None),
+        Act::WrongBuffer(s) => asked(s, ask(Kind::Read, 0, 4), Some(bytes(alloc, 5, 0)?)),
+        Act::Step(r) => stepped(Actor::Request(r)),
+        Act::StepSession(s) => stepped(Actor::Session(s)),
         Act::Plan(_, _) => Event::Leave { session: 99 },
     })
 }

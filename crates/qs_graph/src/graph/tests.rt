@@ -115,15 +115,7 @@ fn clients_come_and_go(rt: HostRuntime) -> Result<(), Fail> {
         (GraphOp::Route { e: 255 }, GraphReply::Shutting),
     ];
     run(&rt, &mut graph, &script);
-    for _ in 0..1024 {
-        assert_eq!(rt; graph.step(GraphOp::Attach { name: b }), attached());
-    }
-    let script = [
-        (GraphOp::Attach { name: b }, GraphReply::Crowded),
-        (GraphOp::Detach { e: 1 }, GraphReply::Detached),
-        (GraphOp::Attach { name: b }, attached()),
-    ];
-    run(&rt, &mut graph, &script);
+    crowd(&rt, &mut graph, b);
     graph.reset();
     let script = [
         (GraphOp::Find { name: b }, GraphReply::NoExport),
@@ -132,6 +124,19 @@ fn clients_come_and_go(rt: HostRuntime) -> Result<(), Fail> {
     ];
     run(&rt, &mut graph, &script);
     Ok(())
+}
+
+/// The export of that name at place 1 gets as many clients as it may have.
+fn crowd(rt: &impl Abort, graph: &mut Graph, name: Name) {
+    for _ in 0..1024 {
+        assert_eq!(rt; graph.step(GraphOp::Attach { name }), attached());
+    }
+    let script = [
+        (GraphOp::Attach { name }, GraphReply::Crowded),
+        (GraphOp::Detach { e: 1 }, GraphReply::Detached),
+        (GraphOp::Attach { name }, attached()),
+    ];
+    run(rt, graph, &script);
 }
 
 #[test]

@@ -2,11 +2,11 @@ ghost use Rattle.std.specs.Prelude.{◌≡◌, length, IfSome};
 ghost use Rattle.qs_request.specs.Operations.{RouteMay, StripeMay, TrackerMay};
 ghost use Rattle.qs_request.specs.Table.{FitsStripe};
 
-use crate::{Blocks, PartReply, Req, Shape, Todo};
 use qs_bytes::{Ask, Bytes, Errno, Kind, Verdict};
 use qs_part::graph::{GraphReply, Route};
 use qs_part::stripe::{Side, StripeOp, StripeReply};
 use qs_part::tracker::{TrackerOp, TrackerReply};
+use qs_request::{Blocks, PartReply, Req, Shape, Todo};
 use std::alloc::Global;
 use std::process::Abort;
 use std::test::Fail;
@@ -142,7 +142,7 @@ fn stripe_reply(op: StripeOp, parts: Parts, s: u8, shape: Shape) -> StripeReply
 }
 
 /// One step of the request, answered as parts without another request do.
-#[tactic(auto, using(crate::proofs::Wanted::may_reply))]
+#[tactic(auto, using(qs_request::proofs::Wanted::may_reply))]
 fn step(rt: &impl Abort, req: &mut Req, parts: Parts) -> Said {
     let shape = req.shape();
     assert!(rt; !req.is_waiting() && !req.is_answered());
@@ -244,54 +244,30 @@ fn padded(
     Ok(())
 }
 
+/// The two stores of that write.
+const FIRST: Said = Said::Store(0, 0, 0x0404_0102);
+
+const SECOND: Said = Said::Store(0, 1, 0x0304_0505);
+
+const BROKEN: Said = Said::Refused(Errno::Io);
+
+/// The step at which the disk refuses, the step before which the session leaves, and how the write
+/// goes on from its seventh step.
+const PADDED: [(usize, usize, &[Said]); 6] = [
+    (NEVER, NEVER, &[FIRST, SECOND, Said::End(0), Said::Fine]),
+    (5, NEVER, &[Said::Free(0, 0), Said::End(0), BROKEN]),
+    (6, NEVER, &[FIRST, Said::Free(0, 1), Said::End(0), BROKEN]),
+    (7, NEVER, &[FIRST, SECOND, Said::End(0), BROKEN]),
+    (NEVER, 3, &[FIRST, SECOND, Said::End(0), Said::Dropped]),
+    (NEVER, 7, &[FIRST, SECOND, Said::End(0), Said::Dropped]),
+];
+
 #[test]
 fn a_padded_write_goes_through_its_stages(rt: HostRuntime) -> Result<(), Fail> {
-    let first = Said::Store(0, 0, 0x0404_0102);
-    let second = Said::Store(0, 1, 0x0304_0505);
-    let refused = Said::Refused(Errno::Io);
-    let alloc = rt.alloc();
-    padded(
-        &rt,
-        alloc,
-        NEVER,
-        NEVER,
-        &[first, second, Said::End(0), Said::Fine],
-    )?;
-    padded(
-        &rt,
-        alloc,
-        5,
-        NEVER,
-        &[Said::Free(0, 0), Said::End(0), refused],
-    )?;
-    padded(
-        &rt,
-        alloc,
-        6,
-        NEVER,
-        &[first, Said::Free(0, 1), Said::End(0), refused],
-    )?;
-    padded(
-        &rt,
-        alloc,
-        7,
-        NEVER,
-        &[first, second, Said::End(0), refused],
-    )?;
-    padded(
-        &rt,
-        alloc,
-        NEVER,
-        3,
-        &[first, second, Said::End(0), Said::Dropped],
-    )?;
-    padded(
-        &rt,
-        alloc,
-        NEVER,
-        7,
-        &[first, second, Said::End(0), Said::Dropped],
-    )
+    for (refused, left, tail) in PADDED {
+        padded(&rt, rt.alloc(), refused, left, tail)?;
+    }
+    Ok(())
 }
 
 #[test]
@@ -380,72 +356,90 @@ fn zeros_are_stored_and_synced(rt: HostRuntime) -> Result<(), Fail> {
     Ok(())
 }
 
+const READ_ONLY: Route = Route {
+    offset: 0,
+    size: 4096,
+    writable: false,
+    groups: [(0, 0); 8],
+    count: 0,
+};
+
+/// A kind of request with its offset and length, whether it has a byte of data, its way and its answer,
+/// where its way or its range decides it.
+const ROUTED: [(Kind, u64, u64, bool, Route, Said); 12] = [
+    (
+        Kind::Read,
+        u64::MAX,
+        1,
+        true,
+        WAY,
+        Said::Refused(Errno::Inval),
+    ),
+    (
+        Kind::Write,
+        4096,
+        1,
+        true,
+        WAY,
+        Said::Refused(Errno::NoSpace),
+    ),
+    (
+        Kind::Write,
+        0,
+        1,
+        true,
+        READ_ONLY,
+        Said::Refused(Errno::Perm),
+    ),
+    (Kind::Read, 4096, 0, false, WAY, Said::Got(0, 0)),
+    (Kind::Write, 0, 0, false, WAY, Said::Fine),
+    (
+        Kind::Write,
+        4097,
+        0,
+        false,
+        WAY,
+        Said::Refused(Errno::NoSpace),
+    ),
+    (
+        Kind::Zero,
+        4095,
+        2,
+        false,
+        WAY,
+        Said::Refused(Errno::NoSpace),
+    ),
+    (
+        Kind::Zero,
+        0,
+        0,
+        false,
+        READ_ONLY,
+        Said::Refused(Errno::Perm),
+    ),
+    (Kind::Trim, 4095, 2, false, WAY, Said::Refused(Errno::Inval)),
+    (
+        Kind::Trim,
+        0,
+        1,
+        false,
+        READ_ONLY,
+        Said::Refused(Errno::Perm),
+    ),
+    (Kind::Trim, 0, 4096, false, WAY, Said::Fine),
+    (Kind::Zero, 4096, 0, false, WAY, Said::Fine),
+];
+
 #[test]
 fn requests_are_refused(rt: HostRuntime) -> Result<(), Fail> {
-    let one: Option<&[u8]> = Some(&[9]);
-    let read_only = Route {
-        writable: false,
-        ..WAY
-    };
-    let rows = [
-        (
-            ask(Kind::Read, u64::MAX, 1),
-            one,
-            WAY,
-            Said::Refused(Errno::Inval),
-        ),
-        (
-            ask(Kind::Write, 4096, 1),
-            one,
-            WAY,
-            Said::Refused(Errno::NoSpace),
-        ),
-        (
-            ask(Kind::Write, 0, 1),
-            one,
-            read_only,
-            Said::Refused(Errno::Perm),
-        ),
-        (ask(Kind::Read, 4096, 0), None, WAY, Said::Got(0, 0)),
-        (ask(Kind::Write, 0, 0), None, WAY, Said::Fine),
-        (
-            ask(Kind::Write, 4097, 0),
-            None,
-            WAY,
-            Said::Refused(Errno::NoSpace),
-        ),
-        (
-            ask(Kind::Zero, 4095, 2),
-            None,
-            WAY,
-            Said::Refused(Errno::NoSpace),
-        ),
-        (
-            ask(Kind::Zero, 0, 0),
-            None,
-            read_only,
-            Said::Refused(Errno::Perm),
-        ),
-        (
-            ask(Kind::Trim, 4095, 2),
-            None,
-            WAY,
-            Said::Refused(Errno::Inval),
-        ),
-        (
-            ask(Kind::Trim, 0, 1),
-            None,
-            read_only,
-            Said::Refused(Errno::Perm),
-        ),
-        (ask(Kind::Trim, 0, 4096), None, WAY, Said::Fine),
-    ];
-    for (ask, body, way, answer) in rows {
-        let mut req = made(&rt, rt.alloc(), ask, body)?;
+    let one: &[u8] = &[9];
+    for (kind, offset, length, has_data, way, answer) in ROUTED {
+        let body = if has_data { Some(one) } else { None };
+        let mut req = made(&rt, rt.alloc(), ask(kind, offset, length), body)?;
         let want = [Said::Enter, Said::Route(3), Said::End(0), answer];
         run(&rt, &mut req, Some(way), NEVER, NEVER, &want);
     }
-    let mut shut = made(&rt, rt.alloc(), ask(Kind::Read, 0, 1), one)?;
+    let mut shut = made(&rt, rt.alloc(), ask(Kind::Read, 0, 1), Some(one))?;
     let want = [
         Said::Enter,
         Said::Route(3),
