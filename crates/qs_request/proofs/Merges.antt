@@ -1,16 +1,12 @@
 -- What a block is stored with, and the pads that it takes it from.
-use Rattle.std.proofs.Common.{◌≡◌, ℕ, ◌+◌, ◌-◌, ◌*◌, ◌<◌, inl, inr, Bool, true, false, ◌==◌, cond, List, [], ◌++◌, length, take, drop, get_or, refl, sym, ap, ◌∙◌, arith, true≢false, append-nil, length-take-le, eq-eqb, ne_eqb}
-use Rattle.std.proofs.lemmas.List.{take_at, drop_at, drop_all}
-use Rattle.qs_bytes.specs.Pieces.{overlay}
+use Rattle.std.proofs.Common.{◌≡◌, ℕ, ◌+◌, ◌-◌, ◌*◌, ◌<◌, inl, inr, Bool, true, false, ◌==◌, cond, List, length, get_or, refl, sym, ap, ◌∙◌, arith, true≢false, eq-eqb, ne_eqb}
 use Rattle.qs_bytes.specs.Spans.{Places}
-use Rattle.qs_bytes.specs.declared.ask.Kind.{Kind}
 use Rattle.qs_part.specs.declared.stripe.Side.{Side}
 use Rattle.qs_part.specs.declared.stripe.Side.TheVariants.{Head, Tail}
 use Rattle.qs_padding.specs.Padding.{merged_at as merged_place}
-use Rattle.qs_model.specs.Requests.{edge, has, span_of, covers, body_at, keep, pad}
+use Rattle.qs_model.specs.Requests.{edge, has, span_of, covers, body_at, pad}
 use Rattle.qs_model.proofs.Geometry.{outside}
 use Rattle.qs_request.specs.declared.machine.Machine.{Machine}
-use Rattle.qs_request.specs.Kept.{KeptPads}
 use Rattle.qs_request.specs.Shapes.{IsShape}
 use Rattle.qs_request.specs.Table.{IsMerged}
 use Rattle.qs_request.specs.Value.{bytes_of}

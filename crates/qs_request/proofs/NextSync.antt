@@ -1,7 +1,7 @@
 -- The stripes that a request syncs, one after the other.
-use Rattle.std.proofs.Common.{◌≡◌, ℕ, suc, ◌-◌, ◌+◌, ◌<◌, ◌≤◌, Bool, true, false, refl, ap, ◌∙◌, cond, arith}
+use Rattle.std.proofs.Common.{◌≡◌, ℕ, suc, ◌-◌, ◌+◌, ◌<◌, ◌≤◌, Bool, true, false, ap, ◌∙◌, cond, arith}
 use Rattle.qs_bytes.specs.declared.ask.Verdict.TheVariants.{Fine}
-use Rattle.qs_model.specs.Requests.{Client, Step, ToSync, ToEnd, syncs, synced, to_sync}
+use Rattle.qs_model.specs.Requests.{Client, ToSync, ToEnd, syncs, synced, to_sync}
 
 one_of : (A : ℕ) (c : Client) (n s : ℕ) → 7 - n ≡ s → to_sync A c (suc n) ≡ cond (syncs A c s) (ToSync s) (to_sync A c n)
 unfolding to_sync

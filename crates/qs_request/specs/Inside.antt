@@ -1,5 +1,5 @@
 -- What stands in a request's fields, and what they keep.
-use Rattle.std.specs.Prelude.{◌≡◌, ℕ, ◌+◌, ◌-◌, ◌*◌, ◌^◌, ◌<◌, ◌≤◌, ◌⊎◌, max, Bool, true, false, ◌&&◌, length, take, if◌then◌else◌, Option, Some, None}
+use Rattle.std.specs.Prelude.{◌≡◌, ℕ, ◌+◌, ◌-◌, ◌*◌, ◌^◌, ◌<◌, ◌≤◌, max, Bool, true, false, ◌&&◌, length, take, if◌then◌else◌, Option, Some, None}
 use Rattle.qs_bytes.specs.declared.ask.Ask.{Ask}
 use Rattle.qs_bytes.specs.declared.ask.Errno.TheVariants.{Inval, NoMem}
 use Rattle.qs_bytes.specs.declared.ask.Kind.TheVariants.{Read}

@@ -1,6 +1,6 @@
 -- A stripe is clean as its history says.
-use Rattle.std.proofs.Common.{◌≡◌, List, [], ◌∷◌, refl, sym, ap, ◌∙◌}
-use Rattle.std.specs.Prelude.{Bool, Some, None}
+use Rattle.std.proofs.Common.{◌≡◌, List, [], ◌∷◌, sym, ap, ◌∙◌}
+use Rattle.std.specs.Prelude.{Some, None}
 use Rattle.qs_part.specs.declared.stripe.StripeOp.{StripeOp}
 use Rattle.qs_part.specs.declared.stripe.StripeOp.TheVariants.{Load, Hold, Store, Free, Sync}
 use Rattle.qs_part.specs.declared.stripe.StripeReply.{StripeReply}

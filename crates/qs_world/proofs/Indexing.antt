@@ -1,5 +1,5 @@
 -- Elements of the core's lists, as code that reads and writes them by index meets them.
-use Rattle.std.proofs.Common.{◌≡◌, ℕ, ◌<◌, List, length, map, get_or, true, false, refl, sym, ◌∙◌, ap, subst, arith}
+use Rattle.std.proofs.Common.{◌≡◌, ℕ, ◌<◌, List, length, map, get_or, false, refl, sym, ◌∙◌, ap, subst, arith}
 use Rattle.std.specs.List.{slice_set}
 use Rattle.std.proofs.lemmas.List.{get_or-set_same, get_or_default, length-set, length-map}
 use Rattle.std.proofs.Math.ListN.{get_or-map}
@@ -8,7 +8,6 @@ use Rattle.qs_part.specs.declared.event.Note.{Note}
 use Rattle.qs_part.specs.declared.event.Outcome.{Outcome}
 use Rattle.qs_request.specs.declared.todo.PartReply.{PartReply}
 use Rattle.qs_request.specs.Table.{MayReply}
-use Rattle.qs_request.specs.Value.{RequestValue}
 use Rattle.qs_stripe.specs.Table.{StripeState, value_of as stripe_value}
 use Rattle.qs_world.specs.declared.live.Live.{Live}
 use Rattle.qs_world.specs.Follows.{Awaits, Follows, IsElement, waiting}

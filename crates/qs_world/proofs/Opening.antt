@@ -1,5 +1,5 @@
 -- The core as it is made is sound, and stands for the opening state of the model.
-use Rattle.std.proofs.Common.{◌≡◌, get_or, ℕ, zero, suc, ◌<◌, List, [], ◌∷◌, length, map, Bool, true, ◌&&◌, refl, sym, ◌∙◌, ap, subst, arith}
+use Rattle.std.proofs.Common.{◌≡◌, get_or, ℕ, zero, suc, ◌<◌, List, [], ◌∷◌, length, map, Bool, true, ◌&&◌, refl, sym, ◌∙◌, ap, arith}
 use Rattle.std.specs.Prelude.{Some, None}
 use Rattle.std.specs.List.{AllByRecursion}
 use Rattle.std.proofs.lemmas.List.{length-map}
@@ -16,7 +16,7 @@ use Rattle.qs_graph.specs.Table.{GraphValue, fresh as fresh_graph, answers as gr
 use Rattle.qs_graph.proofs.Rows.{after_length}
 use Rattle.qs_model.specs.Acts.{Exported}
 use Rattle.qs_world.specs.Events.{Does}
-use Rattle.qs_world.proofs.Coming.{Keeps, exported_does}
+use Rattle.qs_world.proofs.Coming.{exported_does}
 use Rattle.qs_world.proofs.Handling.{renewed}
 use Rattle.qs_graph.proofs.Standing.{nobody as no_export}
 use Rattle.qs_model.specs.Worlds.{Hold}

@@ -5,7 +5,6 @@ use Rattle.std.specs.List.{remove}
 use Rattle.qs_bytes.specs.declared.ask.Verdict.{Verdict}
 use Rattle.qs_outside.specs.Blocks.{Seen}
 use Rattle.qs_part.specs.declared.event.Outcome.TheVariants.{Answered}
-use Rattle.qs_part.specs.declared.graph.GraphOp.TheVariants.{Route as RouteOp}
 use Rattle.qs_part.specs.declared.stripe.StripeOp.TheVariants.{Load as LoadOp, Hold as HoldOp, Store as StoreOp, Free as FreeOp, Sync as SyncOp}
 use Rattle.qs_part.specs.declared.tracker.TrackerOp.TheVariants.{Enter as EnterOp, List as ListOp, Start as StartOp, End as EndOp}
 use Rattle.qs_bytes.specs.Spans.{aligned_out}

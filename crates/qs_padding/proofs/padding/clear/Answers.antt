@@ -1,4 +1,4 @@
-use Rattle.std.proofs.Common.{[], ◌-◌, sym, ap, ◌∙◌, arith}
+use Rattle.std.proofs.Common.{[], ◌-◌, sym, ◌∙◌, arith}
 use Rattle.std.proofs.lemmas.List.Edits.{length-between}
 use Rattle.qs_padding.proofs.Merged.{merged_out, cleared_block}
 use Rattle.qs_padding.proofs.padding.clear.Goals as goal

@@ -1,4 +1,4 @@
-use Rattle.std.proofs.Common.{◌-◌, Bool, cond, sym, ap, ◌∙◌}
+use Rattle.std.proofs.Common.{Bool, cond, sym, ap, ◌∙◌}
 use Rattle.qs_bytes.specs.declared.ask.Verdict.TheVariants.{Got, Fine}
 use Rattle.qs_model.specs.Requests.{ToEnd}
 use Rattle.qs_request.specs.Inside.{client_of}

@@ -1,4 +1,4 @@
-use Rattle.std.proofs.Common.{◌≡◌, ◌-◌, ◌≤◌}
+use Rattle.std.proofs.Common.{◌≡◌, ◌-◌}
 use Rattle.qs_model.specs.Requests.{to_sync}
 use Rattle.qs_request.specs.Inside.{client_of}
 use Rattle.qs_request.proofs.machine.Machine.next_sync.Given as goal
