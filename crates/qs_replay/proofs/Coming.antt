@@ -1,8 +1,8 @@
 -- Lines that are cut out of what a stream brings.
-use Rattle.std.proofs.Common.{◌≡◌, ◌≢◌, ℕ, zero, suc, ◌+◌, inl, take, drop, List, [], ◌∷◌, ◌++◌, length, refl, sym, subst, ap, ◌∙◌, arith, append_assoc, append-nil}
+use Rattle.std.proofs.Common.{◌≡◌, ◌≢◌, ℕ, zero, suc, inl, take, drop, List, [], ◌∷◌, ◌++◌, length, refl, sym, subst, ap, ◌∙◌, arith, append_assoc, append-nil}
 use Rattle.std.specs.Prelude.{Option, None, Some, IfNone, Result, Ok, Err, IsErrAnd}
 use Rattle.std.proofs.lemmas.List.{drop_all, take-append-drop}
-use Rattle.qs_script.specs.Cuts.{Cuts, longest}
+use Rattle.qs_script.specs.Cuts.{Cuts}
 use Rattle.qs_script.specs.Finds.{HasNo}
 use Rattle.qs_script.specs.declared.cutter.Cut.{Cut}
 use Rattle.qs_script.specs.declared.cutter.Cut.TheVariants as cut

@@ -1,5 +1,5 @@
 -- Lines one after the other, and the end of a script.
-use Rattle.std.proofs.Common.{◌≡◌, ◌⊎◌, ℕ, ◌+◌, ◌<◌, ◌≤◌, length, Bool, List, [], ◌∷◌, ◌++◌, refl, sym, subst, ap, ◌∙◌, inl, inr, arith, append_assoc, append-nil, length-append, true, false, ◌≢◌}
+use Rattle.std.proofs.Common.{◌≡◌, ℕ, ◌+◌, ◌<◌, ◌≤◌, length, Bool, List, [], ◌∷◌, ◌++◌, refl, sym, subst, ap, ◌∙◌, inl, inr, arith, append_assoc, append-nil, length-append, true, false, ◌≢◌}
 use Rattle.std.specs.Prelude.{Option, Result, Ok, Err}
 use Rattle.qs_script.specs.Lines.{Reads}
 use Rattle.qs_script.specs.declared.line.Line.{Line}

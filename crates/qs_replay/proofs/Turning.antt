@@ -1,6 +1,6 @@
 -- What one line makes of a scene.
 use Rattle.std.proofs.Common.{◌≡◌, ◌≢◌, ◌<◌, length, ℕ, List, [], ◌∷◌, ◌++◌, refl, sym, subst, ap, ◌∙◌, inl, inr, arith, append-nil}
-use Rattle.std.specs.Prelude.{Option, Result, Ok, Err, IsErrAnd}
+use Rattle.std.specs.Prelude.{Result, Ok, Err, IsErrAnd}
 use Rattle.qs_outside.specs.Blocks.{Seen}
 use Rattle.qs_script.specs.Cuts.{longest}
 use Rattle.qs_script.specs.Finds.{HasNo}
@@ -11,7 +11,6 @@ use Rattle.qs_stream.specs.Flows.{Flow, Moved, Proceeds, Puts, Side}
 use Rattle.qs_stream.proofs.Moves.{moved_on, moved_none}
 use Rattle.qs_world.specs.Values.{WorldValue}
 use Rattle.qs_replay.specs.declared.desk.Desk.{Desk}
-use Rattle.qs_replay.specs.declared.lines.Came.{Came}
 use Rattle.qs_replay.specs.declared.lines.Came.TheVariants as came
 use Rattle.qs_replay.specs.declared.stop.Stop.{Stop}
 use Rattle.qs_replay.specs.declared.stop.Stop.TheVariants as stop
@@ -19,7 +18,7 @@ use Rattle.qs_replay.specs.declared.replay.Turn.{Turn}
 use Rattle.qs_replay.specs.declared.replay.Turn.TheVariants as turn
 use Rattle.qs_replay.specs.Readings.{IsUsedUp, Seeks}
 use Rattle.qs_replay.specs.Tables.{Names}
-use Rattle.qs_replay.specs.Scripts.{DoesText, IsTaken, PlaysText, PutsText, Scene, Turns, fault_turn}
+use Rattle.qs_replay.specs.Scripts.{DoesText, IsTaken, PlaysText, PutsText, Turns, fault_turn}
 
 -- a put is no fault of the input
 pub put_reads : (o p : Side) (a b : Buffers) (given : List ℕ) → Puts given o a p b → a.state ≢ state.ReadFault → b.state ≢ state.ReadFault

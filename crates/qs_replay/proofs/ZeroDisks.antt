@@ -1,12 +1,12 @@
 -- Eight disks of zeros are an image.
-use Rattle.std.proofs.Common.{◌≡◌, ◌≢◌, ℕ, zero, suc, ◌+◌, ◌*◌, ◌/◌, ◌%◌, ◌^◌, ◌<◌, ◌≤◌, ◌⊎◌, inl, inr, List, [], ◌∷◌, ◌++◌, length, map, replicate, refl, sym, ◌∙◌, ap, subst, arith}
+use Rattle.std.proofs.Common.{◌≡◌, ℕ, zero, suc, ◌+◌, ◌*◌, ◌%◌, ◌^◌, ◌<◌, ◌≤◌, inl, inr, List, [], ◌∷◌, ◌++◌, length, map, replicate, refl, sym, ◌∙◌, subst, arith}
 use Rattle.std.specs.Prelude.{IsTrue}
 use Rattle.std.proofs.lemmas.List.{length-map}
 use Rattle.qs_outside.specs.Blocks.{IsBlock, Seen}
 use Rattle.qs_bytes.specs.Geometry.{stripe_of}
 use Rattle.qs_outside.specs.Journal.{Journal, journal_seen}
-use Rattle.qs_image.specs.Image.{AllTell, align_of, block_now, disk, size_of}
-use Rattle.qs_image.specs.Opening.{IsAlign, IsAlike, IsImage}
+use Rattle.qs_image.specs.Image.{align_of, disk, size_of}
+use Rattle.qs_image.specs.Opening.{IsAlign}
 use Rattle.qs_replay.specs.ZeroDisks.{AreFrom, AreZeroDisks, IsZeroDisk}
 
 -- one disk more

@@ -1,7 +1,6 @@
 -- The disks in memory that a script is replayed over.
-use Rattle.std.specs.Prelude.{◌≡◌, ℕ, ◌+◌, ◌*◌, ◌≤◌, ◌<◌, ◌⊎◌, List, [], ◌∷◌, map, length, replicate, String}
+use Rattle.std.specs.Prelude.{◌≡◌, ℕ, ◌+◌, ◌*◌, ◌≤◌, ◌⊎◌, List, [], ◌∷◌, map, replicate, String}
 use Rattle.std.specs.Global.{Global}
-use Rattle.qs_outside.specs.Blocks.{Seen}
 use Rattle.qs_bytes.specs.Geometry.{stripe_of}
 use Rattle.qs_outside.specs.Held.{IsZeros}
 use Rattle.qs_outside.specs.Journal.{Journal, journal_seen}

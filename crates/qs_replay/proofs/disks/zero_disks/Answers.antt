@@ -1,4 +1,4 @@
-use Rattle.std.proofs.Common.{◌≡◌, ℕ, ◌+◌, ◌*◌, List, [], ◌∷◌, ◌++◌, length, subst, sym, arith}
+use Rattle.std.proofs.Common.{◌≡◌, ℕ, ◌+◌, ◌*◌, List, length, subst, sym, arith}
 use Rattle.std.proofs.lemmas.List.{length-append}
 use Rattle.qs_outside.specs.Journal.{Journal}
 use Rattle.qs_replay.specs.ZeroDisks.{AreFrom, IsZeroDisk}

@@ -1,5 +1,4 @@
 -- What waited was written, and then the source was called.
-use Rattle.std.proofs.Common.{refl}
 use Rattle.qs_replay.proofs.Coming.{fills_fault, fills_on, never_read, written_on}
 use Rattle.qs_replay.proofs.lines.refill.Goals as goal
 

@@ -1,9 +1,9 @@
 -- What was replayed against the core.
-use Rattle.std.proofs.Common.{List, ap, refl, subst, ◌∙◌}
+use Rattle.std.proofs.Common.{List, ap, subst}
 use Rattle.qs_stream.specs.Flows.{Side, side}
 use Rattle.qs_replay.specs.Runs.{Begins}
 use Rattle.qs_replay.specs.Scripts.{scene}
-use Rattle.qs_replay.proofs.Running.{back_rises, is_replayed, opening_of, replay_rises, replays_from}
+use Rattle.qs_replay.proofs.Running.{is_replayed, opening_of, replays_from}
 use Rattle.qs_replay.proofs.run.replay_disks.Goals as goal
 
 pub returns-clause-opening : goal.returns-clause-opening
