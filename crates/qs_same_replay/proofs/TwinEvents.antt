@@ -4,7 +4,6 @@ use Rattle.std.specs.Prelude.{Option, Some, None, replicate}
 use Rattle.std.specs.FinMap as map
 use Rattle.std.proofs.lemmas.Bool.{ne_eqb}
 use Rattle.qs_bytes.specs.Payloads.{max_payload}
-use Rattle.qs_bytes.specs.declared.ask.Ask.{Ask}
 use Rattle.qs_part.specs.declared.event.Actor.{Actor}
 use Rattle.qs_part.specs.declared.event.Event.{Event}
 use Rattle.qs_part.specs.declared.event.Event.TheVariants as event
