@@ -1,9 +1,11 @@
-//! Measures single operations of the core's parts, and turns beside std's `Mutex`.
+//! Measures single operations of the core's parts, whole requests of the core, and turns beside std's
+//! `Mutex`.
 //!
 //! - `qs_bench`: a thousand rounds of each, which prints how many were answered as they should be.
 //! - `qs_bench WORK ROUNDS`: so many rounds of one kind of work of a part, to be timed from outside;
 //!   WORK is `seat`, `list`, `start`, `load`, `store`, `admit`, `admit16` or `admit256` (with so many
-//!   requests that wait), `burst` or `go`.
+//!   requests that wait), `burst` or `go`; `read` (of 4 bytes), `read64k` or `flush` is a request of the
+//!   core.
 //! - `qs_bench turns CALLS`: the calls that turns and mutexes make in a second, with CALLS calls of
 //!   each thread and no work in a step, and with a tenth as many of a microsecond each.
 #![tactic(auto)]
@@ -11,6 +13,7 @@
 mod locks;
 mod parts;
 mod places;
+mod requests;
 mod sharing;
 mod turns;
 

@@ -1,5 +1,6 @@
-//! Single operations of the core's parts, many times, to be timed from outside.
+//! Kinds of work, and single operations of the core's parts, many times, to be timed from outside.
 
+use crate::requests::{flushes, reads};
 use qs_bytes::{Bytes, Memory, Span};
 use qs_group::group::Group;
 use qs_outside::QuietDisk;
@@ -40,10 +41,14 @@ pub enum Work {
     Burst,
     /// Queue of a throttle group, and Admit of that request, which goes and is counted.
     Go,
+    /// A READ of so many bytes by the core, from its Ask to its answer.
+    Read(u64),
+    /// A FLUSH by the core where nothing was stored.
+    Flush,
 }
 
 /// Each kind of work with its word.
-pub const WORKS: [(&str, Work); 10] = [
+pub const WORKS: [(&str, Work); 13] = [
     ("seat", Work::Seat),
     ("list", Work::List),
     ("start", Work::Start),
@@ -54,6 +59,9 @@ pub const WORKS: [(&str, Work); 10] = [
     ("admit256", Work::Admit(255)),
     ("burst", Work::Burst),
     ("go", Work::Go),
+    ("read", Work::Read(4)),
+    ("read64k", Work::Read(65_536)),
+    ("flush", Work::Flush),
 ];
 
 /// Does the operation where it fits the part.
@@ -245,6 +253,8 @@ pub fn rounds_of(alloc: Global, work: Work, rounds: u64) -> Result<u64, Memory> 
         Work::Admit(t) => admit_rounds(alloc, t, rounds),
         Work::Burst => burst_rounds(alloc, rounds),
         Work::Go => go_rounds(alloc, rounds),
+        Work::Read(length) => reads(alloc, length, rounds),
+        Work::Flush => flushes(alloc, rounds),
         _ => tracker_rounds(alloc, work, rounds),
     }
 }
