@@ -10,8 +10,9 @@ use Rattle.qs_script.specs.declared.line.Line.TheVariants as line
 use Rattle.qs_script.specs.declared.print.SessionNews.TheVariants as news
 use Rattle.qs_replay.specs.declared.desk.Desk.{Desk}
 use Rattle.qs_replay.specs.declared.stop.Stop.TheVariants as stop
-use Rattle.qs_replay.specs.Calls.{Call, Happened, Plays}
-use Rattle.qs_replay.specs.Effects.{IsActor, Played, RunsOut, Settles, Stopped, news_of, run_text, step_text}
+use Rattle.qs_calls.specs.Calls.{Call, Happened, Plays}
+use Rattle.qs_replay.specs.Effects.{IsActor, Played, Settles, Stopped, news_of, run_text, step_text}
+use Rattle.qs_calls.specs.Goings.{RunsOut}
 use Rattle.qs_replay.specs.Tables.{Gives, Names}
 use Rattle.qs_replay.proofs.Playing.{stopped_cut}
 

@@ -1,4 +1,3 @@
-pub mod Plays
 pub mod Playing
 pub mod Happening
 pub mod Coming
@@ -7,7 +6,6 @@ pub mod Replaying
 pub mod Turning
 pub mod Reaching
 pub mod Running
-pub mod Falling
 pub mod Known
 pub mod Lives
 pub mod ZeroDisks

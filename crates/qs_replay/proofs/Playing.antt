@@ -17,9 +17,10 @@ use Rattle.qs_world.specs.Events.{IsNotNext}
 use Rattle.qs_replay.specs.declared.stop.Stop.{Stop}
 use Rattle.qs_replay.specs.declared.stop.Stop.TheVariants as stop
 use Rattle.qs_replay.specs.declared.desk.Desk.{Desk}
-use Rattle.qs_replay.specs.Calls.{Call, Happened, Plays}
+use Rattle.qs_calls.specs.Calls.{Call, Happened, Plays}
 use Rattle.qs_replay.specs.Tables.{Gives, IsKnown, IsUsed, Names, adds}
-use Rattle.qs_replay.specs.Effects.{GoesOn, IsActor, goes_on, AreFirst, AskedBy, IsAsked, IsEventOf, Played, PlaysLine, Stopped, UsesAgain, WasUsed}
+use Rattle.qs_replay.specs.Effects.{IsActor, AreFirst, AskedBy, IsAsked, IsEventOf, Played, PlaysLine, Stopped, UsesAgain, WasUsed}
+use Rattle.qs_calls.specs.Goings.{GoesOn, goes_on}
 use Rattle.qs_replay.specs.Effects.{bytes_or, flush_ask, trim_ask, write_ask, zero_ask}
 
 -- nothing happened, and nothing was printed
@@ -261,12 +262,6 @@ asks_played seen old (line.End s) lost new n r mid session ask body is gives fre
 asks_played seen old (line.Step a now) lost new n r mid session ask body is gives fresh plays table out = absurd is
 asks_played seen old (line.Run a now) lost new n r mid session ask body is gives fresh plays table out = absurd is
 asks_played seen old (line.Fail j k) lost new n r mid session ask body is gives fresh plays table out = absurd is
-
-one_goes : (made : Event) (o : Outcome) → goes_on o ≡ true → All (GoesOn made) (Happened made o ∷ [])
-one_goes made o goes = All-cons (GoesOn made) (Happened made o) [] (record { outcome = o; is = refl; on = goes }) (All-nil (GoesOn made))
-
-pub goes_more : (made : Event) (o : Outcome) (front : List Call) → All (GoesOn made) front → goes_on o ≡ true → All (GoesOn made) (front ++ Happened made o ∷ [])
-goes_more made o front on goes = All-append (GoesOn made) front (Happened made o ∷ []) on (one_goes made o goes)
 
 -- a run couldn't begin
 pub stopped_run : {D : Type 0} (seen : D → Seen) (old : Desk D) (a : ScriptActor) (now : ℕ) (s : Stop) (new : Desk D) (actor : Actor) (mid : Names) →

@@ -9,7 +9,7 @@ use Rattle.qs_script.specs.Cuts.{longest}
 use Rattle.qs_script.specs.Finds.{HasNo}
 use Rattle.qs_world.specs.Values.{WorldValue}
 use Rattle.qs_replay.specs.declared.stop.Stop.TheVariants as stop
-use Rattle.qs_replay.specs.Calls.{Call}
+use Rattle.qs_calls.specs.Calls.{Call}
 use Rattle.qs_replay.specs.Readings.{IsText, IsUsedUp}
 use Rattle.qs_replay.specs.Tables.{Names}
 use Rattle.qs_stream.specs.Bytes.{Takes}

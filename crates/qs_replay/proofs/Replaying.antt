@@ -13,7 +13,7 @@ use Rattle.qs_world.specs.Values.{WorldValue}
 use Rattle.qs_replay.specs.declared.stop.Stop.TheVariants as stop
 use Rattle.qs_replay.specs.declared.replay.Turn.{Turn}
 use Rattle.qs_replay.specs.declared.replay.Turn.TheVariants as turn
-use Rattle.qs_replay.specs.Calls.{Call, Plays}
+use Rattle.qs_calls.specs.Calls.{Call, Plays}
 use Rattle.qs_replay.specs.Tables.{Names}
 use Rattle.qs_stream.specs.declared.state.State.{State}
 use Rattle.qs_stream.specs.declared.state.State.TheVariants as state

@@ -24,11 +24,13 @@ use Rattle.qs_world.specs.Events.{Does}
 use Rattle.qs_world.specs.Openings.{opening_over}
 use Rattle.qs_world.specs.Stands.{Stands}
 use Rattle.qs_world.specs.Values.{WorldValue}
-use Rattle.qs_replay.specs.Calls.{Call, Plays}
-use Rattle.qs_replay.specs.Runs.{Begins, ComesBack, HasRun, IsReplayed, Opening, export, first_scene, most_lines, no_names, opened}
+use Rattle.qs_calls.specs.Calls.{Call, Plays}
+use Rattle.qs_calls.specs.Runs.{Begins, ComesBack}
+use Rattle.qs_replay.specs.Runs.{IsReplayed, Opening, first_scene, most_lines, no_names}
 use Rattle.qs_replay.specs.Scripts.{AllDone, Replays, Scene, SoFar, side_of}
 use Rattle.qs_replay.specs.Tables.{Names}
-use Rattle.qs_replay.proofs.Plays.{leads, plays_more}
+use Rattle.qs_calls.proofs.Plays.{plays_more}
+use Rattle.qs_calls.proofs.Runs.{has_run}
 use Rattle.qs_replay.proofs.Reaching.{reaches}
 
 pub so_far_at : {D : Type 0} (seen : D → Seen) (a b : Scene D) (n m : ℕ) → n ≡ m → SoFar seen a n b → SoFar seen a m b
@@ -43,53 +45,6 @@ plays_done {D} seen w t (text ∷ texts) calls printed w' t' done =
     (plays_more seen w done.first done.world done.later w' done.does.is.plays
     (plays_done seen done.world done.names texts done.later done.more w' t' done.rest))
 
--- a block has bytes
-pub positive : (A : ℕ) → IsAlign A → 0 < A
-positive A (inl e) = omega arith
-positive A (inr e) = omega arith
-
--- what a core that began stands for: the opening, and the making of its export
-pub record Starts {D : Type 0} (seen : D → Seen) (disks : List D) (place : ℕ) (w : WorldValue D) : Type 0 where
-  pub align : w.shape.align ≡ align_of (map seen disks)
-  pub may : May (align_of (map seen disks)) (opened (map seen disks)) (Exported export place)
-  pub stands : Stands seen w (happens (align_of (map seen disks)) (opened (map seen disks)) (Exported export place))
-
-pub starts : {D : Type 0} (seen : D → Seen) (disks : List D) (w : WorldValue D) (begins : Begins seen disks w) → Starts seen disks begins.exports.place w
-starts {D} seen disks w begins =
-    let place : ℕ = begins.exports.place in
-    let align : begins.fresh.shape.align ≡ align_of (map seen disks) = ap (λ (s : Shape). s.align) begins.opened.shape in
-    let file : begins.fresh.graph.file ≡ codes "file0" = ap (λ (g : GraphValue). g.file) begins.opened.graph in
-    let does : Does seen begins.fresh (Exported export place) w =
-    subst (λ (n : List ℕ). Does seen begins.fresh (Exported (ExportAdd (codes "disk") (codes "disk") n true true) place) w) file begins.exports.does in
-    let first : May (align_of (map seen disks)) (opened (map seen disks)) (Exported export place)
-    × Stands seen w (happens (align_of (map seen disks)) (opened (map seen disks)) (Exported export place)) =
-    subst (λ (a : ℕ). May a (opened (map seen disks)) (Exported export place) × Stands seen w (happens a (opened (map seen disks)) (Exported export place))) align
-    (does (opened (map seen disks)) begins.opened.stands) in
-    record { align = ap (λ (v : WorldValue D). v.shape.align) begins.exports.same ∙ align; may = first.0; stands = first.1 }
-
-pub has_run : {D : Type 0} (seen : D → Seen) (disks : List D) (start w : WorldValue D) (calls : List Call) → Begins seen disks start → Plays seen start calls w →
-    HasRun seen (map seen disks) start calls w
-has_run {D} seen disks start w calls begins plays =
-    let A : ℕ = align_of (map seen disks) in
-    let place : ℕ = begins.exports.place in
-    let s : Starts seen disks place start = starts seen disks start begins in
-    let on = leads seen A start calls w (happens A (opened (map seen disks)) (Exported export place)) s.align s.stands plays in
-    let o : OpenedOver = opening_over (map seen disks) (codes "file0") false in
-    let steps : List Element = Exported export place ∷ on.elements in
-    let some : 0 < A = positive A begins.opened.image.1.0 in
-    record {
-      place = place;
-      elements = on.elements;
-      fulls = on.fulls;
-      are = on.are;
-      walked = on.walked;
-      run = (s.may, on.run);
-      headline = headline A o steps some (s.may, on.run);
-      besides = besides A o steps some (s.may, on.run);
-      judged = judged A o steps some (s.may, on.run);
-      stands = on.stands;
-    }
-
 -- where nothing waited at first
 pub replays_from : {D : Type 0} (seen : D → Seen) (input output : Side) (stream : Buffers) (w : WorldValue D) (t : Names) (n : ℕ) (result : Status) (after_all : Scene D) →
     stream ≡ new_buffers → t ≡ no_names →
@@ -101,7 +56,7 @@ replays_from seen input output stream w t n result after_all e f replays =
     replays)
 
 pub is_replayed : {D : Type 0} (seen : D → Seen) (disks disks' : List D) (input output : Side) (result : Status) (start : WorldValue D) (after_all : Scene D) →
-    Begins seen disks start → Replays seen (first_scene input output start) most_lines result after_all → disks' ≡ map (λ s. s.disk) after_all.world.stripes →
+    Begins seen disks false start → Replays seen (first_scene input output start) most_lines result after_all → disks' ≡ map (λ s. s.disk) after_all.world.stripes →
     IsReplayed seen disks input.bytes output.bytes result disks' after_all.flow.input.bytes after_all.flow.output.bytes
 is_replayed seen disks disks' input output result start after_all begins replays is = record {
   start = start;
@@ -114,7 +69,7 @@ is_replayed seen disks disks' input output result start after_all begins replays
   sent_is = refl;
   disks_are = is;
   reaches = λ script told. reaches seen (first_scene input output start) most_lines result after_all script told refl replays;
-  run = has_run seen disks start after_all.world (replays.calls ++ replays.cut) begins
+  run = has_run seen disks false start after_all.world (replays.calls ++ replays.cut) begins
       (plays_more seen start replays.calls replays.world replays.cut after_all.world
       (plays_done seen start no_names replays.texts replays.calls replays.printed replays.world replays.names replays.done) replays.cut_plays);
 }

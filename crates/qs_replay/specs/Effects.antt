@@ -11,14 +11,8 @@ use Rattle.qs_part.specs.declared.event.Actor.TheVariants.{Session as ASession, 
 use Rattle.qs_part.specs.declared.event.Event.{Event}
 use Rattle.qs_part.specs.declared.event.Event.TheVariants as event
 use Rattle.qs_part.specs.declared.event.Note.{Note}
-use Rattle.qs_part.specs.declared.event.NoteReply.{NoteReply}
-use Rattle.qs_part.specs.declared.event.NoteReply.TheVariants as reply
 use Rattle.qs_part.specs.declared.event.Outcome.{Outcome}
 use Rattle.qs_part.specs.declared.event.Outcome.TheVariants as outcome
-use Rattle.qs_part.specs.declared.event.StripeNote.TheVariants as stripe
-use Rattle.qs_part.specs.declared.tracker.TrackerReply.TheVariants as tracker
-use Rattle.qs_part.specs.declared.event.GraphNote.{GraphNote}
-use Rattle.qs_part.specs.declared.event.GraphNote.TheVariants as graph
 use Rattle.qs_script.specs.declared.actor.ScriptActor.{ScriptActor}
 use Rattle.qs_script.specs.declared.actor.ScriptActor.TheVariants as who
 use Rattle.qs_script.specs.declared.line.Line.{Line}
@@ -31,7 +25,8 @@ use Rattle.qs_world.specs.Values.{WorldValue}
 use Rattle.qs_replay.specs.declared.stop.Stop.{Stop}
 use Rattle.qs_replay.specs.declared.stop.Stop.TheVariants as stop
 use Rattle.qs_replay.specs.declared.desk.Desk.{Desk}
-use Rattle.qs_replay.specs.Calls.{Call, Happened, Rigged, Plays}
+use Rattle.qs_calls.specs.Calls.{Call, Happened, Rigged, Plays}
+use Rattle.qs_calls.specs.Goings.{GoesOn, RunsOut}
 use Rattle.qs_replay.specs.Tables.{Gives, IsKnown, IsUsed, Names, adds, settled}
 
 abbrev pub read_ask : ℕ → ℕ → ℕ → Ask
@@ -141,42 +136,6 @@ abbrev pub Notes : Line → Event → Outcome → Names → Names → Type 0
 Notes (line.Step actor now) made o t t' = Settles actor o t t'
 Notes (line.Run actor now) made o t t' = Settles actor o t t'
 Notes other made o t t' = Adds made o t t'
-
--- an answer of the graph to a request
-abbrev pub is_way : GraphNote → Bool
-is_way (graph.Routed route) = true
-is_way graph.Shutting = true
-is_way other = false
-
--- An answer of a part that lets its actor go on: none that leaves the actor as it was, and no Detach.
-abbrev pub moves_on : NoteReply → Bool
-moves_on (reply.Tracker tracker.Quiesced) = false
-moves_on (reply.Tracker tracker.Full) = false
-moves_on (reply.Tracker (tracker.NotYet n)) = false
-moves_on (reply.Tracker tracker.Strange) = false
-moves_on (reply.Stripe (stripe.HeldBy k)) = false
-moves_on (reply.Stripe (stripe.Taken b)) = false
-moves_on (reply.Stripe stripe.NotHeld) = false
-moves_on (reply.Graph answer) = is_way answer
-moves_on other = true
-
--- the outcome isn't the last of a run
-abbrev pub goes_on : Outcome → Bool
-goes_on (outcome.Moved note) = moves_on note.reply
-goes_on other = false
-
--- a call of this event that isn't the last of a run
-pub record GoesOn (made : Event) (c : Call) : Type 0 where
-  pub outcome : Outcome
-  pub is : c ≡ Happened made outcome
-  pub on : goes_on outcome ≡ true
-
--- a run of one actor: it goes on up to its last step
-pub record RunsOut (made : Event) (calls : List Call) (last : Outcome) : Type 0 where
-  pub front : List Call
-  pub on : All (GoesOn made) front
-  pub whole : calls ≡ front ++ Happened made last ∷ []
-  pub ends : goes_on last ≡ false
 
 -- one event with this outcome, or for a `run` all of a run with this last one
 abbrev pub CallsOf : Line → Event → Outcome → List Call → Type 0

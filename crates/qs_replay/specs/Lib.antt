@@ -1,7 +1,5 @@
 pub mod Tables
-pub mod Calls
 pub mod Effects
-pub mod Ranks
 pub mod Readings
 pub mod Words
 pub mod Scripts

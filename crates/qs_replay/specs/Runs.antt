@@ -5,22 +5,12 @@ use Rattle.qs_status.specs.declared.status.OpenBad.{OpenBad}
 use Rattle.qs_status.specs.declared.status.Status.{Status}
 use Rattle.qs_status.specs.declared.status.Status.TheVariants as status
 use Rattle.qs_outside.specs.Blocks.{Seen}
-use Rattle.qs_image.specs.Image.{align_of}
 use Rattle.qs_image.specs.Opening.{Opens}
-use Rattle.qs_model.specs.Acts.{Element, Exported}
-use Rattle.qs_model.specs.Laws.{Besides, Headline, opening}
-use Rattle.qs_model.specs.Steps.{Runs, after, happens}
-use Rattle.qs_model.specs.Worlds.{World}
-use Rattle.qs_part.specs.declared.graph.GraphOp.{GraphOp}
-use Rattle.qs_part.specs.declared.graph.GraphOp.TheVariants.{ExportAdd}
 use Rattle.qs_stream.specs.Buffers.{new_buffers}
 use Rattle.qs_stream.specs.Flows.{Side}
-use Rattle.qs_verdicts.specs.Judged.{Judged}
-use Rattle.qs_world.specs.Openings.{Exports, IsOpened, opening_over}
-use Rattle.qs_world.specs.Stands.{Stands}
 use Rattle.qs_world.specs.Values.{WorldValue}
 use Rattle.qs_replay.specs.declared.words.ReplayWords.{ReplayWords}
-use Rattle.qs_replay.specs.Calls.{AreCalls, Call, Walks}
+use Rattle.qs_calls.specs.Runs.{Begins, HasRun}
 use Rattle.qs_replay.specs.Scripts.{ReachesLine, Replays, Scene, lines_of}
 use Rattle.std.specs.FinMap.{empty as no_requests}
 use Rattle.std.specs.FinSet.{empty as no_cookies}
@@ -34,50 +24,6 @@ no_names = record { sessions = []; used = no_cookies; live = no_requests }
 abbrev pub most_lines : ℕ
 most_lines = 2 ^ 32
 
--- what the core is opened over: these disks, and the file node `file0`
-abbrev pub opened : List Seen → World
-opened disks = opening (opening_over disks (codes "file0") false)
-
--- the export `disk`, which may be written
-abbrev pub export : GraphOp
-export = ExportAdd (codes "disk") (codes "disk") (codes "file0") true true
-
--- the state behind the making of that export, at this place
-abbrev pub exported : List Seen → ℕ → World
-exported disks place = happens (align_of disks) (opened disks) (Exported export place)
-
--- A run of the model from its opening state: the export is made, and then each step is a call's, in order, as the core
--- went through them; before each the disks told this of being full. The headline holds of it, and so do the other laws
--- of runs; the core stands for where it leads.
-pub record HasRun {D : Type 0} (seen : D → Seen) (disks : List Seen) (start : WorldValue D) (calls : List Call) (w : WorldValue D) : Type 0 where
-  pub place : ℕ
-  pub elements : List Element
-  pub fulls : List (ℕ → Option Bool)
-  pub are : AreCalls (align_of disks) calls elements
-  pub walked : Walks seen start calls elements fulls w
-  pub run : Runs (align_of disks) (opened disks) (Exported export place ∷ elements)
-  pub headline : Headline (align_of disks) (opened disks) (Exported export place ∷ elements)
-  pub besides : Besides (align_of disks) (opened disks) (Exported export place ∷ elements)
-  pub judged : Judged (align_of disks) (opened disks) (Exported export place ∷ elements)
-  pub stands : Stands seen w (after (align_of disks) (opened disks) (Exported export place ∷ elements))
-
--- A core over the disks, with the file node `file0` and the writable export `disk`.
-pub record Begins {D : Type 0} (seen : D → Seen) (disks : List D) (w : WorldValue D) : Type 0 where
-  pub fresh : WorldValue D
-  pub opened : IsOpened seen disks (codes "file0") false fresh
-  pub exports : Exports seen fresh (codes "disk") true w
-
--- the status where no core could be made
-abbrev pub fault_of : Option OpenBad → Status
-fault_of (Some bad) = status.OpenBad bad
-fault_of None = status.Memory
-
--- The disks come back: they break this rule first, or memory was refused.
-abbrev pub ComesBack : {D : Type 0} → (D → Seen) → List D → List D → Status → Type 0
-ComesBack seen disks back (status.OpenBad bad) = (back ≡ disks) × Opens (map seen disks) (Some bad)
-ComesBack seen disks back status.Memory = back ≡ disks
-ComesBack seen disks back other = ⊥
-
 -- What is seen before the first line: nothing was read or written yet, and no name stands for anything.
 abbrev pub first_scene : {D : Type 0} → Side → Side → WorldValue D → Scene D
 first_scene input output start = record { flow = record { input = input; output = output; stream = new_buffers }; world = start; names = no_names }
@@ -87,7 +33,7 @@ first_scene input output start = record { flow = record { input = input; output 
 pub record IsReplayed {D : Type 0} (seen : D → Seen) (disks : List D) (left sent : Option (List ℕ)) (result : Status)
     (disks' : List D) (left' sent' : Option (List ℕ)) : Type 0 where
   pub start : WorldValue D
-  pub begins : Begins seen disks start
+  pub begins : Begins seen disks false start
   pub read_faults : ℕ
   pub write_faults : ℕ
   pub after_all : Scene D
@@ -97,7 +43,7 @@ pub record IsReplayed {D : Type 0} (seen : D → Seen) (disks : List D) (left se
   pub sent_is : sent' ≡ after_all.flow.output.bytes
   pub disks_are : disks' ≡ map (λ s. s.disk) after_all.world.stripes
   pub reaches : (script : List ℕ) → left ≡ Some script → ReachesLine result most_lines (lines_of script) replays.texts replays.world replays.names
-  pub run : HasRun seen (map seen disks) start (replays.calls ++ replays.cut) after_all.world
+  pub run : HasRun seen (map seen disks) false start (replays.calls ++ replays.cut) after_all.world
 
 -- nothing was read, written or changed
 pub record Untouched {D : Type 0} (disks : List D) (left sent : Option (List ℕ)) (disks' : List D) (left' sent' : Option (List ℕ)) : Type 0 where

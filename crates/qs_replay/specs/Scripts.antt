@@ -17,7 +17,7 @@ use Rattle.qs_replay.specs.declared.stop.Stop.{Stop}
 use Rattle.qs_replay.specs.declared.stop.Stop.TheVariants as stop
 use Rattle.qs_replay.specs.declared.replay.Turn.{Turn}
 use Rattle.qs_replay.specs.declared.replay.Turn.TheVariants as turn
-use Rattle.qs_replay.specs.Calls.{Call, Plays}
+use Rattle.qs_calls.specs.Calls.{Call, Plays}
 use Rattle.qs_replay.specs.Effects.{CannotCome, DrivesNotLive, IsCut, IsPlayed, UsesAgain}
 use Rattle.qs_replay.specs.Readings.{AllSent, IsText, IsUsedUp}
 use Rattle.qs_replay.specs.Tables.{Names}

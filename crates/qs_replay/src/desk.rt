@@ -2,17 +2,17 @@ ghost use Rattle.std.specs.Prelude.{◌≡◌, ◌↔◌, ◌++◌, ◌∷◌, [
 ghost use Rattle.qs_part.specs.declared.event.Event.TheVariants.{Step as AStep};
 ghost use Rattle.qs_script.specs.declared.line.Line.TheVariants as line;
 ghost use Rattle.qs_world.specs.Events.{IsNotNext, TakesMemory};
-ghost use Rattle.qs_replay.specs.Calls.{Call, Happened, Plays};
-ghost use Rattle.qs_replay.specs.Ranks.{rank_at};
-ghost use Rattle.qs_replay.specs.Effects.{IsRoom, bytes_or, GoesOn, IsActor, IsKey, IsNotLive, PlaysLine, RunsOut, answer_text, goes_on, moves_on, note_text, run_text, step_text, read_ask, write_ask};
+ghost use Rattle.qs_calls.specs.Calls.{Call, Happened, Plays};
+ghost use Rattle.qs_replay.specs.Effects.{IsRoom, bytes_or, IsActor, IsKey, IsNotLive, PlaysLine, answer_text, note_text, run_text, step_text, read_ask, write_ask};
+ghost use Rattle.qs_calls.specs.Goings.{RunsOut};
 ghost use Rattle.qs_replay.specs.declared.stop.Stop.TheVariants.{NotNext, Memory as NoMemory, BadLine};
 
 use crate::stop::Stop;
 use crate::table::Table;
 use qs_bytes::{Bytes, MAX_PAYLOAD, Memory, Verdict};
+use qs_calls::run_out;
 use qs_outside::Disk;
-use qs_part::event::{Actor, Event, GraphNote, Note, NoteReply, Outcome, StripeNote};
-use qs_part::tracker::TrackerReply;
+use qs_part::event::{Actor, Event, Note, Outcome};
 use qs_script::{ScriptActor, put_answer, put_step};
 use qs_world::world::World;
 use std::alloc::Global;
@@ -26,12 +26,9 @@ pub struct Desk<D: Disk + Drop> {
     pub alloc: Global,
 }
 
-/// An event happens, or it can't come now, or memory is refused; then nothing changes. Where it lets its
-/// actor go on, it can come again, and the actor has fewer steps to make.
+/// An event happens, or it can't come now, or memory is refused; then nothing changes.
 pub fn happen<D: Disk + Drop>(world: &mut World<D>, event: Event) -> Result<Outcome, Stop>
     ensures ok { IfOk result (λ outcome. Plays D.seen world.old (Happened event outcome ∷ []) world.new) }
-    ensures on { IfOk result (λ outcome. goes_on outcome ≡ true →
-        (rank_at world.new event < rank_at world.old event) × (IsNotNext world.new event → ⊥)) }
     ensures err { OnErr result (world.new ≡ world.old) }
     ensures next { result ≡ Err NotNext → IsNotNext world.old event }
     ensures memory { result ≡ Err NoMemory → TakesMemory event }
@@ -44,39 +41,9 @@ pub fn happen<D: Disk + Drop>(world: &mut World<D>, event: Event) -> Result<Outc
     }
 }
 
-/// Whether an answer of a part lets its actor go on in a run.
-fn reply_moves_on(reply: &NoteReply) -> bool
-    ensures { result ≡ moves_on reply.now }
-{
-    match reply {
-        NoteReply::Tracker(answer) => !matches!(
-            answer,
-            TrackerReply::Quiesced
-                | TrackerReply::Full
-                | TrackerReply::NotYet(_)
-                | TrackerReply::Strange
-        ),
-        NoteReply::Graph(answer) => { matches!(answer, GraphNote::Routed(_) | GraphNote::Shutting) }
-        NoteReply::Stripe(answer) => !matches!(
-            answer,
-            StripeNote::HeldBy(_) | StripeNote::Taken(_) | StripeNote::NotHeld
-        ),
-    }
-}
-
-/// Whether the outcome isn't the last of a run.
-fn outcome_goes_on(outcome: &Outcome) -> bool
-    ensures { result ≡ goes_on outcome.now }
-{
-    match outcome {
-        Outcome::Moved(note) => reply_moves_on(&note.reply),
-        _ => false,
-    }
-}
-
 /// An actor's steps, up to an answer, a Detach, or a step that leaves it as it was; the outcome of the
 /// last one.
-pub fn run_out<D: Disk + Drop>(
+pub fn run_all<D: Disk + Drop>(
     world: &mut World<D>,
     actor: Actor,
     now: u64,
@@ -85,14 +52,10 @@ pub fn run_out<D: Disk + Drop>(
     ensures next { OnErr result (IsNotNext world.old (AStep actor now) × (world.new ≡ world.old)) }
     ensures only { (result ≡ Err BadLine → ⊥) × (result ≡ Err NoMemory → ⊥) }
 {
-    let mut outcome = happen(world, Event::Step { actor, now })?;
-    'steps: while outcome_goes_on(&outcome) {
-        outcome = match happen(world, Event::Step { actor, now }) {
-            Ok(next) => next,
-            Err(_) => unreachable!(),
-        };
+    match run_out(world, actor, now) {
+        Some(outcome) => Ok(outcome),
+        None => Err(Stop::NotNext),
     }
-    Ok(outcome)
 }
 
 /// Writes an answer's line at the end, for a request.

@@ -3,7 +3,7 @@ ghost use Rattle.qs_script.specs.declared.line.Line.{Line as ALine};
 ghost use Rattle.qs_script.specs.declared.line.Line.TheVariants as line;
 ghost use Rattle.qs_replay.specs.Effects.{IsAsked, IsPlanned, PlaysLine, news_of as the_news};
 
-use crate::desk::{Desk, actor_for, happen, lost_bytes, room_for, run_lines, run_out, step_lines};
+use crate::desk::{Desk, actor_for, happen, lost_bytes, room_for, run_all, run_lines, step_lines};
 use crate::stop::Stop;
 use qs_bytes::{Ask, Bytes, Kind, Name};
 use qs_outside::{Disk, Fail, RiggedDisk};
@@ -174,7 +174,7 @@ impl<D: Disk + Drop> Desk<D> {
         ensures { PlaysLine D.seen self.old (line.Run who.now now) false result self.new }
     {
         let found = actor_for(&mut self.table, who)?;
-        let outcome = run_out(&mut self.world, found.actor, now)?;
+        let outcome = run_all(&mut self.world, found.actor, now)?;
         let text = run_lines(self.alloc, who, &outcome)?;
         self.out.append(text.as_slice())?;
         self.table.settle(found.key, &outcome);

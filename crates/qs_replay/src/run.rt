@@ -1,56 +1,22 @@
-ghost use Rattle.std.specs.Prelude.{◌≡◌, MatchResult};
 ghost use Rattle.qs_stream.specs.Flows.{Rises};
-ghost use Rattle.qs_replay.specs.Runs.{Begins, ComesBack, Opening, Ran, fault_of};
+ghost use Rattle.qs_replay.specs.Runs.{Opening, Ran};
 ghost use Rattle.qs_replay.specs.Scripts.{side_of};
 
 use crate::desk::Desk;
 use crate::replay::replay;
 use crate::table::Table;
 use crate::words::replay_words;
-use qs_bytes::{Bytes, Name};
-use qs_outside::{Disk, RiggedDisk, Sink, Source};
+use qs_bytes::Bytes;
+use qs_calls::open_core;
+use qs_outside::{RiggedDisk, Sink, Source};
 use qs_script::LineCutter;
-use qs_status::{OpenBad, Status};
+use qs_status::Status;
 use qs_stream::Stream;
-use qs_world::world::World;
 use std::alloc::Global;
 use std::mem;
 
 /// How many lines one call reads at most.
 const MOST_LINES: u64 = 1 << 32;
-
-/// The status where no core could be made: the rule that the disks break, or refused memory.
-fn fault(bad: Option<OpenBad>) -> Status
-    ensures { result ≡ fault_of bad }
-{
-    match bad {
-        Some(bad) => Status::OpenBad(bad),
-        None => Status::Memory,
-    }
-}
-
-/// The core over the image that the disks hold, with its export. Else the disks come back, with the
-/// status: the rule that they break, or refused memory.
-fn open_core<D: Disk + Drop>(alloc: Global, disks: Vec<D>) -> Result<World<D>, (Vec<D>, Status)>
-    ensures { MatchResult result
-        (Begins D.seen disks.items)
-        (λ back. ComesBack D.seen disks.items back.0.items back.1) }
-{
-    let Some(file) = Name::of(b"file0") else {
-        unreachable!();
-    };
-    let Some(export) = Name::of(b"disk") else {
-        unreachable!();
-    };
-    let mut world = match World::new(alloc, disks, file, false) {
-        Ok(world) => world,
-        Err((back, bad)) => return Err((back, fault(bad))),
-    };
-    match world.export_disk(export, true) {
-        Ok(()) => Ok(world),
-        Err(_) => Err((world.into_disks(), Status::Memory)),
-    }
-}
 
 /// Replays the script over the image that the disks hold, if they hold one.
 fn replay_disks<I: Source, O: Sink, D: RiggedDisk + Drop>(
@@ -70,7 +36,7 @@ fn replay_disks<I: Source, O: Sink, D: RiggedDisk + Drop>(
         return Status::Memory;
     };
     let taken = mem::replace(disks, Vec::new(alloc));
-    let world = match open_core(alloc, taken) {
+    let world = match open_core(alloc, taken, false) {
         Ok(world) => world,
         Err((back, status)) => {
             *disks = back;

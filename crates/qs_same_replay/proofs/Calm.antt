@@ -14,8 +14,8 @@ use Rattle.qs_world.specs.Events.{IsAsPlanned, IsRowAsPlanned}
 use Rattle.qs_world.specs.Images.{StandsPlans, stripe_at}
 use Rattle.qs_world.specs.Stands.{Stands}
 use Rattle.qs_world.specs.Values.{WorldValue, stripes_of}
-use Rattle.qs_replay.specs.Calls.{Call, Walks, full_at}
-use Rattle.qs_replay.proofs.Plays.{step_planned, step_stands}
+use Rattle.qs_calls.specs.Calls.{Call, Walks, full_at}
+use Rattle.qs_calls.proofs.Plays.{step_planned, step_stands}
 use Rattle.qs_same_replay.specs.Same.{AreCalm, IsByPlan, IsGiven, IsRowByPlan}
 
 -- in each step no disk failed but by a plan, of which a failed store left what it says

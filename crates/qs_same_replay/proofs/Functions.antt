@@ -1,5 +1,5 @@
 -- A replay is a function of its script and of what its disks held.
-use Rattle.std.proofs.Common.{◌≡◌, ◌<◌, ◌≤◌, ℕ, inl, inr, List, [], ◌∷◌, ◌++◌, length, map, refl, sym, subst, ap, ◌∙◌, arith, append-nil, append_assoc, length-append}
+use Rattle.std.proofs.Common.{false, ◌≡◌, ◌<◌, ◌≤◌, ℕ, inl, inr, List, [], ◌∷◌, ◌++◌, length, map, refl, sym, subst, ap, ◌∙◌, arith, append-nil, append_assoc, length-append}
 use Rattle.std.specs.Prelude.{Option, Some, IsTrue}
 use Rattle.qs_status.specs.declared.status.Status.{Status}
 use Rattle.qs_status.specs.declared.status.Status.TheVariants as status
@@ -12,13 +12,14 @@ use Rattle.qs_model.specs.Worlds.{World}
 use Rattle.qs_world.specs.Stands.{Stands}
 use Rattle.qs_world.specs.Values.{WorldValue}
 use Rattle.qs_world.proofs.Opening.{disk_of}
-use Rattle.qs_replay.specs.Calls.{AreCalls, Call, Plays}
-use Rattle.qs_replay.specs.Runs.{IsReplayed, export, exported, most_lines, no_names, opened, first_scene}
+use Rattle.qs_calls.specs.Calls.{AreCalls, Call, Plays}
+use Rattle.qs_calls.specs.Runs.{export, exported, opened}
+use Rattle.qs_replay.specs.Runs.{IsReplayed, most_lines, no_names, first_scene}
 use Rattle.qs_same_replay.specs.Same.{AreCalm, AreComparable, AreSame, IsSmooth}
 use Rattle.qs_replay.specs.Scripts.{AllDone, Ends, ReachesLine, Replays, lines_of}
 use Rattle.qs_replay.specs.Tables.{Names}
 use Rattle.qs_replay.proofs.Reaching.{splits_of}
-use Rattle.qs_replay.proofs.Running.{Starts, starts}
+use Rattle.qs_calls.proofs.Runs.{Starts, starts}
 use Rattle.qs_same_replay.proofs.Calm.{undisturbed}
 use Rattle.qs_same_replay.proofs.TwinFronts.{Ended, ends_one, fronts, further_never}
 use Rattle.qs_same_replay.proofs.TwinLines.{Behind, given_calls, twin_texts}
@@ -63,16 +64,16 @@ record Side {D : Type 0} {seen : D → Seen} {disks : List D} {left sent : Optio
 
 side : {D : Type 0} {seen : D → Seen} {disks : List D} {left sent : Option (List ℕ)} {result : Status} {disks1 : List D} {left1 sent1 : Option (List ℕ)}
     (one : IsReplayed seen disks left sent result disks1 left1 sent1) (script : List ℕ) → left ≡ Some script → IsSmooth result →
-    AreCalm (align_of (map seen disks)) (exported (map seen disks) one.run.place) one.run.elements one.run.fulls →
-    Side one (align_of (map seen disks)) (exported (map seen disks) one.run.place) script
+    AreCalm (align_of (map seen disks)) (exported (map seen disks) false one.run.place) one.run.elements one.run.fulls →
+    Side one (align_of (map seen disks)) (exported (map seen disks) false one.run.place) script
 side {D} {seen} {disks} {left} {sent} {result} one script told smooth calm =
     let r = one.replays in
     let A : ℕ = align_of (map seen disks) in
-    let m : World = exported (map seen disks) one.run.place in
-    let s : Starts seen disks one.begins.exports.place one.start = starts seen disks one.start one.begins in
+    let m : World = exported (map seen disks) false one.run.place in
+    let s : Starts seen disks false one.begins.exports.place one.start = starts seen disks false one.start one.begins in
     let stands : Stands seen one.start m =
-    subst (λ (p : ℕ). Stands seen one.start (exported (map seen disks) p))
-    (place_one (opened (map seen disks)).graph export one.run.place one.begins.exports.place one.run.run.0 s.may) s.stands in
+    subst (λ (p : ℕ). Stands seen one.start (exported (map seen disks) false p))
+    (place_one (opened (map seen disks) false).graph (export false) one.run.place one.begins.exports.place one.run.run.0 s.may) s.stands in
     let none : r.cut ≡ [] = nothing_cut result most_lines r.texts r.taken r.cut r.world r.names one.after_all.flow.input.bytes one.after_all.flow.stream.waiting smooth r.ends in
     let whole : r.calls ++ r.cut ≡ r.calls = ap (λ (cs : List Call). r.calls ++ cs) none ∙ append-nil r.calls in
     let same : one.after_all.world ≡ r.world = subst (λ (cs : List Call). Plays seen r.world cs one.after_all.world) none r.cut_plays in
@@ -91,7 +92,7 @@ side {D} {seen} {disks} {left} {sent} {result} one script told smooth calm =
       model = after A m one.run.elements;
       calm = calmly A m r.calls one.run.elements (subst (λ (cs : List Call). AreCalls A cs one.run.elements) whole one.run.are) one.run.run.1
           (undisturbed seen A one.start one.after_all.world m (r.calls ++ r.cut) one.run.elements one.run.fulls s.align stands one.run.walked calm)
-          (never_later (Exported export one.run.place) one.run.elements one.run.besides.never_odd);
+          (never_later (Exported (export false) one.run.place) one.run.elements one.run.besides.never_odd);
       stands = subst (λ (w : WorldValue D). Stands seen w (after A m one.run.elements)) same one.run.stands;
       disks_are = one.disks_are ∙ ap (λ (w : WorldValue D). map (λ s. s.disk) w.stripes) same;
     }
@@ -180,10 +181,10 @@ same_replays {D} {seen} {disks} {others} {left} {sent} {sent'} {result} {result'
     A = align_of (map seen disks)
 
     m : World
-    m = exported (map seen disks) one.run.place
+    m = exported (map seen disks) false one.run.place
 
     m' : World
-    m' = exported (map seen others) two.run.place
+    m' = exported (map seen others) false two.run.place
 
     twins : Twins m m'
     twins = twins_begin seen disks others one.start two.start one.run.place two.run.place one.begins two.begins one.run.run.0 two.run.run.0 compared.alike

@@ -26,8 +26,9 @@ use Rattle.qs_model.specs.Worlds.{Session, Away, Live, Leaving, World}
 use Rattle.qs_world.specs.Events.{IsNotNext}
 use Rattle.qs_world.specs.Stands.{Stands}
 use Rattle.qs_world.specs.Values.{WorldValue, request_at, session_at}
-use Rattle.qs_replay.specs.Calls.{Call, Happened}
-use Rattle.qs_replay.specs.Effects.{Acts, CallsOf, Does, DrivesNotLive, GoesOn, IsActor, IsEventOf, IsNotLive, Adds, AskedBy, UsesAgain, bytes_or, flush_ask, read_ask, trim_ask, write_ask, zero_ask}
+use Rattle.qs_calls.specs.Calls.{Call, Happened}
+use Rattle.qs_replay.specs.Effects.{Acts, CallsOf, Does, DrivesNotLive, IsActor, IsEventOf, IsNotLive, Adds, AskedBy, UsesAgain, bytes_or, flush_ask, read_ask, trim_ask, write_ask, zero_ask}
+use Rattle.qs_calls.specs.Goings.{GoesOn}
 use Rattle.qs_replay.specs.Readings.{IsText}
 use Rattle.qs_replay.specs.Scripts.{DoesText, IsBad, IsUntimely}
 use Rattle.qs_replay.specs.Tables.{IsUsed, Names}

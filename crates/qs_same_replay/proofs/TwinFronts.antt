@@ -9,7 +9,7 @@ use Rattle.qs_script.proofs.OneLine.{one_line}
 use Rattle.qs_model.specs.Worlds.{World}
 use Rattle.qs_world.specs.Stands.{Stands}
 use Rattle.qs_world.specs.Values.{WorldValue}
-use Rattle.qs_replay.specs.Calls.{Call}
+use Rattle.qs_calls.specs.Calls.{Call}
 use Rattle.qs_replay.specs.Effects.{UsesAgain}
 use Rattle.qs_replay.specs.Readings.{IsText}
 use Rattle.qs_same_replay.specs.Same.{IsSmooth}

@@ -18,8 +18,9 @@ use Rattle.qs_model.specs.Requests.{form_error}
 use Rattle.qs_model.specs.Steps.{happens}
 use Rattle.qs_model.specs.Worlds.{World}
 use Rattle.qs_world.specs.Values.{WorldValue}
-use Rattle.qs_replay.specs.Calls.{Call, Happened, Rigged}
-use Rattle.qs_replay.specs.Effects.{Acts, AskedBy, Does, GoesOn, IsRoom, Notes, RunsOut, bytes_or, flush_ask, goes_on, read_ask, text_of, trim_ask, write_ask, zero_ask}
+use Rattle.qs_calls.specs.Calls.{Call, Happened, Rigged}
+use Rattle.qs_replay.specs.Effects.{Acts, AskedBy, Does, IsRoom, Notes, bytes_or, flush_ask, read_ask, text_of, trim_ask, write_ask, zero_ask}
+use Rattle.qs_calls.specs.Goings.{GoesOn, RunsOut, goes_on}
 use Rattle.qs_replay.specs.Scripts.{AllDone, DoesText}
 use Rattle.qs_replay.specs.Tables.{Names}
 use Rattle.qs_same_replay.proofs.TwinEvents.{actor_one, gives_one, notes_one, read_body, read_wants, room_of, write_body}

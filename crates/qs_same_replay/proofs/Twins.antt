@@ -14,7 +14,7 @@ use Rattle.qs_model.specs.Requests.{Client, form_error, wants_body}
 use Rattle.qs_model.specs.Steps.{Runs, after, happens}
 use Rattle.qs_model.specs.Worlds.{World}
 use Rattle.qs_model.proofs.Basics.{either}
-use Rattle.qs_replay.specs.Calls.{AreCalls, Call, Happened, Rigged}
+use Rattle.qs_calls.specs.Calls.{AreCalls, Call, Happened, Rigged}
 use Rattle.qs_same_replay.specs.Same.{IsGiven}
 use Rattle.qs_same_replay.proofs.Calm.{AreUndisturbed}
 

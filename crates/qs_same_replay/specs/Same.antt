@@ -11,7 +11,8 @@ use Rattle.qs_model.specs.Requests.{Client, Stage, form_error}
 use Rattle.qs_model.specs.Steps.{happens}
 use Rattle.qs_model.specs.Worlds.{World}
 use Rattle.qs_world.specs.Openings.{planned_of}
-use Rattle.qs_replay.specs.Runs.{IsReplayed, exported}
+use Rattle.qs_calls.specs.Runs.{exported}
+use Rattle.qs_replay.specs.Runs.{IsReplayed}
 
 -- a request that is made was given its buffers, unless its form alone refuses it
 abbrev pub IsGiven : Element → Type 0
@@ -60,8 +61,8 @@ pub record AreComparable {D : Type 0} {seen : D → Seen} {disks others : List D
   pub alike : OpenAlike (map seen disks) (map seen others)
   pub smooth : IsSmooth result
   pub smooth_too : IsSmooth result'
-  pub calm : AreCalm (align_of (map seen disks)) (exported (map seen disks) one.run.place) one.run.elements one.run.fulls
-  pub calm_too : AreCalm (align_of (map seen others)) (exported (map seen others) two.run.place) two.run.elements two.run.fulls
+  pub calm : AreCalm (align_of (map seen disks)) (exported (map seen disks) false one.run.place) one.run.elements one.run.fulls
+  pub calm_too : AreCalm (align_of (map seen others)) (exported (map seen others) false two.run.place) two.run.elements two.run.fulls
 
 -- They did the same: the status, the lines, the calls with their outcomes, what was printed, and the content of the disks.
 pub record AreSame {D : Type 0} {seen : D → Seen} {disks others : List D} {left sent sent' : Option (List ℕ)} {result result' : Status}

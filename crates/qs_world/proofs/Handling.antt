@@ -29,6 +29,7 @@ use Rattle.qs_graph.proofs.Rows.{after_length}
 use Rattle.qs_request.specs.declared.shape.Shape.{Shape}
 use Rattle.qs_world.specs.Notes.{detach_note}
 use Rattle.qs_world.proofs.Coming.{Keeps, attached_does, no_export_does, crowded_does, left_does, detached_does, not_attached_does}
+use Rattle.qs_world.proofs.SameDisks.{uncalled}
 use Rattle.qs_world.proofs.PartSteps.{same_stripes}
 use Rattle.qs_world.specs.declared.live.Live.{Live}
 use Rattle.qs_world.specs.declared.live.Member.{Member}
@@ -123,15 +124,15 @@ handled seen old new event out e answers outcome next does as_planned inside sha
 
 -- one that can't come
 pub not_next : {D : Type 0} (seen : D → Seen) (w : WorldValue D) (event : Event) → IsSound seen w → IsNotNext w event → Handles seen w event NotNext w
-not_next seen w event sound h = record { step = refl; next = (λ _. h, λ _. refl); cause = tt; sound = sound }
+not_next seen w event sound h = record { step = refl; next = (λ _. h, λ _. refl); cause = uncalled seen w w NotNext refl tt; sound = sound }
 
 -- one for which memory was refused
 pub no_memory : {D : Type 0} (seen : D → Seen) (old new : WorldValue D) (event : Event) → IsSound seen old → TakesMemory event → (IsNotNext old event → ⊥) → new ≡ old →
     Handles seen old event Memory new
-no_memory seen old new event sound takes next same = record {
+no_memory {D} seen old new event sound takes next same = record {
   step = (takes, same);
   next = (λ f. absurd (never f), λ h. absurd (next h));
-  cause = tt;
+  cause = uncalled seen old new Memory (ap (λ (w : WorldValue D). w.stripes) same) tt;
   sound = subst (IsSound seen) (sym same) sound;
 }
   where
@@ -371,7 +372,7 @@ attached_handled {D = D} seen old new s name info sound none row size is =
     let sessions : new.sessions ≡ old.sessions ++ m ∷ [] = ap (λ (w : WorldValue D). w.sessions) is in
     let does : Does seen old (Attached s name info) new = attached_does seen old new s name info keeps next requests away row
     (λ j. ap (λ (ms : List Member). session_at ms j) sessions ∙ session_more old.sessions m never j) in
-    handled seen old new (Attach s name) (AttachedOut info) (Attached s name info) (refl, refl) refl (λ h. h away) does tt tt keeps.shape tt
+    handled seen old new (Attach s name) (AttachedOut info) (Attached s name info) (refl, refl) refl (λ h. h away) does tt tt keeps.shape (uncalled seen old new (AttachedOut info) keeps.stripes tt)
     (renewed seen old new (Attached s name info) sound (record {
       shape = keeps.shape;
       tracker = keeps.tracker;
@@ -390,7 +391,8 @@ no_export_handled {D = D} seen old new s name graph sound none row is =
     let away = member_away old.sessions s none in
     let same : new ≡ old = is ∙ ap (λ (v : GraphValue). record old { graph = v }) row.1 in
     handled seen old new (Attach s name) NoExportOut (NoExport s name) (refl, refl) refl (λ h. h away)
-    (no_export_does seen old new s name graph away row same) tt tt (ap (λ (w : WorldValue D). w.shape) same) tt (subst (IsSound seen) (sym same) sound)
+    (no_export_does seen old new s name graph away row same) tt tt (ap (λ (w : WorldValue D). w.shape) same)
+    (uncalled seen old new NoExportOut (ap (λ (w : WorldValue D). w.stripes) same) tt) (subst (IsSound seen) (sym same) sound)
 
 pub crowded_handled : {D : Type 0} (seen : D → Seen) (old new : WorldValue D) (s : ℕ) (name : List ℕ) (reply : GraphReply) (graph : GraphValue) → IsSound seen old →
     position (λ m. m.session == s) old.sessions ≡ None → graph_answers old.graph (AttachOp name) reply graph → (reply ≡ NoExportReply → ⊥) →
@@ -401,7 +403,8 @@ crowded_handled {D = D} seen old new s name reply graph sound none row not_none 
     let told_row : graph_answers old.graph (AttachOp name) CrowdedReply graph = subst (λ (r : GraphReply). graph_answers old.graph (AttachOp name) r graph) crowded row in
     let same : new ≡ old = is ∙ ap (λ (v : GraphValue). record old { graph = v }) told_row.1 in
     handled seen old new (Attach s name) CrowdedOut (Crowded s name) (refl, refl) refl (λ h. h away)
-    (crowded_does seen old new s name graph away told_row same) tt tt (ap (λ (w : WorldValue D). w.shape) same) tt (subst (IsSound seen) (sym same) sound)
+    (crowded_does seen old new s name graph away told_row same) tt tt (ap (λ (w : WorldValue D). w.shape) same)
+    (uncalled seen old new CrowdedOut (ap (λ (w : WorldValue D). w.stripes) same) tt) (subst (IsSound seen) (sym same) sound)
 
 pub left_handled : {D : Type 0} (seen : D → Seen) (old new : WorldValue D) (at : ℕ) (m : Member) → IsSound seen old → IsElement old.sessions at m → m.left ≡ false →
     new ≡ record old { requests = map (abandoned_of m.session) old.requests; sessions = slice_set old.sessions at (record m { left = true }) } →
@@ -416,7 +419,7 @@ left_handled {D = D} seen old new at m sound e here is =
     let does : Does seen old (Left m.session m.e) new = left_does seen old new m.session m.e keeps next graph live
     (λ j. ap (λ (ms : List Member). session_at ms j) sessions ∙ session_set old.sessions at (record m { left = true }) m sound.sessions e refl j)
     (λ r. ap (λ (ls : List Live). request_at ls r) requests ∙ request_left m.session old.requests r) in
-    handled seen old new (Leave m.session) LeftOut (Left m.session m.e) refl refl (λ h. h m.e live) does tt tt keeps.shape tt
+    handled seen old new (Leave m.session) LeftOut (Left m.session m.e) refl refl (λ h. h m.e live) does tt tt keeps.shape (uncalled seen old new LeftOut keeps.stripes tt)
     (renewed seen old new (Left m.session m.e) sound (record {
       shape = keeps.shape;
       tracker = keeps.tracker;
@@ -481,7 +484,7 @@ detached_handled {D = D} seen old new at now m sound el left none row size is =
     let does : Does seen old (Detached m.session m.e) new = detached_does seen old new m.session m.e keeps next requests leaving (none_has_request m.session old.requests none) row
     (λ j. ap (λ (ms : List Member). session_at ms j) sessions ∙ session_gone old.sessions at m sound.sessions el j) in
     handled seen old new (Step (ASession m.session) now) (Moved (detach_note Gone)) (Detached m.session m.e) refl refl (is_next seen old at now m sound el left none) does tt tt keeps.shape
-    (λ b f. absurd (no_block b f))
+    (uncalled seen old new (Moved (detach_note Gone)) keeps.stripes (λ b f. absurd (no_block b f)))
     (renewed seen old new (Detached m.session m.e) sound (record {
       shape = keeps.shape;
       tracker = keeps.tracker;
@@ -507,7 +510,9 @@ not_attached_handled {D = D} seen old new at now m reply graph sound el left non
     handled seen old new (Step (ASession m.session) now) (Moved (detach_note reply)) (NotAttached m.session m.e) refl
     (ap (λ (r : GraphReply). Some (Moved (detach_note r))) (sym gone)) (is_next seen old at now m sound el left none)
     (not_attached_does seen old new m.session m.e graph leaving (none_has_request m.session old.requests none) told_row same)
-    tt tt (ap (λ (w : WorldValue D). w.shape) same) (λ b f. absurd (no_block b f)) (subst (IsSound seen) (sym same) sound)
+    tt tt (ap (λ (w : WorldValue D). w.shape) same)
+    (uncalled seen old new (Moved (detach_note reply)) (ap (λ (w : WorldValue D). w.stripes) same) (λ b f. absurd (no_block b f)))
+    (subst (IsSound seen) (sym same) sound)
   where
     no_block : (b : ℕ) → None ≡ Some b → ⊥
     no_block b f = cc

@@ -13,3 +13,4 @@ pub mod Requests
 pub mod Opening
 pub mod Ready
 pub mod Plans
+pub mod SameDisks

@@ -1,5 +1,5 @@
 -- One operation of a request on each part is a step of the core.
-use Rattle.std.proofs.Common.{◌≡◌, ℕ, ◌+◌, ◌*◌, zero, suc, ◌<◌, ◌≤◌, ◌⊎◌, inl, inr, List, [], ◌∷◌, length, map, Bool, true, false, ◌&&◌, refl, sym, ◌∙◌, ap, subst, arith}
+use Rattle.std.proofs.Common.{◌≡◌, ℕ, ◌+◌, ◌*◌, zero, suc, ◌<◌, ◌≤◌, ◌⊎◌, inl, inr, List, [], ◌∷◌, length, map, Bool, true, false, ◌&&◌, refl, sym, ◌∙◌, ap, subst, arith, true≢false}
 use Rattle.std.specs.Prelude.{Option, Some, None, IsTrue}
 use Rattle.std.specs.List.{slice_set}
 use Rattle.std.proofs.lemmas.List.{get_or-set_same, get_or-set_other, length-set, length-map, map-set}
@@ -10,7 +10,7 @@ use Rattle.qs_part.specs.declared.event.NoteReply.TheVariants.{Stripe as OfStrip
 use Rattle.qs_part.specs.declared.event.OpKind.{OpKind}
 use Rattle.qs_part.specs.declared.event.OpKind.TheVariants.{Load as LoadKind, Hold as HoldKind, Store as StoreKind, Free as FreeKind, Sync as SyncKind}
 use Rattle.qs_part.specs.declared.event.Outcome.{Outcome}
-use Rattle.qs_part.specs.declared.event.Outcome.TheVariants.{Moved}
+use Rattle.qs_part.specs.declared.event.Outcome.TheVariants.{Answered, Moved}
 use Rattle.qs_part.specs.declared.event.StripeNote.{StripeNote}
 use Rattle.qs_part.specs.declared.event.StripeNote.TheVariants.{Fault as FaultNote}
 use Rattle.qs_part.specs.declared.graph.GraphOp.TheVariants.{Route as RouteOp}
@@ -34,7 +34,8 @@ use Rattle.qs_stripe.specs.Table.{StripeState, StripeValue, answers as stripe_an
 use Rattle.qs_tracker.specs.Table.{TrackerValue, answers}
 use Rattle.qs_world.specs.declared.live.Live.{Live}
 use Rattle.qs_world.specs.Cores.{StepsRequest}
-use Rattle.qs_world.specs.Events.{HasCause, stripe_by}
+use Rattle.qs_world.specs.Events.{HasCause, IsCaused, calls_stripe, is_of_stripe, stripe_by}
+use Rattle.qs_world.proofs.SameDisks.{called_disks, later_disk, uncalled}
 use Rattle.qs_world.specs.Follows.{Follows, IsElement, waiting}
 use Rattle.qs_world.specs.Images.{Changed, stripe_at, all_tell, no_stripe}
 use Rattle.qs_world.specs.Notes.{tracker_note, tracker_kind, route_note, stripe_note, stripe_kind, place_of, short}
@@ -68,7 +69,7 @@ by_place _ _ j is = absurd (cc)
 
 -- an answer of a part that has no disk
 no_cause : {D : Type 0} (seen : D → Seen) (old new : WorldValue D) (l : Live) (reply : PartReply) (note : Note) (at : ℕ) (requests : List Live) (outcome : Outcome) →
-    note.at ≡ None → Follows l reply note at requests outcome new.requests → HasCause seen old outcome new
+    note.at ≡ None → Follows l reply note at requests outcome new.requests → IsCaused seen old outcome new
 no_cause seen old new l reply note at requests (Moved n) none follows = λ j is fault.
     let (b, there) = by_place n.kind n.at j is in
     absurd (never b (sym (ap (λ (i : Note). i.at) follows.0 ∙ none) ∙ there))
@@ -105,7 +106,8 @@ tracker_steps seen old new at l op reply outcome sound e wants row shape next se
     (λ m stands. r.guard m stands.tracker) r.tracks
     (λ i stands. rw (r.images i, stripes) stands) (λ p stands. rw (r.plans p, stripes) stands) (r.as_planned (stripe_at (stripes_of seen old)))
     (λ b is. absurd (no_block b (sym r.off ∙ is))) follows
-    (no_cause seen old new (waiting l) (ByTracker reply) (tracker_note (tracker_kind op) reply) at (slice_set old.requests at (waiting l)) outcome refl follows)
+    (uncalled seen old new outcome stripes
+    (no_cause seen old new (waiting l) (ByTracker reply) (tracker_note (tracker_kind op) reply) at (slice_set old.requests at (waiting l)) outcome refl follows))
 
 pub graph_steps : {D : Type 0} (seen : D → Seen) (old new : WorldValue D) (at : ℕ) (l : Live) (place : ℕ) (reply : GraphReply) (outcome : Outcome) →
     IsSound seen old → IsElement old.requests at l → WantsAt old.shape.align (req l).client (req l).pads (req l).stage (OnRoute place) →
@@ -127,7 +129,8 @@ graph_steps seen old new at l place reply outcome sound e wants row shape next s
     (r.tracks old.tracker ∙ sym tracker)
     (λ i stands. rw (r.images i, stripes) stands) (λ p stands. rw (r.plans p, stripes) stands) (r.as_planned (stripe_at (stripes_of seen old)))
     (λ b is. absurd (no_block b (sym r.off ∙ is))) follows
-    (no_cause seen old new (waiting l) (ByGraph reply) (route_note reply) at (slice_set old.requests at (waiting l)) outcome refl follows)
+    (uncalled seen old new outcome stripes
+    (no_cause seen old new (waiting l) (ByGraph reply) (route_note reply) at (slice_set old.requests at (waiting l)) outcome refl follows))
 
 -- where all disks tell their content, each does
 pub all_tell_at : (vs : List StripeValue) (j : ℕ) → j < length vs → IsTrue (all_tell vs) → IsTrue (stripe_at vs j).disk.tells
@@ -150,24 +153,6 @@ pub all_tell_set : (vs : List StripeValue) (j : ℕ) (v : StripeValue) → j < l
 all_tell_set [] j v inside same = refl
 all_tell_set (w ∷ vs) zero v inside same = ap (λ (b : Bool). b && all_tell vs) same
 all_tell_set (w ∷ vs) (suc j) v inside same = ap (λ (b : Bool). w.disk.tells && b) (all_tell_set vs j v (omega arith) same)
-
--- no operation changes whether the disk tells its content
-tells_same : (old new : StripeValue) (op : StripeOp) (reply : StripeReply) → stripe_answers old op reply new → new.disk.tells ≡ old.disk.tells
-tells_same old new (LoadOp b k buf) (Filled got) row = row.0.fixed.tells
-tells_same old new (LoadOp b k buf) (Fault (Some back)) row = row.0.fixed.tells
-tells_same old new (HoldOp b k end buf) (HeldBy j back) row = ap (λ (v : StripeValue). v.disk.tells) row.2
-tells_same old new (HoldOp b k end buf) (Taken c back) row = ap (λ (v : StripeValue). v.disk.tells) row.3
-tells_same old new (HoldOp b k end buf) (Filled got) row = row.2.fixed.tells
-tells_same old new (HoldOp b k end buf) (Fault (Some back)) row = row.2.fixed.tells
-tells_same old new (StoreOp b k buf) (HeldBy j back) row = ap (λ (v : StripeValue). v.disk.tells) row.3
-tells_same old new (StoreOp b k buf) (Done back) row = row.1.fixed.tells
-tells_same old new (StoreOp b k buf) (Fault (Some back)) row = row.1.fixed.tells
-tells_same old new (FreeOp b k) Freed row = ap (λ (d : Seen). d.tells) row.1
-tells_same old new (FreeOp b k) NotHeld row = ap (λ (v : StripeValue). v.disk.tells) row.1
-tells_same old new SyncOp Clean row = ap (λ (v : StripeValue). v.disk.tells) row.1
-tells_same old new SyncOp Synced row = row.1.fixed.tells
-tells_same old new SyncOp (Fault None) row = row.1.fixed.tells
-tells_same old new _ _ row = absurd row
 
 -- a fault has a raised count
 rose_at : (old new : StripeValue) (op : StripeOp) (reply : StripeReply) → stripe_answers old op reply new → short reply ≡ FaultNote → Rose old.disk.faults new.disk.faults
@@ -247,7 +232,7 @@ changed_stripes seen old new z s t c shape same j is =
 stripe_cause : {D : Type 0} (seen : D → Seen) (old new : WorldValue D) (l : Live) (reply : PartReply) (kind : OpKind) (place z : ℕ) (answer : StripeReply) (at : ℕ) (requests : List Live)
     (outcome : Outcome) → stripe_by kind (Some place) ≡ Some z →
     (short answer ≡ FaultNote → Rose (stripe_at (stripes_of seen old) z).disk.faults (stripe_at (stripes_of seen new) z).disk.faults) →
-    Follows l reply (stripe_note kind place answer) at requests outcome new.requests → HasCause seen old outcome new
+    Follows l reply (stripe_note kind place answer) at requests outcome new.requests → IsCaused seen old outcome new
 stripe_cause seen old new l reply kind place z answer at requests (Moved n) by rose follows = λ j is fault.
     subst (λ (x : ℕ). Rose (stripe_at (stripes_of seen old) x).disk.faults (stripe_at (stripes_of seen new) x).disk.faults)
     (one_number z j (sym by ∙ sym (ap (λ (i : Note). stripe_by i.kind i.at) follows.0) ∙ is))
@@ -256,6 +241,13 @@ stripe_cause seen old new l reply kind place z answer at requests (Moved n) by r
     one_note : (x y : StripeNote) → OfStripe x ≡ OfStripe y → x ≡ y
     one_note x y e = cc
 stripe_cause seen old new l reply kind place z answer at requests _ by rose follows = tt
+
+-- an operation of a stripe is told as one
+stripe_called : {D : Type 0} (seen : D → Seen) (l : Live) (reply : PartReply) (kind : OpKind) (place : ℕ) (answer : StripeReply) (at : ℕ) (requests : List Live) (outcome : Outcome)
+    (left : List Live) → Follows l reply (stripe_note kind place answer) at requests outcome left → calls_stripe outcome ≡ true
+stripe_called seen l reply kind place answer at requests (Moved n) left follows = ap (λ (i : Note). is_of_stripe i.reply) follows.0
+stripe_called seen l reply kind place answer at requests (Answered v n) left follows = ap (λ (o : Option Note). calls_stripe (Answered v o)) follows.0
+stripe_called seen l reply kind place answer at requests _ left follows = absurd follows
 
 pub stripe_steps : {D : Type 0} (seen : D → Seen) (old new : WorldValue D) (at : ℕ) (l : Live) (z : ℕ) (op : StripeOp) (reply : StripeReply) (s t : StripeState D) (outcome : Outcome) →
     IsSound seen old → IsElement old.requests at l → WantsAt old.shape.align (req l).client (req l).pads (req l).stage (OnStripe z op) → FitsStripe old.shape z op → z < 8 →
@@ -276,6 +268,7 @@ stripe_steps seen old new at l z op reply s t outcome sound e wants fits below w
       align = ap (λ (g : _). g.align) (sound.stripes z below);
       row = here;
     } in
+    let later = later_disk (stripe_at (stripes_of seen old) z) (stripe_value seen t) op reply here in
     let r = stripe_row old.shape.align (req l).client (req l).pads (req l).stage z op reply (all_tell (stripes_of seen old))
     (stripe_at (stripes_of seen old)) (stripe_at (stripes_of seen new)) wants step in
     did_answers seen old new at l r.act (ByStripe reply) (stripe_note (stripe_kind op) (place_of z op) reply) outcome sound e
@@ -288,7 +281,7 @@ stripe_steps seen old new at l z op reply s t outcome sound e wants fits below w
         graph = graph;
         tells = ap all_tell (changed_values seen old new z s t c)
             ∙ all_tell_set (stripes_of seen old) z (stripe_value seen t) (many_values seen old z c.inside)
-            (tells_same (stripe_at (stripes_of seen old) z) (stripe_value seen t) op reply here);
+            later.0.tells;
       };
       count = ap length is ∙ length-set old.stripes z t ∙ sound.count;
       stripes = λ j h. changed_stripes seen old new z s t c shape same j (sound.stripes j h);
@@ -298,7 +291,12 @@ stripe_steps seen old new at l z op reply s t outcome sound e wants fits below w
     (r.tracks old.tracker ∙ sym tracker)
     r.images r.plans r.as_planned
     (λ b on. (some_bytes old.shape.align sound.shape.align, block_inside old.shape z op b fits (r.on b on))) follows
-    (stripe_cause seen old new (waiting l) (ByStripe reply) (stripe_kind op) (place_of z op) z reply at (slice_set old.requests at (waiting l)) outcome
-    (stripe_is old.shape z op fits)
-    (λ fault. subst (λ (v : StripeValue). Rose (stripe_at (stripes_of seen old) z).disk.faults v.disk.faults) (sym change.this)
-    (rose_at (stripe_at (stripes_of seen old) z) (stripe_value seen t) op reply here fault)) follows)
+    (record {
+      disks = called_disks seen old new z (stripe_value seen t) (ap length is ∙ length-set old.stripes z t) change later;
+      fault = stripe_cause seen old new (waiting l) (ByStripe reply) (stripe_kind op) (place_of z op) z reply at (slice_set old.requests at (waiting l)) outcome
+          (stripe_is old.shape z op fits)
+          (λ fault. subst (λ (v : StripeValue). Rose (stripe_at (stripes_of seen old) z).disk.faults v.disk.faults) (sym change.this)
+          (rose_at (stripe_at (stripes_of seen old) z) (stripe_value seen t) op reply here fault)) follows;
+      rest = λ e. absurd (true≢false (sym (stripe_called seen (waiting l) (ByStripe reply) (stripe_kind op) (place_of z op) reply at (slice_set old.requests at (waiting l)) outcome
+          new.requests follows) ∙ e));
+    })

@@ -27,6 +27,7 @@ use Rattle.qs_world.specs.Images.{stripe_at}
 use Rattle.qs_world.specs.Follows.{IsElement}
 use Rattle.qs_world.specs.Sound.{IsSound}
 use Rattle.qs_world.specs.Values.{WorldValue, stripes_of}
+use Rattle.qs_world.proofs.SameDisks.{uncalled}
 use Rattle.qs_world.proofs.Answering.{Others, Listed, req, was_answered, found, stays_sound}
 use Rattle.qs_world.proofs.Doing.{did_does}
 
@@ -94,6 +95,6 @@ answer_steps {D = D} seen old at l v requests sound e wants is =
       as_planned = r.as_planned (stripe_at (stripes_of seen old));
       inside = λ b is. let no : None ≡ Some b = sym r.off ∙ is in absurd (cc);
       shape_kept = refl;
-      cause = tt;
+      cause = uncalled seen old new (Answered v None) refl tt;
       sound = stays_sound seen old new l.number (req l) r.act sound others list.idle list.apart does;
     }

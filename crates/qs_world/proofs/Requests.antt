@@ -26,6 +26,7 @@ use Rattle.qs_world.specs.Follows.{IsElement}
 use Rattle.qs_world.specs.Keyed.{HasKey}
 use Rattle.qs_world.specs.Sound.{IsSound, IsIdle}
 use Rattle.qs_world.specs.Values.{WorldValue, request_at, session_at}
+use Rattle.qs_world.proofs.SameDisks.{uncalled}
 use Rattle.qs_world.proofs.Coming.{Keeps, asked_does}
 use Rattle.qs_world.proofs.Handling.{handled, renewed, session_stands, live_is}
 use Rattle.qs_world.proofs.Keyed.{find_more, distinct_more, all_more, all_weaker}
@@ -120,7 +121,7 @@ asked_handled {D = D} seen old new at m ask body blocks l sound el here room is 
     (λ writing has. whole_body ask body blocks writing has) (λ writing bare. refused_body ask body blocks) (λ other. unbrought ask.kind (given_bytes (fitted body ask.length)) other)
     (λ r. ap (λ (ls : List Live). request_at ls r) requests ∙ find_more (λ l. l.number) (λ l. l.request.value.request) old.requests (made_live old c l) never r) in
     handled seen old new (AskEvent m.session ask body) (Made old.next) (Asked old.next c) (refl, refl, brings m.session m.e ask body blocks) refl
-    (λ h. not_now h live) does tt tt keeps.shape tt
+    (λ h. not_now h live) does tt tt keeps.shape (uncalled seen old new (Made old.next) keeps.stripes tt)
     (renewed seen old new (Asked old.next c) sound (record {
       shape = keeps.shape;
       tracker = keeps.tracker;

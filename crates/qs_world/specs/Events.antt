@@ -1,5 +1,5 @@
 -- What an event does to the core, and when it can't come.
-use Rattle.std.specs.Prelude.{◌≡◌, ◌≢◌, ℕ, ◌+◌, ◌*◌, ◌-◌, ◌^◌, ◌<◌, ◌≤◌, ◌⊎◌, Bool, false, Option, Some, None}
+use Rattle.std.specs.Prelude.{◌≡◌, ◌≢◌, ℕ, ◌+◌, ◌*◌, ◌-◌, ◌^◌, ◌<◌, ◌≤◌, ◌⊎◌, Bool, true, false, Option, Some, None}
 use Rattle.qs_outside.specs.Blocks.{Seen}
 use Rattle.qs_outside.specs.Faults.{Rose}
 use Rattle.qs_outside.specs.Rigged.{plans_of}
@@ -9,7 +9,8 @@ use Rattle.qs_part.specs.declared.event.Event.TheVariants.{Attach, Leave, Ask, S
 use Rattle.qs_part.specs.declared.event.OpKind.{OpKind}
 use Rattle.qs_part.specs.declared.event.OpKind.TheVariants.{Load as LoadKind, Hold as HoldKind, Store as StoreKind, Free as FreeKind, Sync as SyncKind}
 use Rattle.qs_part.specs.declared.event.Outcome.{Outcome}
-use Rattle.qs_part.specs.declared.event.Outcome.TheVariants.{NotNext, Memory, Moved}
+use Rattle.qs_part.specs.declared.event.Outcome.TheVariants.{NotNext, Memory, Moved, Answered}
+use Rattle.qs_part.specs.declared.event.NoteReply.{NoteReply}
 use Rattle.qs_part.specs.declared.event.NoteReply.TheVariants.{Stripe}
 use Rattle.qs_part.specs.declared.event.StripeNote.TheVariants.{Fault}
 use Rattle.qs_model.specs.Requests.{Req, Stage}
@@ -20,9 +21,10 @@ use Rattle.qs_model.specs.Guards.{May}
 use Rattle.qs_model.specs.Steps.{happens}
 use Rattle.qs_model.specs.Events.{IsEvent, outcome_of}
 use Rattle.qs_request.specs.declared.shape.Shape.{Shape}
+use Rattle.qs_image.specs.Image.{SameDisks}
 use Rattle.qs_stripe.specs.Table.{StripeValue}
 use Rattle.qs_world.specs.Images.{stripe_at}
-use Rattle.qs_world.specs.Values.{WorldValue, request_at, session_at, stripes_of}
+use Rattle.qs_world.specs.Values.{WorldValue, disks_of, request_at, session_at, stripes_of}
 use Rattle.qs_world.specs.Stands.{Stands}
 
 -- From each state of the model that the core stood for, the element may come, and the core stands for
@@ -91,7 +93,24 @@ stripe_by SyncKind (Some s) = Some s
 stripe_by _ _ = None
 
 -- a fault of a disk comes only where its count rose
-abbrev pub HasCause : {D : Type 0} → (D → Seen) → WorldValue D → Outcome → WorldValue D → Type 0
-HasCause seen old (Moved note) new = (j : ℕ) → stripe_by note.kind note.at ≡ Some j → note.reply ≡ Stripe Fault →
+abbrev pub IsCaused : {D : Type 0} → (D → Seen) → WorldValue D → Outcome → WorldValue D → Type 0
+IsCaused seen old (Moved note) new = (j : ℕ) → stripe_by note.kind note.at ≡ Some j → note.reply ≡ Stripe Fault →
     Rose (stripe_at (stripes_of seen old) j).disk.faults (stripe_at (stripes_of seen new) j).disk.faults
-HasCause seen old _ new = Unit {0}
+IsCaused seen old _ new = Unit {0}
+
+-- the operation of an event was a stripe's
+abbrev pub is_of_stripe : NoteReply → Bool
+is_of_stripe (Stripe note) = true
+is_of_stripe _ = false
+
+abbrev pub calls_stripe : Outcome → Bool
+calls_stripe (Moved note) = is_of_stripe note.reply
+calls_stripe (Answered verdict (Some note)) = is_of_stripe note.reply
+calls_stripe _ = false
+
+-- What an event made of the disks: they are the same ones, and no count of faults fell; a fault comes only where its disk's count
+-- rose, and an event whose operation isn't a stripe's leaves all stripes as they were.
+pub record HasCause {D : Type 0} (seen : D → Seen) (old : WorldValue D) (outcome : Outcome) (new : WorldValue D) : Type 0 where
+  pub disks : SameDisks (disks_of seen old) (disks_of seen new)
+  pub fault : IsCaused seen old outcome new
+  pub rest : calls_stripe outcome ≡ false → new.stripes ≡ old.stripes

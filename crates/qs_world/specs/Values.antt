@@ -40,3 +40,7 @@ session_at ms s = session_or (find_by (λ m. m.session) member_of ms s)
 -- the eight stripes, by what their disks mean
 abbrev pub stripes_of : {D : Type 0} → (D → Seen) → WorldValue D → List StripeValue
 stripes_of seen w = map (value_of seen) w.stripes
+
+-- what its eight disks mean
+abbrev pub disks_of : {D : Type 0} → (D → Seen) → WorldValue D → List Seen
+disks_of seen w = map seen (map (λ (s : StripeState _). s.disk) w.stripes)

@@ -1,6 +1,5 @@
 -- What isn't refused is a step of the model.
-use Rattle.qs_replay.proofs.Falling.{falls}
-use Rattle.qs_replay.proofs.Plays.{plays_of}
+use Rattle.qs_calls.proofs.Plays.{plays_of}
 use Rattle.qs_replay.proofs.desk.happen.Goals as goal
 
 pub returns-in_default : goal.returns-in_default
@@ -9,7 +8,6 @@ returns-in_default g c =
     c.step.ensures.step c.step.ensures.cause in
     record {
       ok = came.1;
-      on = λ goes. falls g.D.Disk.seen c.args.world.now c.args.event c.step.result c.step.new.self c.step.ensures.before.0 c.step.ensures.before.1 came.0 goes;
       err = tt;
       next = λ e. absurd (cc);
       memory = λ e. absurd (cc);

@@ -17,7 +17,7 @@ returns-in_err-text g c =
     let ran = c.in_ok-outcome.ensures.ok in
     stops g.D.Disk.seen c.args.self.now (line.Run c.args.who.now c.args.now) false _ _ _ c.from_residual-in_err-text.ensures.1
     (stopped_cut g.D.Disk.seen c.args.self.now (line.Run c.args.who.now c.args.now)
-    (record { world = c.run_out.new.world; table = c.actor_for.new.table; out = c.args.self.now.out; alloc = c.args.self.now.alloc }) ran.0 (event.Step c.in_ok-found.found.actor c.args.now) c.actor_for.new.table false
+    (record { world = c.run_all.new.world; table = c.actor_for.new.table; out = c.args.self.now.out; alloc = c.args.self.now.alloc }) ran.0 (event.Step c.in_ok-found.found.actor c.args.now) c.actor_for.new.table false
     (c.in_ok-found.found.actor, (c.in_ok-found.ensures.ok.0, refl)) (inr (c.in_ok-outcome.outcome, ran.1.1)) ran.1.0 refl)
 
 pub returns-in_err-append : goal.returns-in_err-append
@@ -25,7 +25,7 @@ returns-in_err-append g c =
     let ran = c.in_ok-outcome.ensures.ok in
     stops g.D.Disk.seen c.args.self.now (line.Run c.args.who.now c.args.now) false _ _ _ c.from_residual-in_err-append.ensures.1
     (stopped_cut g.D.Disk.seen c.args.self.now (line.Run c.args.who.now c.args.now)
-    (record { world = c.run_out.new.world; table = c.actor_for.new.table; out = c.append.new.self; alloc = c.args.self.now.alloc }) ran.0 (event.Step c.in_ok-found.found.actor c.args.now) c.actor_for.new.table false
+    (record { world = c.run_all.new.world; table = c.actor_for.new.table; out = c.append.new.self; alloc = c.args.self.now.alloc }) ran.0 (event.Step c.in_ok-found.found.actor c.args.now) c.actor_for.new.table false
     (c.in_ok-found.found.actor, (c.in_ok-found.ensures.ok.0, refl)) (inr (c.in_ok-outcome.outcome, ran.1.1)) ran.1.0 c.in_err-append.ensures.err)
 
 pub returns : goal.returns

@@ -2,7 +2,7 @@
 use Rattle.std.proofs.Common.{arith, refl}
 use Rattle.std.specs.Prelude.{codes}
 use Rattle.qs_world.proofs.Opening.{opened_without}
-use Rattle.qs_replay.proofs.run.open_core.Goals as goal
+use Rattle.qs_calls.proofs.open.open_core.Goals as goal
 
 pub unreachable-requires : goal.unreachable-requires
 unfolding lib.Utf8.encode

@@ -3,10 +3,10 @@ use Rattle.std.proofs.Common.{◌≡◌, suc, List, [], ◌∷◌, ◌++◌, con
 use Rattle.std.specs.Prelude.{All}
 use Rattle.qs_part.specs.declared.event.Event.TheVariants.{Step as AStep}
 use Rattle.qs_world.specs.Events.{IsNotNext}
-use Rattle.qs_replay.specs.Calls.{Call, Happened, Plays}
-use Rattle.qs_replay.specs.Effects.{GoesOn, goes_on}
-use Rattle.qs_replay.specs.Ranks.{rank_at}
-use Rattle.qs_replay.proofs.desk.run_out.Given as goal
+use Rattle.qs_calls.specs.Calls.{Call, Happened, Plays}
+use Rattle.qs_calls.specs.Goings.{GoesOn, goes_on}
+use Rattle.qs_calls.specs.Ranks.{rank_at}
+use Rattle.qs_calls.proofs.run.run_out.Given as goal
 
 abbrev pub invariant-steps : goal.invariant-steps
 invariant-steps g l = (front : List Call) × (All (GoesOn (AStep l.actor l.now)) front ×

@@ -23,8 +23,8 @@ use Rattle.qs_model.proofs.Holders.{some_none}
 use Rattle.qs_world.specs.Events.{IsInside, IsNotNext, Steps}
 use Rattle.qs_world.specs.Stands.{Stands}
 use Rattle.qs_world.specs.Values.{WorldValue, request_at}
-use Rattle.qs_replay.specs.Effects.{goes_on}
-use Rattle.qs_replay.specs.Ranks.{rank_of, rank_or, rank_at}
+use Rattle.qs_calls.specs.Goings.{goes_on}
+use Rattle.qs_calls.specs.Ranks.{rank_of, rank_or, rank_at}
 
 -- where the operation of each stage leads
 

@@ -1,11 +1,11 @@
 -- One call more that goes on.
 use Rattle.std.proofs.Common.{◌≡◌, [], ◌∷◌, ◌++◌, true, rules}
 use Rattle.qs_part.specs.declared.event.Event.TheVariants.{Step as AStep}
-use Rattle.qs_replay.specs.Calls.{Happened}
-use Rattle.qs_replay.specs.Effects.{goes_on}
-use Rattle.qs_replay.proofs.Plays.{plays_more}
-use Rattle.qs_replay.proofs.Playing.{goes_more}
-use Rattle.qs_replay.proofs.desk.run_out.Goals as goal
+use Rattle.qs_calls.specs.Calls.{Happened}
+use Rattle.qs_calls.specs.Goings.{goes_on}
+use Rattle.qs_calls.proofs.Plays.{plays_more}
+use Rattle.qs_calls.proofs.Goings.{goes_more}
+use Rattle.qs_calls.proofs.run.run_out.Goals as goal
 
 pub steps-preserved : goal.steps-preserved
 steps-preserved g c =
@@ -15,7 +15,7 @@ steps-preserved g c =
       (
         goes_more made c.steps.outcome c.steps.invariant.0 c.steps.invariant.1.0 on,
         plays_more g.D.Disk.seen c.args.world.now (c.steps.invariant.0 ++ Happened made c.steps.outcome ∷ []) c.steps.world
-            (Happened made c.in-Ok.next ∷ []) c.happen-in-steps.new.world c.steps.invariant.1.1 c.in-Ok.ensures.ok,
-        λ goes. (c.in-Ok.ensures.on goes).1,
+            (Happened made c.in-Some.next ∷ []) c.step_on-in-steps.new.world c.steps.invariant.1.1 c.in-Some.ensures.some,
+        λ goes. (c.in-Some.ensures.on goes).1,
       ),
     )

@@ -1,0 +1,4 @@
+pub mod Plays
+pub mod Falling
+pub mod Goings
+pub mod Runs

@@ -1,0 +1,69 @@
+-- The calls of a core over disks, from its opening on.
+use Rattle.std.proofs.Common.{◌≡◌, ℕ, ◌<◌, Bool, true, not, List, ◌∷◌, subst, ap, ◌∙◌, inl, inr, codes, arith}
+use Rattle.std.specs.Prelude.{map}
+use Rattle.qs_outside.specs.Blocks.{Seen}
+use Rattle.qs_graph.specs.Table.{GraphValue}
+use Rattle.qs_image.specs.Image.{align_of}
+use Rattle.qs_image.specs.Opening.{IsAlign}
+use Rattle.qs_model.specs.Acts.{Element, Exported}
+use Rattle.qs_model.specs.Guards.{May}
+use Rattle.qs_model.specs.Steps.{happens}
+use Rattle.qs_model.proofs.Headline.{besides, headline}
+use Rattle.qs_model.specs.Worlds.{Opening as OpenedOver}
+use Rattle.qs_verdicts.proofs.Judged.{judged}
+use Rattle.qs_part.specs.declared.graph.GraphOp.TheVariants.{ExportAdd}
+use Rattle.qs_request.specs.declared.shape.Shape.{Shape}
+use Rattle.qs_world.specs.Events.{Does}
+use Rattle.qs_world.specs.Openings.{opening_over}
+use Rattle.qs_world.specs.Stands.{Stands}
+use Rattle.qs_world.specs.Values.{WorldValue}
+use Rattle.qs_calls.specs.Calls.{Call, Plays}
+use Rattle.qs_calls.specs.Runs.{Begins, HasRun, export, opened}
+use Rattle.qs_calls.proofs.Plays.{leads}
+
+-- a block has bytes
+pub positive : (A : ℕ) → IsAlign A → 0 < A
+positive A (inl e) = omega arith
+positive A (inr e) = omega arith
+
+-- what a core that began stands for: the opening, and the making of its export
+pub record Starts {D : Type 0} (seen : D → Seen) (disks : List D) (read_only : Bool) (place : ℕ) (w : WorldValue D) : Type 0 where
+  pub align : w.shape.align ≡ align_of (map seen disks)
+  pub may : May (align_of (map seen disks)) (opened (map seen disks) read_only) (Exported (export read_only) place)
+  pub stands : Stands seen w (happens (align_of (map seen disks)) (opened (map seen disks) read_only) (Exported (export read_only) place))
+
+pub starts : {D : Type 0} (seen : D → Seen) (disks : List D) (read_only : Bool) (w : WorldValue D) (begins : Begins seen disks read_only w) → Starts seen disks read_only begins.exports.place w
+starts {D} seen disks read_only w begins =
+    let place : ℕ = begins.exports.place in
+    let align : begins.fresh.shape.align ≡ align_of (map seen disks) = ap (λ (s : Shape). s.align) begins.opened.shape in
+    let file : begins.fresh.graph.file ≡ codes "file0" = ap (λ (g : GraphValue). g.file) begins.opened.graph in
+    let does : Does seen begins.fresh (Exported (export read_only) place) w =
+    subst (λ (n : List ℕ). Does seen begins.fresh (Exported (ExportAdd (codes "disk") (codes "disk") n (not read_only) true) place) w) file begins.exports.does in
+    let first : May (align_of (map seen disks)) (opened (map seen disks) read_only) (Exported (export read_only) place)
+    × Stands seen w (happens (align_of (map seen disks)) (opened (map seen disks) read_only) (Exported (export read_only) place)) =
+    subst (λ (a : ℕ). May a (opened (map seen disks) read_only) (Exported (export read_only) place) × Stands seen w (happens a (opened (map seen disks) read_only) (Exported (export read_only) place))) align
+    (does (opened (map seen disks) read_only) begins.opened.stands) in
+    record { align = ap (λ (v : WorldValue D). v.shape.align) begins.exports.same ∙ align; may = first.0; stands = first.1 }
+
+pub has_run : {D : Type 0} (seen : D → Seen) (disks : List D) (read_only : Bool) (start w : WorldValue D) (calls : List Call) → Begins seen disks read_only start →
+    Plays seen start calls w → HasRun seen (map seen disks) read_only start calls w
+has_run {D} seen disks read_only start w calls begins plays =
+    let A : ℕ = align_of (map seen disks) in
+    let place : ℕ = begins.exports.place in
+    let s : Starts seen disks read_only place start = starts seen disks read_only start begins in
+    let on = leads seen A start calls w (happens A (opened (map seen disks) read_only) (Exported (export read_only) place)) s.align s.stands plays in
+    let o : OpenedOver = opening_over (map seen disks) (codes "file0") read_only in
+    let steps : List Element = Exported (export read_only) place ∷ on.elements in
+    let some : 0 < A = positive A begins.opened.image.1.0 in
+    record {
+      place = place;
+      elements = on.elements;
+      fulls = on.fulls;
+      are = on.are;
+      walked = on.walked;
+      run = (s.may, on.run);
+      headline = headline A o steps some (s.may, on.run);
+      besides = besides A o steps some (s.may, on.run);
+      judged = judged A o steps some (s.may, on.run);
+      stands = on.stands;
+    }

@@ -1,0 +1,4 @@
+pub mod Calls
+pub mod Ranks
+pub mod Goings
+pub mod Runs

@@ -1,0 +1,63 @@
+-- A core over disks with one export, and the run of the model that its calls are.
+use Rattle.std.specs.Prelude.{◌≡◌, ℕ, Bool, true, not, List, ◌∷◌, map, codes, Option, Some, None}
+use Rattle.qs_status.specs.declared.status.OpenBad.{OpenBad}
+use Rattle.qs_status.specs.declared.status.Status.{Status}
+use Rattle.qs_status.specs.declared.status.Status.TheVariants as status
+use Rattle.qs_outside.specs.Blocks.{Seen}
+use Rattle.qs_image.specs.Image.{align_of}
+use Rattle.qs_image.specs.Opening.{Opens}
+use Rattle.qs_model.specs.Acts.{Element, Exported}
+use Rattle.qs_model.specs.Laws.{Besides, Headline, opening}
+use Rattle.qs_model.specs.Steps.{Runs, after, happens}
+use Rattle.qs_model.specs.Worlds.{World}
+use Rattle.qs_part.specs.declared.graph.GraphOp.{GraphOp}
+use Rattle.qs_part.specs.declared.graph.GraphOp.TheVariants.{ExportAdd}
+use Rattle.qs_verdicts.specs.Judged.{Judged}
+use Rattle.qs_world.specs.Openings.{Exports, IsOpened, opening_over}
+use Rattle.qs_world.specs.Stands.{Stands}
+use Rattle.qs_world.specs.Values.{WorldValue}
+use Rattle.qs_calls.specs.Calls.{AreCalls, Call, Walks}
+
+-- what the core is opened over: these disks, and the file node `file0`
+abbrev pub opened : List Seen → Bool → World
+opened disks read_only = opening (opening_over disks (codes "file0") read_only)
+
+-- the export `disk`, which may be written where the file node may
+abbrev pub export : Bool → GraphOp
+export read_only = ExportAdd (codes "disk") (codes "disk") (codes "file0") (not read_only) true
+
+-- the state behind the making of that export, at this place
+abbrev pub exported : List Seen → Bool → ℕ → World
+exported disks read_only place = happens (align_of disks) (opened disks read_only) (Exported (export read_only) place)
+
+-- A run of the model from its opening state: the export is made, and then each step is a call's, in order, as the core
+-- went through them; before each the disks told this of being full. The headline holds of it, and so do the other laws
+-- of runs; the core stands for where it leads.
+pub record HasRun {D : Type 0} (seen : D → Seen) (disks : List Seen) (read_only : Bool) (start : WorldValue D) (calls : List Call) (w : WorldValue D) : Type 0 where
+  pub place : ℕ
+  pub elements : List Element
+  pub fulls : List (ℕ → Option Bool)
+  pub are : AreCalls (align_of disks) calls elements
+  pub walked : Walks seen start calls elements fulls w
+  pub run : Runs (align_of disks) (opened disks read_only) (Exported (export read_only) place ∷ elements)
+  pub headline : Headline (align_of disks) (opened disks read_only) (Exported (export read_only) place ∷ elements)
+  pub besides : Besides (align_of disks) (opened disks read_only) (Exported (export read_only) place ∷ elements)
+  pub judged : Judged (align_of disks) (opened disks read_only) (Exported (export read_only) place ∷ elements)
+  pub stands : Stands seen w (after (align_of disks) (opened disks read_only) (Exported (export read_only) place ∷ elements))
+
+-- A core over the disks, with the file node `file0` and the export `disk`.
+pub record Begins {D : Type 0} (seen : D → Seen) (disks : List D) (read_only : Bool) (w : WorldValue D) : Type 0 where
+  pub fresh : WorldValue D
+  pub opened : IsOpened seen disks (codes "file0") read_only fresh
+  pub exports : Exports seen fresh (codes "disk") (not read_only) w
+
+-- the status where no core could be made
+abbrev pub fault_of : Option OpenBad → Status
+fault_of (Some bad) = status.OpenBad bad
+fault_of None = status.Memory
+
+-- The disks come back: they break this rule first, or memory was refused.
+abbrev pub ComesBack : {D : Type 0} → (D → Seen) → List D → List D → Status → Type 0
+ComesBack seen disks back (status.OpenBad bad) = (back ≡ disks) × Opens (map seen disks) (Some bad)
+ComesBack seen disks back status.Memory = back ≡ disks
+ComesBack seen disks back other = ⊥
