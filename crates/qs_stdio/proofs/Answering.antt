@@ -1,115 +1,168 @@
--- A request is answered: each way to do it, as one step of the service.
-use Rattle.std.proofs.Common.{◌≡◌, ℕ, ◌<◌, true, false, List, [], length, refl, ap, ◌∙◌, subst, inl, inr, arith}
-use Rattle.std.specs.Prelude.{Ok, Err}
+-- What can be replied to a request, and the bodies that requests bring.
+use Rattle.std.proofs.Common.{◌≡◌, ℕ, ◌<◌, ◌≤◌, Bool, true, false, not, ◌&&◌, ◌||◌, cond, nat_lt, List, [], length, refl, sym, ap, ◌∙◌, subst, arith, true≢false}
+use Rattle.std.specs.Prelude.{IfSome, Option, Some, None}
 use Rattle.std.proofs.lemmas.Bool.Decides.{nat_tests}
+use Rattle.qs_bytes.specs.Payloads.{max_payload}
 use Rattle.qs_bytes.specs.declared.ask.Ask.{Ask}
-use Rattle.qs_bytes.specs.declared.ask.Errno.{Errno}
-use Rattle.qs_bytes.specs.declared.ask.Errno.TheVariants.{Io}
+use Rattle.qs_bytes.specs.declared.ask.Errno.TheVariants.{Perm, Io, NoMem, Inval, NoSpace}
 use Rattle.qs_bytes.specs.declared.ask.Kind.{Kind}
-use Rattle.qs_bytes.specs.declared.ask.Kind.TheVariants.{Read}
-use Rattle.qs_bytes.specs.declared.ask.Verdict.TheVariants.{Got, Fine, Refused}
-use Rattle.qs_bytes.specs.Pieces.{part}
-use Rattle.qs_outside.specs.Blocks.{Seen}
-use Rattle.qs_image.specs.Image.{Loads, Stores, RoseAt, content}
-use Rattle.qs_image.proofs.Striped.{same_disks_refl}
-use Rattle.qs_nbd_transmission.specs.Heads.{has_data, is_write}
-use Rattle.qs_nbd_transmission.specs.Replies.{is_read, reply_of}
+use Rattle.qs_bytes.specs.declared.ask.Kind.TheVariants.{Read, Write, Zero, Trim, Flush, Unknown}
+use Rattle.qs_bytes.specs.declared.ask.Verdict.{Verdict}
+use Rattle.qs_bytes.specs.declared.ask.Verdict.TheVariants.{Got, Fine, Refused, Dropped}
+use Rattle.qs_nbd_transmission.specs.declared.event.Room.{Room}
+use Rattle.qs_nbd_transmission.specs.declared.event.Room.TheVariants.{Keep, Drop}
+use Rattle.qs_nbd_transmission.specs.Heads.{has_data}
+use Rattle.qs_nbd_transmission.specs.Replies.{CanReply, data_of, is_read as asks_bytes}
+use Rattle.qs_model.specs.Requests.{brings_bytes, is_read}
+use Rattle.qs_part.specs.declared.graph.Route.{Route}
+use Rattle.qs_verdicts.specs.Stories.{Given}
+use Rattle.qs_verdicts.specs.Verdicts.{is_malformed, is_served, needs_leave, needs_places, needs_room, passes, reply_of, reply_on_way}
 use Rattle.qs_stream.specs.Buffers.{Buffers}
-use Rattle.qs_stream.specs.Flows.{Side, Puts}
-use Rattle.qs_stdio.specs.Service.{is_valid, MayGet, Leads}
-use Rattle.qs_stdio.specs.Calls.{Answers, is_uncalled}
+use Rattle.qs_stream.specs.Flows.{Puts, Side}
+use Rattle.qs_stream.proofs.Moves.{moved_none}
+use Rattle.qs_single.specs.Resting.{IsBody}
+use Rattle.qs_single.specs.Service.{MayGet, whole}
+use Rattle.qs_single.proofs.Lines.{got_reads}
+use Rattle.qs_stdio.specs.Turns.{IsData, body_in}
 
-module _ {E : Type 0} (align size : ℕ) (a : Ask) (old new : List Seen) (o p : Side) (s t : Buffers) where
-  -- a READ has its bytes
-  pub read_answers : (u : Unit {0}) (bytes : List ℕ) → is_valid align size a ≡ true → is_read a.kind ≡ true → is_write a.kind ≡ false →
-      length bytes ≡ a.length → Loads {E = E} old a.offset bytes (Ok u) new → Puts (reply_of false a (Got bytes)) o s p t →
-      Answers align size a [] old new o s p t
-  read_answers u bytes valid read not_write long loads puts = record {
-    verdict = Got bytes;
-    may = (valid, read, long);
-    called = record {
-      leads = λ tell. (loads.bytes_are tell ∙ ap (λ (n : ℕ). part (content old) a.offset n) long, loads.kept tell);
-      past = λ tell bare. loads.past tell;
-      same = loads.same;
-      fault = λ e. absurd (cc);
-      uncalled = λ e. absurd (cc);
-    };
-    puts = puts;
-  }
+one_verdict : (u v : Verdict) → Some u ≡ Some v → u ≡ v
+one_verdict u v e = cc
 
-  -- a READ failed
-  pub read_fails : (e : E) (bytes : List ℕ) → is_valid align size a ≡ true → length bytes ≡ a.length →
-      Loads {E = E} old a.offset bytes (Err e) new → Puts (reply_of false a (Refused Io)) o s p t →
-      Answers align size a [] old new o s p t
-  read_fails e bytes valid long loads puts = record {
-    verdict = Refused Io;
-    may = valid;
-    called = record {
-      leads = λ tell. inl (loads.kept tell);
-      past = λ tell bare. loads.past tell;
-      same = loads.same;
-      fault = λ is. subst (λ (n : ℕ). RoseAt old a.offset n new) long loads.cause;
-      uncalled = λ e. absurd (cc);
-    };
-    puts = puts;
-  }
+-- a READ that is Got is one, and well formed
+read_kind : (k : Kind) → is_read k ≡ true → k ≡ Read
+read_kind Read is = refl
+read_kind Write is = absurd (true≢false (sym is))
+read_kind Zero is = absurd (true≢false (sym is))
+read_kind Trim is = absurd (true≢false (sym is))
+read_kind Flush is = absurd (true≢false (sym is))
+read_kind (Unknown n) is = absurd (true≢false (sym is))
 
-  -- a WRITE was done
-  pub write_answers : (u : Unit {0}) (body : List ℕ) → is_valid align size a ≡ true → is_write a.kind ≡ true →
-      Stores {E = E} old a.offset body (Ok u) new → Puts (reply_of false a Fine) o s p t → Answers align size a body old new o s p t
-  write_answers u body valid write stores puts = record {
-    verdict = Fine;
-    may = (valid, write);
-    called = record {
-      leads = λ tell. stores.written tell;
-      past = λ tell bare. absurd (cc);
-      same = stores.same;
-      fault = λ e. absurd (cc);
-      uncalled = λ e. absurd (cc);
-    };
-    puts = puts;
-  }
+short_read : (a : Ask) → is_read a.kind ≡ true → is_malformed a ≡ false → a.length ≤ max_payload
+short_read a reads form = go (not (is_served a.kind)) (not a.flags_fit) (is_read a.kind) reads form
+  where
+    go : (x y r : Bool) → r ≡ true → (x || y || r && nat_lt max_payload a.length) ≡ false → a.length ≤ max_payload
+    go false false true is e = grind (arith, e)
+    go true y r is e = absurd (true≢false e)
+    go false true r is e = absurd (true≢false e)
+    go false false false is e = absurd (true≢false (sym is))
 
-  -- a WRITE failed
-  pub write_fails : (e : E) (body : List ℕ) → is_valid align size a ≡ true → is_write a.kind ≡ true → length body ≡ a.length →
-      Stores {E = E} old a.offset body (Err e) new → Puts (reply_of false a (Refused Io)) o s p t →
-      Answers align size a body old new o s p t
-  write_fails e body valid write long stores puts = record {
-    verdict = Refused Io;
-    may = valid;
-    called = record {
-      leads = λ tell. inr (write, stores.cut tell);
-      past = λ tell bare. absurd (cc);
-      same = stores.same;
-      fault = λ is. subst (λ (n : ℕ). RoseAt old a.offset n new) long stores.cause;
-      uncalled = λ e. absurd (cc);
-    };
-    puts = puts;
-  }
+got_formed : (a : Ask) (buffered : Bool) (route : Route) (fault : Bool) (got bytes : List ℕ) → reply_of a buffered (Given route) fault got ≡ Some (Got bytes) → is_malformed a ≡ false
+got_formed a buffered route fault got bytes line = go (is_malformed a) line
+  where
+    go : (b : Bool) → cond b (Some (Refused Inval)) (cond (not buffered) (Some (Refused NoMem)) (Some (reply_on_way a route fault got))) ≡ Some (Got bytes) → b ≡ false
+    go true e = absurd (never (one_verdict (Refused Inval) (Got bytes) e))
+      where
+        never : Refused Inval ≡ Got bytes → ⊥
+        never f = cc
+    go false e = refl
 
--- a request was refused and no disk was called
-pub refused : (align size : ℕ) (a : Ask) (body : List ℕ) (errno : Errno) (disks : List Seen) (o p : Side) (s t : Buffers) →
-    MayGet align size a (Refused errno) → is_uncalled (Refused errno) ≡ true → (Refused errno ≡ Refused Io → ⊥) →
-    ((content : List ℕ) → Leads content a body (Refused errno) content) → Puts (reply_of false a (Refused errno)) o s p t →
-    Answers align size a body disks disks o s p t
-refused align size a body errno disks o p s t may uncalled other leads puts = record {
-  verdict = Refused errno;
-  may = may;
-  called = record {
-    leads = λ tell. leads _;
-    past = λ tell bare b. refl;
-    same = same_disks_refl disks;
-    fault = λ e. absurd (other e);
-    uncalled = λ e. refl;
-  };
-  puts = puts;
+-- a request that is Fine is no READ
+fine_reads : (a : Ask) (buffered : Bool) (route : Route) (fault : Bool) (got : List ℕ) → reply_of a buffered (Given route) fault got ≡ Some Fine → is_read a.kind ≡ false
+fine_reads a buffered route fault got line =
+    go (is_malformed a) (not buffered) (needs_leave a.kind && not route.writable) (needs_places a.kind && passes a route) (needs_room a.kind && passes a route) fault (is_read a.kind) line
+  where
+    go : (a0 a1 b1 b2 b3 b4 b5 : Bool) → cond a0 (Some (Refused Inval)) (cond a1 (Some (Refused NoMem))
+        (Some (cond b1 (Refused Perm) (cond b2 (Refused Inval) (cond b3 (Refused NoSpace) (cond b4 (Refused Io) (cond b5 (Got got) Fine))))))) ≡ Some Fine → b5 ≡ false
+    go true a1 b1 b2 b3 b4 b5 e = cc
+    go false true b1 b2 b3 b4 b5 e = cc
+    go false false true b2 b3 b4 b5 e = cc
+    go false false false true b3 b4 b5 e = cc
+    go false false false false true b4 b5 e = cc
+    go false false false false false true b5 e = cc
+    go false false false false false false true e = cc
+    go false false false false false false false e = refl
+
+-- no request is dropped where its session is there
+never_dropped : (a : Ask) (buffered : Bool) (route : Route) (fault : Bool) (got : List ℕ) → reply_of a buffered (Given route) fault got ≡ Some Dropped → ⊥
+never_dropped a buffered route fault got line =
+    go (is_malformed a) (not buffered) (needs_leave a.kind && not route.writable) (needs_places a.kind && passes a route) (needs_room a.kind && passes a route) fault (is_read a.kind) line
+  where
+    go : (a0 a1 b1 b2 b3 b4 b5 : Bool) → cond a0 (Some (Refused Inval)) (cond a1 (Some (Refused NoMem))
+        (Some (cond b1 (Refused Perm) (cond b2 (Refused Inval) (cond b3 (Refused NoSpace) (cond b4 (Refused Io) (cond b5 (Got got) Fine))))))) ≡ Some Dropped → ⊥
+    go true a1 b1 b2 b3 b4 b5 e = cc
+    go false true b1 b2 b3 b4 b5 e = cc
+    go false false true b2 b3 b4 b5 e = cc
+    go false false false true b3 b4 b5 e = cc
+    go false false false false true b4 b5 e = cc
+    go false false false false false true b5 e = cc
+    go false false false false false false true e = cc
+    go false false false false false false false e = cc
+
+asks_kind : (k : Kind) → asks_bytes k ≡ true → is_read k ≡ true
+asks_kind Read is = refl
+asks_kind Write is = absurd (true≢false (sym is))
+asks_kind Zero is = absurd (true≢false (sym is))
+asks_kind Trim is = absurd (true≢false (sym is))
+asks_kind Flush is = absurd (true≢false (sym is))
+asks_kind (Unknown n) is = absurd (true≢false (sym is))
+
+-- what a request may get can be replied
+pub can_reply : (size : ℕ) (writable : Bool) (a : Ask) (v : Verdict) → MayGet size writable a v → CanReply a v
+can_reply size writable a (Got bytes) may =
+    let reads = got_reads a may.buffered (whole size writable) may.fault may.got bytes may.line in
+    (read_kind a.kind reads, may.long bytes refl, short_read a reads (got_formed a may.buffered (whole size writable) may.fault may.got bytes may.line))
+can_reply size writable a Fine may =
+    λ asks. absurd (true≢false (sym (asks_kind a.kind asks) ∙ fine_reads a may.buffered (whole size writable) may.fault may.got may.line))
+can_reply size writable a (Refused errno) may = tt
+can_reply size writable a Dropped may = absurd (never_dropped a may.buffered (whole size writable) may.fault may.got may.line)
+
+-- a reply without data
+pub no_data : (v : Verdict) → ((bytes : List ℕ) → v ≡ Got bytes → ⊥) → data_of v ≡ []
+no_data (Got bytes) bare = absurd (bare bytes refl)
+no_data Fine bare = refl
+no_data (Refused errno) bare = refl
+no_data Dropped bare = refl
+
+-- the data of a WRITE are its body
+pub data_body : (a : Ask) (taken : List ℕ) (room : Room) → IsData taken a.length room → IsBody a taken (body_in room)
+data_body a taken (Keep bytes) is = record { whole = λ writing. is.1; is = λ writing. is.0 }
+data_body a taken (Drop count) is = record { whole = λ writing. is.1; is = λ writing. tt }
+
+-- a request that no data follow brings none
+no_length : (k : Kind) (n : ℕ) → brings_bytes k ≡ true → (brings_bytes k && nat_lt 0 n) ≡ false → 0 ≡ n
+no_length Write n writing bare = grind (arith, bare)
+no_length Read n writing bare = absurd (true≢false (sym writing))
+no_length Zero n writing bare = absurd (true≢false (sym writing))
+no_length Trim n writing bare = absurd (true≢false (sym writing))
+no_length Flush n writing bare = absurd (true≢false (sym writing))
+no_length (Unknown m) n writing bare = absurd (true≢false (sym writing))
+
+same_test : (a : Ask) → has_data a ≡ (brings_bytes a.kind && nat_lt 0 a.length)
+same_test a = go a.kind
+  where
+    go : (k : Kind) → has_data (record a { kind = k }) ≡ (brings_bytes k && nat_lt 0 a.length)
+    go Write = refl
+    go Read = refl
+    go Zero = refl
+    go Trim = refl
+    go Flush = refl
+    go (Unknown n) = refl
+
+not_asking : (k : Kind) → brings_bytes k ≡ true → asks_bytes k ≡ false
+not_asking Write writing = refl
+not_asking Read writing = absurd (true≢false (sym writing))
+not_asking Zero writing = absurd (true≢false (sym writing))
+not_asking Trim writing = absurd (true≢false (sym writing))
+not_asking Flush writing = absurd (true≢false (sym writing))
+not_asking (Unknown n) writing = absurd (true≢false (sym writing))
+
+pub bare_body : (a : Ask) (body : Option (List ℕ)) → has_data a ≡ false → (asks_bytes a.kind ≡ false → body ≡ None) → IsBody a [] body
+bare_body a body bare none = record {
+  whole = λ writing. no_length a.kind a.length writing (sym (same_test a) ∙ bare);
+  is = λ writing. none_some body (none (not_asking a.kind writing));
 }
-
--- a READ is no WRITE
-pub read_not_write : (kind : Kind) → is_read kind ≡ true → is_write kind ≡ false
-read_not_write Read is = refl
-read_not_write other is = absurd (cc)
+  where
+    none_some : (o : Option (List ℕ)) → o ≡ None → IfSome o (λ bytes. bytes ≡ [])
+    none_some None e = tt
+    none_some (Some bytes) e = absurd (never e)
+      where
+        never : Some bytes ≡ None → ⊥
+        never f = cc
 
 -- data that follow are some
 pub some_data : (a : Ask) → has_data a ≡ true → 0 < a.length
 some_data a is = grind (arith, nat_tests)
+
+-- nothing was put
+pub puts_none : (o : Side) (a : Buffers) → Puts [] o a o a
+puts_none o a = record { waiting = refl; moved = λ input. moved_none (record { input = input; output = o; stream = a }) }

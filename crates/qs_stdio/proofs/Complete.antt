@@ -1,5 +1,5 @@
 -- A valid stream is served to its end.
-use Rattle.std.proofs.Common.{◌≡◌, ◌≢◌, ℕ, ◌≤◌, ◌^◌, ◌⊎◌, inl, inr, true, false, List, [], ◌∷◌, ◌++◌, length, refl, sym, ap, ◌∙◌, subst, arith, append-nil, append_assoc, length-append}
+use Rattle.std.proofs.Common.{◌≡◌, ◌≢◌, ℕ, ◌≤◌, ◌^◌, ◌⊎◌, inl, inr, Bool, true, false, not, List, [], ◌∷◌, ◌++◌, length, refl, sym, ap, ◌∙◌, subst, arith, append-nil, append_assoc, length-append}
 use Rattle.std.specs.Prelude.{Option, None, Some, String, map}
 use Rattle.std.specs.Global.{Global}
 use Rattle.std.specs.List.{All, AllByRecursion, flat_map}
@@ -23,14 +23,15 @@ use Rattle.qs_nbd_wire.proofs.Requests.{length-head_bytes, magic-head_bytes}
 use Rattle.qs_nbd_wire.proofs.Widths.{number32-append}
 use Rattle.qs_nbd_transmission.proofs.Streams.{same_head, message_once, first_of_all, rest_of_all, one_reading, rests_begin, tells_messages}
 use Rattle.qs_outside.specs.Blocks.{Seen}
-use Rattle.qs_image.specs.Image.{align_of, size_of}
+use Rattle.qs_image.specs.Image.{size_of}
 use Rattle.qs_image.specs.Opening.{IsImage, Opens}
 use Rattle.qs_stdio.specs.Words.{IsCommand}
 use Rattle.qs_stdio.specs.Service.{Exchange, AllFit, asked}
 use Rattle.qs_stream.specs.Bytes.{Takes}
-use Rattle.qs_stdio.specs.Scenes.{Scene, IsCut}
+use Rattle.qs_stdio.specs.Scenes.{Scene, IsCut, disks_in}
 use Rattle.qs_stdio.specs.Streams.{Leaves, IsValidStream, IsServed}
-use Rattle.qs_stdio.specs.Runs.{Sitting, Ran}
+use Rattle.qs_stream.specs.Flows.{Side}
+use Rattle.qs_stdio.specs.Runs.{Sitting, Ran, first, last_scene}
 use Rattle.qs_stdio.proofs.Sought.{nothing_front}
 
 -- no more messages are read than the stream has
@@ -49,9 +50,9 @@ few_read (x ∷ xs) (m ∷ ms) rest last p q none e =
 asked_is : (xs : List Exchange) → flat_map spelling (map (λ (x : Exchange). x.message) xs) ≡ asked xs
 asked_is xs = flat_map-map spelling (λ (x : Exchange). x.message) xs
 
-each_message : (align size : ℕ) (xs : List Exchange) → AllFit align size xs → AllByRecursion IsMessage (map (λ (x : Exchange). x.message) xs)
-each_message align size [] fit = tt
-each_message align size (x ∷ xs) fit = (fit.0.0, each_message align size xs fit.1)
+each_message : (session size : ℕ) (writable : Bool) (xs : List Exchange) → AllFit session size writable xs → AllByRecursion IsMessage (map (λ (x : Exchange). x.message) xs)
+each_message session size writable [] fit = tt
+each_message session size writable (x ∷ xs) fit = (fit.0.message, each_message session size writable xs fit.1)
 
 -- what is left of the stream behind the bytes that were taken
 record Split (stream taken : List ℕ) (left : Option (List ℕ)) (waiting : List ℕ) : Type 0 where
@@ -85,10 +86,10 @@ last_none last (inl is) = subst (λ (xs : List ℕ). BeginsNone xs) (sym is) (re
 last_none last (inr leaves) = leaves_none last leaves
 
 -- a rest that begins with no message is the stream's last part
-rest_is : (xs : List Exchange) (ms : List Message) (align size : ℕ) (stream rest last : List ℕ) → AllFit align size xs → All IsMessage ms →
+rest_is : (xs : List Exchange) (ms : List Message) (session size : ℕ) (writable : Bool) (stream rest last : List ℕ) → AllFit session size writable xs → All IsMessage ms →
     BeginsNone rest → BeginsNone last → stream ≡ asked xs ++ rest → stream ≡ flat_map spelling ms ++ last → rest ≡ last
-rest_is xs ms align size stream rest last fit each none never one other =
-    (one_reading (map (λ (x : Exchange). x.message) xs) ms rest last (All-from_recursion _ _ (each_message align size xs fit)) each none never
+rest_is xs ms session size writable stream rest last fit each none never one other =
+    (one_reading (map (λ (x : Exchange). x.message) xs) ms rest last (All-from_recursion _ _ (each_message session size writable xs fit)) each none never
     (ap (λ (bytes : List ℕ). bytes ++ rest) (asked_is xs) ∙ sym one ∙ other)).1
 
 -- a DISC is no WRITE
@@ -159,35 +160,38 @@ opens_not disks (bad.Align a) is opens = opens.1.1 is.1.0
 opens_not disks (bad.Length n) is opens = opens.1.2 is.1.1
 opens_not disks (bad.TooLarge n) is opens = absurd (omega (arith, opens.1.0, opens.1.3, is.1.2))
 
-module _ (align size : ℕ) (stream : List ℕ) (before after : Scene) (valid : IsValidStream stream) (told : before.flow.input.bytes ≡ Some stream) (nothing : before.flow.stream.waiting ≡ []) where
+module _ {D : Type 0} (seen : D → Seen) (session : ℕ) (writable : Bool) (stream : List ℕ) (before after : Scene D) (valid : IsValidStream stream) (told : before.flow.input.bytes ≡ Some stream) (nothing : before.flow.stream.waiting ≡ []) where
+  abbrev Sits : Status → Type 0
+  Sits s = Sitting seen session writable (2 ^ 32) before after s
+
   -- what was taken, and what is left
-  parts : (s : Status) (sits : Sitting align size (2 ^ 32) before after s) → Split stream (asked sits.exchanges ++ sits.rest) after.flow.input.bytes after.flow.stream.waiting
+  parts : (s : Status) (sits : Sits s) → Split stream (asked sits.exchanges ++ sits.rest) after.flow.input.bytes after.flow.stream.waiting
   parts s sits =
       split_of stream (asked sits.exchanges ++ sits.rest) after.flow.stream.waiting before.flow.input.bytes after.flow.input.bytes told
       (subst (λ (waiting : List ℕ). Takes before.flow.input.bytes waiting (asked sits.exchanges ++ sits.rest) after.flow.input.bytes after.flow.stream.waiting)
       nothing sits.moved.takes)
 
   -- the rest, with what is left behind it, ends the stream
-  ends_stream : (s : Status) (sits : Sitting align size (2 ^ 32) before after s) → BeginsNone (sits.rest ++ (parts s sits).remaining) →
+  ends_stream : (s : Status) (sits : Sits s) → BeginsNone (sits.rest ++ (parts s sits).remaining) →
       sits.rest ++ (parts s sits).remaining ≡ valid.last
   ends_stream s sits none =
-      rest_is sits.exchanges valid.messages align size stream (sits.rest ++ (parts s sits).remaining) valid.last sits.fit valid.each none
+      rest_is sits.exchanges valid.messages session (size_of (disks_in seen before)) writable stream (sits.rest ++ (parts s sits).remaining) valid.last sits.fit valid.each none
       (last_none valid.last valid.ends) ((parts s sits).whole ∙ append_assoc (asked sits.exchanges) sits.rest (parts s sits).remaining) valid.whole
 
   -- the budget isn't spent
-  not_spent : (sits : Sitting align size (2 ^ 32) before after status.Spent) → ⊥
+  pub not_spent : (sits : Sits status.Spent) → ⊥
   not_spent sits =
       let xs : List Message = map (λ (x : Exchange). x.message) sits.exchanges in
       let behind : List ℕ = sits.rest ++ (parts status.Spent sits).remaining in
       let fewer : length xs ≤ length valid.messages =
-      few_read xs valid.messages behind valid.last (All-from_recursion _ _ (each_message align size sits.exchanges sits.fit)) valid.each (last_none valid.last valid.ends)
+      few_read xs valid.messages behind valid.last (All-from_recursion _ _ (each_message session (size_of (disks_in seen before)) writable sits.exchanges sits.fit)) valid.each (last_none valid.last valid.ends)
       (ap (λ (bytes : List ℕ). bytes ++ behind) (asked_is sits.exchanges)
       ∙ sym ((parts status.Spent sits).whole ∙ append_assoc (asked sits.exchanges) sits.rest (parts status.Spent sits).remaining)
       ∙ valid.whole) in
       absurd (omega (arith, fewer, length-map sits.exchanges (λ (x : Exchange). x.message), sits.ends.1, valid.few))
 
   -- and the session doesn't end by a fault of the bytes
-  not_ended : (e : SessionEnd) → Sitting align size (2 ^ 32) before after (status.Ended e) → ⊥
+  pub not_ended : (e : SessionEnd) → Sits (status.Ended e) → ⊥
   not_ended end.Truncated sits =
       let whole : sits.rest ++ (parts _ sits).remaining ≡ sits.rest =
       ap (λ (xs : List ℕ). sits.rest ++ xs) ((parts _ sits).used_up sits.ends.1.0 sits.ends.1.1) ∙ append-nil sits.rest in
@@ -209,19 +213,19 @@ module _ (align size : ℕ) (stream : List ℕ) (before after : Scene) (valid : 
   not_ended other sits = absurd sits.ends
 
 -- a valid stream over an image, without a fault of its ends, is served
-pub complete_of : (words : List (String Global)) (before after : Scene) (result : Status) (stream : List ℕ) → Ran words before after result →
-    before.flow.input.bytes ≡ Some stream → before.flow.stream.waiting ≡ [] → IsValidStream stream → IsCommand words → IsImage before.disks →
+pub complete_of : {D : Type 0} (seen : D → Seen) (words : List (String Global)) (disks disks' : List D) (input output : Side) (result : Status) (input' output' : Side) (stream : List ℕ) →
+    Ran words seen disks input output result disks' input' output' → input.bytes ≡ Some stream → IsValidStream stream → IsCommand words → IsImage (map seen disks) →
     (result ≡ status.ReadFault → ⊥) → (result ≡ status.WriteFault → ⊥) → IsServed result
-complete_of words before after status.Done stream ran told nothing valid command image read write = inl refl
-complete_of words before after status.Memory stream ran told nothing valid command image read write = inr refl
-complete_of words before after status.Usage stream ran told nothing valid command image read write = absurd (ran.0 command)
-complete_of words before after (status.OpenBad fault) stream ran told nothing valid command image read write =
-    absurd (opens_not before.disks fault image ran.1.0)
-complete_of words before after status.ReadFault stream ran told nothing valid command image read write = absurd (read refl)
-complete_of words before after status.WriteFault stream ran told nothing valid command image read write = absurd (write refl)
-complete_of words before after (status.BadLine n) stream ran told nothing valid command image read write = absurd ran.1.1.ends
-complete_of words before after (status.NotNext n) stream ran told nothing valid command image read write = absurd ran.1.1.ends
-complete_of words before after status.Spent stream ran told nothing valid command image read write =
-    absurd (not_spent (align_of before.disks) (size_of before.disks) stream before after valid told nothing ran.1.1)
-complete_of words before after (status.Ended e) stream ran told nothing valid command image read write =
-    absurd (not_ended (align_of before.disks) (size_of before.disks) stream before after valid told nothing e ran.1.1)
+complete_of seen words disks disks' input output status.Done input' output' stream ran is valid command image read write = inl refl
+complete_of seen words disks disks' input output status.Memory input' output' stream ran is valid command image read write = inr refl
+complete_of seen words disks disks' input output status.Usage input' output' stream ran is valid command image read write = absurd (ran.0 command)
+complete_of seen words disks disks' input output (status.OpenBad fault) input' output' stream ran is valid command image read write =
+    absurd (opens_not (map seen disks) fault image ran.1.0)
+complete_of seen words disks disks' input output status.ReadFault input' output' stream ran is valid command image read write = absurd (read refl)
+complete_of seen words disks disks' input output status.WriteFault input' output' stream ran is valid command image read write = absurd (write refl)
+complete_of seen words disks disks' input output (status.BadLine n) input' output' stream ran is valid command image read write = absurd ran.1.sits.sits.ends
+complete_of seen words disks disks' input output (status.NotNext n) input' output' stream ran is valid command image read write = absurd ran.1.sits.sits.ends
+complete_of seen words disks disks' input output status.Spent input' output' stream ran is valid command image read write =
+    absurd (not_spent seen 0 true stream (first input output ran.1.sits.begun) (last_scene input' output' ran.1.sits.stream ran.1.new) valid is refl ran.1.sits.sits)
+complete_of seen words disks disks' input output (status.Ended e) input' output' stream ran is valid command image read write =
+    absurd (not_ended seen 0 true stream (first input output ran.1.sits.begun) (last_scene input' output' ran.1.sits.stream ran.1.new) valid is refl e ran.1.sits.sits)

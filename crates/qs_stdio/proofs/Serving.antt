@@ -1,5 +1,5 @@
 -- Requests served one after the other.
-use Rattle.std.proofs.Common.{◌≡◌, ◌≢◌, ℕ, ◌+◌, inl, inr, List, [], ◌∷◌, ◌++◌, length, refl, sym, ap, ◌∙◌, subst, append-nil, length-append}
+use Rattle.std.proofs.Common.{◌≡◌, ◌≢◌, ℕ, ◌+◌, inl, inr, Bool, List, [], ◌∷◌, ◌++◌, length, refl, sym, ap, ◌∙◌, subst, arith, append-nil, length-append}
 use Rattle.std.specs.Prelude.{Result, Ok, Err, OnOk, IfOk, IsErrAnd}
 use Rattle.std.specs.Io.KnownBytes.{IsAtEnd}
 use Rattle.std.proofs.lemmas.Grind.{flat_map-append}
@@ -8,7 +8,7 @@ use Rattle.qs_status.specs.declared.status.Status.{Status}
 use Rattle.qs_status.specs.declared.status.Status.TheVariants as status
 use Rattle.qs_nbd_wire.specs.Requests.{IsMessage, spelling}
 use Rattle.qs_outside.specs.Blocks.{Seen}
-use Rattle.qs_image.specs.Image.{content, AllTell, SameDisks}
+use Rattle.qs_image.specs.Image.{content, size_of, AllTell, SameDisks}
 use Rattle.qs_image.proofs.Striped.{same_disks_refl, same_disks_trans, still_tell}
 use Rattle.qs_stream.specs.declared.state.State.{State}
 use Rattle.qs_stream.specs.declared.state.State.TheVariants as state
@@ -16,10 +16,14 @@ use Rattle.qs_stream.specs.Buffers.{Buffers}
 use Rattle.qs_stream.specs.Flows.{Side, Flow, Moved, Puts, Tells}
 use Rattle.qs_stream.proofs.Moves.{moved_on, moved_none}
 use Rattle.qs_stream.proofs.Calls.{write_failed}
-use Rattle.qs_stdio.specs.Service.{Exchange, MayGet, AllFit, LeadsAll, ask, asked, answered, reply}
-use Rattle.qs_stdio.specs.Calls.{Called, CalledAll}
+use Rattle.qs_world.specs.Values.{WorldValue, disks_of}
+use Rattle.qs_calls.specs.Calls.{Call, Plays}
+use Rattle.qs_calls.proofs.Plays.{plays_more}
+use Rattle.qs_single.specs.Resting.{IsResting}
+use Rattle.qs_single.specs.Service.{Called, MayGet}
+use Rattle.qs_stdio.specs.Service.{Exchange, AllFit, CalledAll, Fits, LeadsAll, ask, asked, answered, reply, rounds}
 use Rattle.qs_stdio.specs.Events.{IsUsedUp}
-use Rattle.qs_stdio.specs.Scenes.{Scene, IsFront, Ending, Exchanges, Stops}
+use Rattle.qs_stdio.specs.Scenes.{Scene, IsFront, Ending, Exchanges, Stops, disks_in}
 use Rattle.qs_stdio.specs.Runs.{Ends, Sitting, side_of, fault_at, status_by}
 use Rattle.qs_stdio.specs.Turns.{ServesMessage, between}
 use Rattle.qs_stdio.specs.declared.serve.Progress.{Progress}
@@ -27,34 +31,41 @@ use Rattle.qs_stdio.specs.declared.serve.Progress.TheVariants as progress
 use Rattle.qs_nbd_transmission.specs.Phases.{Reader}
 use Rattle.qs_stdio.proofs.Sought.{nothing_front}
 
--- so many requests were served
-pub record Served (align size : ℕ) (before now : Scene) (count : ℕ) : Type 0 where
+-- so many requests were served, and the core rests
+pub record Served {D : Type 0} (seen : D → Seen) (session : ℕ) (writable : Bool) (before now : Scene D) (count : ℕ) : Type 0 where
   pub exchanges : List Exchange
-  pub fit : AllFit align size exchanges
+  pub fit : AllFit session (size_of (disks_in seen before)) writable exchanges
   pub moved : Moved (asked exchanges) (answered exchanges) before.flow now.flow
-  pub calls : CalledAll before.disks exchanges now.disks
-  pub same : SameDisks before.disks now.disks
+  pub called : CalledAll (disks_in seen before) exchanges (disks_in seen now)
+  pub plays : Plays seen before.world (rounds exchanges) now.world
+  pub same : SameDisks (disks_in seen before) (disks_in seen now)
   pub counted : length exchanges ≡ count
+  pub rests : IsResting seen session writable now.world
+  pub next : now.world.next ≡ before.world.next + count
 
-pub served_none : (align size : ℕ) (scene : Scene) → Served align size scene scene 0
-served_none align size scene = record {
+pub served_none : {D : Type 0} (seen : D → Seen) (session : ℕ) (writable : Bool) (scene : Scene D) → IsResting seen session writable scene.world → Served seen session writable scene scene 0
+served_none seen session writable scene rests = record {
   exchanges = [];
   fit = tt;
   moved = moved_none scene.flow;
-  calls = refl;
-  same = same_disks_refl scene.disks;
+  called = refl;
+  plays = refl;
+  same = same_disks_refl (disks_in seen scene);
   counted = refl;
+  rests = rests;
+  next = omega arith;
 }
 
-fit_more : (align size : ℕ) (xs : List Exchange) (x : Exchange) → AllFit align size xs → IsMessage x.message → MayGet align size (ask x) x.verdict →
-    AllFit align size (xs ++ x ∷ [])
-fit_more align size [] x fit message may = ((message, may), tt)
-fit_more align size (y ∷ xs) x fit message may = (fit.0, fit_more align size xs x fit.1 message may)
+fit_more : (session size : ℕ) (writable : Bool) (xs : List Exchange) (x : Exchange) → AllFit session size writable xs → Fits session size writable x →
+    AllFit session size writable (xs ++ x ∷ [])
+fit_more session size writable [] x fit one = (one, tt)
+fit_more session size writable (y ∷ xs) x fit one = (fit.0, fit_more session size writable xs x fit.1 one)
 
-called_more : (old mid new : List Seen) (xs : List Exchange) (x : Exchange) → CalledAll old xs mid → Called mid (ask x) x.message.body x.verdict new →
+called_more : (old mid new : List Seen) (xs : List Exchange) (x : Exchange) → CalledAll old xs mid → Called mid (ask x) x.message.body x.verdict new → x.left ≡ new →
     CalledAll old (xs ++ x ∷ []) new
-called_more old mid new [] x calls called = (new, (subst (λ (d : List Seen). Called d (ask x) x.message.body x.verdict new) calls called, refl))
-called_more old mid new (y ∷ xs) x calls called = (calls.0, (calls.1.0, called_more calls.0 mid new xs x calls.1.1 called))
+called_more old mid new [] x calls called left =
+    (subst (λ (d : List Seen). Called old (ask x) x.message.body x.verdict d) (sym left) (subst (λ (d : List Seen). Called d (ask x) x.message.body x.verdict new) calls called), sym left)
+called_more old mid new (y ∷ xs) x calls called left = (calls.0, called_more y.left mid new xs x calls.1 called left)
 
 asked_more : (xs : List Exchange) (x : Exchange) → asked (xs ++ x ∷ []) ≡ asked xs ++ spelling x.message
 asked_more xs x = flat_map-append (λ y. spelling y.message) xs (x ∷ []) ∙ ap (λ (bytes : List ℕ). asked xs ++ bytes) (append-nil (spelling x.message))
@@ -62,31 +73,56 @@ asked_more xs x = flat_map-append (λ y. spelling y.message) xs (x ∷ []) ∙ a
 answered_more : (xs : List Exchange) (x : Exchange) → answered (xs ++ x ∷ []) ≡ answered xs ++ reply x
 answered_more xs x = flat_map-append reply xs (x ∷ []) ∙ ap (λ (bytes : List ℕ). answered xs ++ bytes) (append-nil (reply x))
 
+rounds_more : (xs : List Exchange) (x : Exchange) → rounds (xs ++ x ∷ []) ≡ rounds xs ++ x.calls
+rounds_more xs x = flat_map-append (λ y. y.calls) xs (x ∷ []) ∙ ap (λ (cs : List Call). rounds xs ++ cs) (append-nil x.calls)
+
+-- an exchange is as it may be
+its_fit : {D : Type 0} (seen : D → Seen) (session size : ℕ) (writable : Bool) (mid now : Scene D) (x : Exchange) → size_of (disks_in seen mid) ≡ size →
+    Exchanges seen session writable mid x now → Fits session size writable x
+its_fit seen session size writable mid now x same one = record {
+  message = one.message;
+  may = subst (λ (n : ℕ). MayGet n writable (ask x) x.verdict) same one.does.exchanged.may;
+  round = record {
+    body = one.does.body;
+    is_body = one.does.is_body;
+    number = one.does.exchanged.number;
+    steps = one.does.exchanged.steps;
+    now = one.does.now;
+    note = one.does.exchanged.note;
+    calls_are = one.calls_are;
+    ran = one.does.exchanged.ran;
+  };
+}
+
 -- and one more
-pub served_more : (align size : ℕ) (before mid now : Scene) (count : ℕ) → Served align size before mid count →
-    (one : (x : Exchange) × Exchanges align size mid x now) → Served align size before now (count + 1)
-served_more align size before mid now count served one =
+pub served_more : {D : Type 0} (seen : D → Seen) (session : ℕ) (writable : Bool) (before mid now : Scene D) (count : ℕ) → Served seen session writable before mid count →
+    (one : (x : Exchange) × Exchanges seen session writable mid x now) → Served seen session writable before now (count + 1)
+served_more {D} seen session writable before mid now count served one =
     let xs : List Exchange = served.exchanges in
     let x : Exchange = one.0 in
+    let did = one.1.does.exchanged in
     record {
       exchanges = xs ++ x ∷ [];
-      fit = fit_more align size xs x served.fit one.1.message one.1.may;
+      fit = fit_more session (size_of (disks_in seen before)) writable xs x served.fit (its_fit seen session (size_of (disks_in seen before)) writable mid now x (served.same.size 0) one.1);
       moved =
           subst (λ (taken : List ℕ). Moved taken (answered (xs ++ x ∷ [])) before.flow now.flow) (sym (asked_more xs x))
           (subst (λ (given : List ℕ). Moved (asked xs ++ spelling x.message) given before.flow now.flow) (sym (answered_more xs x))
           (moved_on before.flow mid.flow now.flow (asked xs) (answered xs) (spelling x.message) (reply x) served.moved one.1.moved));
-      calls = called_more before.disks mid.disks now.disks xs x served.calls one.1.called;
-      same = same_disks_trans before.disks mid.disks now.disks served.same one.1.called.same;
+      called = called_more (disks_in seen before) (disks_in seen mid) (disks_in seen now) xs x served.called did.called one.1.left_is;
+      plays = subst (λ (cs : List Call). Plays seen before.world cs now.world) (sym (rounds_more xs x))
+          (plays_more seen before.world (rounds xs) mid.world x.calls now.world served.plays (subst (λ (cs : List Call). Plays seen mid.world cs now.world) (sym one.1.calls_are) did.plays));
+      same = same_disks_trans (disks_in seen before) (disks_in seen mid) (disks_in seen now) served.same did.called.same;
       counted = simp length-append (ap (λ (n : ℕ). n + 1) served.counted);
+      rests = one.1.does.rests;
+      next = let a : now.world.next ≡ mid.world.next + 1 = did.next in let b : mid.world.next ≡ before.world.next + count = served.next in omega (arith, a, b);
     }
 
 -- the content goes on from request to request
 pub calls_lead : (old new : List Seen) (xs : List Exchange) → CalledAll old xs new → AllTell old → LeadsAll (content old) xs (content new)
 calls_lead old new [] calls tell = ap content calls
 calls_lead old new (x ∷ xs) calls tell =
-    let mid : List Seen = calls.0 in
-    let called : Called old (ask x) x.message.body x.verdict mid = calls.1.0 in
-    (content mid, (called.leads tell, calls_lead mid new xs calls.1.1 (still_tell old mid called.same tell)))
+    let called : Called old (ask x) x.message.body x.verdict x.left = calls.0 in
+    (called.leads tell, calls_lead x.left new xs calls.1 (still_tell old x.left called.same tell))
 
 -- how the run ends where the stream failed
 fault_ends : (s : State) (budget : ℕ) (xs : List Exchange) (after : Flow) (rest : List ℕ) → s ≢ state.Open → IsFront rest →
@@ -108,7 +144,7 @@ fault_whole state.WriteFault is = absurd (cc)
 -- how it ends where the bytes say so
 ending_ends : (s : Status) (budget : ℕ) (xs : List Exchange) (after : Flow) (rest : List ℕ) → Ending s after rest → Ends s budget xs after rest
 ending_ends status.Spent budget xs after rest ending = absurd ending
-ending_ends status.Memory budget xs after rest ending = absurd ending
+ending_ends status.Memory budget xs after rest ending = inr ending
 ending_ends status.ReadFault budget xs after rest ending = absurd ending
 ending_ends status.WriteFault budget xs after rest ending = absurd ending
 ending_ends other budget xs after rest ending = ending
@@ -129,75 +165,73 @@ ending_kept (status.Ended end.Truncated) f g rest input waiting ending = (ending
 ending_kept (status.Ended (end.BadMagic n)) f g rest input waiting ending = ending
 ending_kept (status.Ended (end.TooLong n)) f g rest input waiting ending = ending
 ending_kept (status.Ended other) f g rest input waiting ending = absurd ending
+ending_kept status.Memory f g rest input waiting ending = ending
 ending_kept other f g rest input waiting ending = absurd ending
 
-module _ (align size budget : ℕ) (before mid : Scene) (count : ℕ) (served : Served align size before mid count) where
-  -- the stream failed before the next request was answered
-  pub sits_fault : (after : Scene) → after.flow.stream.state ≢ state.Open → Stops mid after IsFront →
-      Sitting align size budget before after (fault_at after.flow.stream.state)
-  sits_fault after failed stops =
-      let xs : List Exchange = served.exchanges in
-      let calls : CalledAll before.disks xs after.disks = subst (λ (d : List Seen). CalledAll before.disks xs d) (sym stops.disks) served.calls in
+module _ {D : Type 0} (seen : D → Seen) (session : ℕ) (writable : Bool) (budget : ℕ) (before mid : Scene D) (count : ℕ) (served : Served seen session writable before mid count) where
+  abbrev xs : List Exchange
+  xs = served.exchanges
+
+  abbrev Sits : Scene D → Status → Type 0
+  Sits after s = Sitting seen session writable budget before after s
+
+  -- a scene with the core of the last exchange
+  sits_with : (final : Scene D) (rest : List ℕ) (s : Status) → Moved rest [] mid.flow final.flow → final.world ≡ mid.world → final.flow.stream.state ≡ side_of s →
+      (side_of s ≡ state.Open → final.flow.stream.held ≡ []) → Ends s budget xs final.flow rest → Sits final s
+  sits_with final rest s moved world failed whole ends =
+      let called : CalledAll (disks_in seen before) xs (disks_in seen final) = subst (λ (w : WorldValue D). CalledAll (disks_in seen before) xs (disks_of seen w)) (sym world) served.called in
       record {
         exchanges = xs;
-        rest = stops.rest;
+        rest = rest;
         fit = served.fit;
         moved =
-            subst (λ (given : List ℕ). Moved (asked xs ++ stops.rest) given before.flow after.flow) (append-nil (answered xs))
-            (moved_on before.flow mid.flow after.flow (asked xs) (answered xs) stops.rest [] served.moved stops.moved);
-        failed = fault_side after.flow.stream.state failed;
-        whole = λ is. fault_whole after.flow.stream.state is;
-        service = calls_lead before.disks after.disks xs calls;
-        calls = calls;
-        same = subst (λ (d : List Seen). SameDisks before.disks d) (sym stops.disks) served.same;
-        ends = fault_ends after.flow.stream.state budget xs after.flow stops.rest failed stops.ends;
+            subst (λ (given : List ℕ). Moved (asked xs ++ rest) given before.flow final.flow) (append-nil (answered xs))
+            (moved_on before.flow mid.flow final.flow (asked xs) (answered xs) rest [] served.moved moved);
+        failed = failed;
+        whole = whole;
+        service = calls_lead (disks_in seen before) (disks_in seen final) xs called;
+        called = called;
+        plays = subst (λ (w : WorldValue D). Plays seen before.world (rounds xs) w) (sym world) served.plays;
+        same = subst (λ (w : WorldValue D). SameDisks (disks_in seen before) (disks_of seen w)) (sym world) served.same;
+        ends = ends;
       }
 
-  module _ (after : Scene) (p : Side) (t : Buffers) (rest : List ℕ) (moved : Moved rest [] mid.flow after.flow) (disks : after.disks ≡ mid.disks)
+  -- the stream failed before the next request was answered
+  pub sits_fault : (after : Scene D) → after.flow.stream.state ≢ state.Open → Stops mid after IsFront → Sits after (fault_at after.flow.stream.state)
+  sits_fault after failed stops =
+      sits_with after stops.rest (fault_at after.flow.stream.state) stops.moved stops.world (fault_side after.flow.stream.state failed)
+      (λ is. fault_whole after.flow.stream.state is) (fault_ends after.flow.stream.state budget xs after.flow stops.rest failed stops.ends)
+
+  module _ (after : Scene D) (p : Side) (t : Buffers) (rest : List ℕ) (moved : Moved rest [] mid.flow after.flow) (world : after.world ≡ mid.world)
       (puts : Puts [] after.flow.output after.flow.stream p t) where
-    abbrev pub final : Scene
-    final = record { flow = record { input = after.flow.input; output = p; stream = t }; disks = after.disks }
+    abbrev pub final : Scene D
+    final = record { flow = record { input = after.flow.input; output = p; stream = t }; world = after.world }
 
     -- with this status
-    sits : (s : Status) → t.state ≡ side_of s → (side_of s ≡ state.Open → t.held ≡ []) → Ends s budget served.exchanges final.flow rest →
-        Sitting align size budget before final s
+    sits : (s : Status) → t.state ≡ side_of s → (side_of s ≡ state.Open → t.held ≡ []) → Ends s budget xs final.flow rest → Sits final s
     sits s failed whole ends =
-        let xs : List Exchange = served.exchanges in
-        let calls : CalledAll before.disks xs after.disks = subst (λ (d : List Seen). CalledAll before.disks xs d) (sym disks) served.calls in
-        record {
-          exchanges = xs;
-          rest = rest;
-          fit = served.fit;
-          moved =
-              subst (λ (given : List ℕ). Moved (asked xs ++ rest) given before.flow final.flow) (append-nil (answered xs))
-              (moved_on before.flow mid.flow final.flow (asked xs) (answered xs) rest [] served.moved
-              (subst (λ (taken : List ℕ). Moved taken [] mid.flow final.flow) (append-nil rest)
-              (moved_on mid.flow after.flow final.flow rest [] [] [] moved (puts.moved after.flow.input))));
-          failed = failed;
-          whole = whole;
-          service = calls_lead before.disks after.disks xs calls;
-          calls = calls;
-          same = subst (λ (d : List Seen). SameDisks before.disks d) (sym disks) served.same;
-          ends = ends;
-        }
+        sits_with final rest s
+        (subst (λ (taken : List ℕ). Moved taken [] mid.flow final.flow) (append-nil rest)
+        (moved_on mid.flow after.flow final.flow rest [] [] [] moved (puts.moved after.flow.input)))
+        world failed whole ends
 
     -- the replies that waited were written, or the output failed
     pub sits_told : {E : Type 0} (result : Result Status E) (s : Status) → Tells result t.state → OnOk result (t.held ≡ []) →
         IfOk result (λ told. told ≡ s) → side_of s ≡ state.Open → Ends s budget served.exchanges final.flow rest →
-        (t.state ≢ state.Open → Ends (fault_at t.state) budget served.exchanges final.flow rest) → Sitting align size budget before final (status_by result t.state)
+        (t.state ≢ state.Open → Ends (fault_at t.state) budget served.exchanges final.flow rest) → Sits final (status_by result t.state)
     sits_told (Ok told) s tells written same side ends fault =
-        subst (λ (result : Status). Sitting align size budget before final result) (sym same) (sits s (tells ∙ sym side) (λ is. written) ends)
+        subst (λ (result : Status). Sits final result) (sym same) (sits s (tells ∙ sym side) (λ is. written) ends)
     sits_told (Err e) s tells written same side ends fault =
         sits (fault_at t.state) (fault_side t.state tells) (λ whole. fault_whole t.state whole) (fault tells)
 
   -- the bytes ended the session
-  pub sits_end : {E : Type 0} (after : Scene) (p : Side) (t : Buffers) (s : Status) (result : Result Status E) → after.flow.stream.state ≡ state.Open →
+  pub sits_end : {E : Type 0} (after : Scene D) (p : Side) (t : Buffers) (s : Status) (result : Result Status E) → after.flow.stream.state ≡ state.Open →
       (stops : Stops mid after (Ending s after.flow)) → Puts [] after.flow.output after.flow.stream p t → Tells result t.state → OnOk result (t.held ≡ []) →
-      IfOk result (λ told. told ≡ s) → Sitting align size budget before (record { flow = record { input = after.flow.input; output = p; stream = t }; disks = after.disks }) (status_by result t.state)
+      IfOk result (λ told. told ≡ s) → Sits (record { flow = record { input = after.flow.input; output = p; stream = t }; world = after.world }) (status_by result t.state)
   sits_end after p t s result going stops puts tells written same =
       let kept : Ending s (record { input = after.flow.input; output = p; stream = t }) stops.rest =
       ending_kept s after.flow (record { input = after.flow.input; output = p; stream = t }) stops.rest refl puts.waiting stops.ends in
-      sits_told after p t stops.rest stops.moved stops.disks puts result s tells written same (ending_side s after.flow stops.rest stops.ends)
+      sits_told after p t stops.rest stops.moved stops.world puts result s tells written same (ending_side s after.flow stops.rest stops.ends)
       (ending_ends s budget served.exchanges (record { input = after.flow.input; output = p; stream = t }) stops.rest kept)
       (λ failed. subst (λ (now : State). Ends (fault_at now) budget served.exchanges (record { input = after.flow.input; output = p; stream = t }) stops.rest)
       (sym (write_failed after.flow.output p after.flow.stream t [] puts going failed)) (inr (s, kept)))
@@ -205,23 +239,23 @@ module _ (align size budget : ℕ) (before mid : Scene) (count : ℕ) (served : 
   -- the whole budget of messages was read
   pub sits_spent : {E : Type 0} (p : Side) (t : Buffers) (result : Result Status E) → count ≡ budget → Puts [] mid.flow.output mid.flow.stream p t →
       Tells result t.state → OnOk result (t.held ≡ []) → IfOk result (λ told. told ≡ status.Spent) →
-      Sitting align size budget before (record { flow = record { input = mid.flow.input; output = p; stream = t }; disks = mid.disks }) (status_by result t.state)
+      Sits (record { flow = record { input = mid.flow.input; output = p; stream = t }; world = mid.world }) (status_by result t.state)
   sits_spent p t result all puts tells written same =
       sits_told mid p t [] (moved_none mid.flow) refl puts result status.Spent tells written same refl (refl, served.counted ∙ all)
       (λ failed. fault_ends t.state budget served.exchanges (record { input = mid.flow.input; output = p; stream = t }) [] failed (inl nothing_front))
 
 -- a turn that goes on
-pub turned : (E : Type 0) (align size : ℕ) (before after : Scene) (reader : Reader) (t : Progress) → t ≡ progress.Goes →
-    ServesMessage {E = E} align size before (Ok t) reader after → (x : Exchange) × (Exchanges align size before x after × (reader ≡ between))
-turned E align size before after reader t is turns = subst (λ (t : Progress). ServesMessage {E = E} align size before (Ok t) reader after) is turns
+pub turned : {D : Type 0} (E : Type 0) (seen : D → Seen) (session : ℕ) (writable : Bool) (before after : Scene D) (reader : Reader) (t : Progress) → t ≡ progress.Goes →
+    ServesMessage {E = E} seen session writable before (Ok t) reader after → (x : Exchange) × (Exchanges seen session writable before x after × (reader ≡ between))
+turned E seen session writable before after reader t is turns = subst (λ (t : Progress). ServesMessage {E = E} seen session writable before (Ok t) reader after) is turns
 
 -- and one that ends the session
-pub turned_end : (E : Type 0) (align size : ℕ) (before after : Scene) (reader : Reader) (t : Progress) (s : Status) → t ≡ progress.Ends s →
-    ServesMessage {E = E} align size before (Ok t) reader after → (after.flow.stream.state ≡ state.Open) × Stops before after (Ending s after.flow)
-turned_end E align size before after reader t s is turns = subst (λ (t : Progress). ServesMessage {E = E} align size before (Ok t) reader after) is turns
+pub turned_end : {D : Type 0} (E : Type 0) (seen : D → Seen) (session : ℕ) (writable : Bool) (before after : Scene D) (reader : Reader) (t : Progress) (s : Status) → t ≡ progress.Ends s →
+    ServesMessage {E = E} seen session writable before (Ok t) reader after → (after.flow.stream.state ≡ state.Open) × Stops before after (Ending s after.flow)
+turned_end E seen session writable before after reader t s is turns = subst (λ (t : Progress). ServesMessage {E = E} seen session writable before (Ok t) reader after) is turns
 
 -- a stream that failed gives the run's status
-pub fault_told : {F : Type 0} (align size budget : ℕ) (before after : Scene) (result : Result Status F) (P : F → Type 0) → IsErrAnd result P →
-    Sitting align size budget before after (fault_at after.flow.stream.state) → Sitting align size budget before after (status_by result after.flow.stream.state)
-fault_told align size budget before after (Ok told) P is sits = absurd is
-fault_told align size budget before after (Err e) P is sits = sits
+pub fault_told : {F D : Type 0} (seen : D → Seen) (session : ℕ) (writable : Bool) (budget : ℕ) (before after : Scene D) (result : Result Status F) (P : F → Type 0) → IsErrAnd result P →
+    Sitting seen session writable budget before after (fault_at after.flow.stream.state) → Sitting seen session writable budget before after (status_by result after.flow.stream.state)
+fault_told seen session writable budget before after (Ok told) P is sits = absurd is
+fault_told seen session writable budget before after (Err e) P is sits = sits

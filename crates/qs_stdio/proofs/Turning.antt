@@ -1,5 +1,5 @@
 -- A request and its data make one exchange.
-use Rattle.std.proofs.Common.{◌≡◌, ℕ, ◌<◌, inr, Bool, true, false, List, [], ◌++◌, length, refl, sym, ap, ◌∙◌, subst, append-nil}
+use Rattle.std.proofs.Common.{◌≡◌, ℕ, ◌<◌, inr, Bool, true, false, List, [], ◌∷◌, ◌++◌, length, refl, sym, ap, ◌∙◌, subst, append-nil}
 use Rattle.std.specs.Prelude.{Option, Some, Result, Ok, Err, if◌then◌else◌}
 use Rattle.qs_bytes.specs.declared.ask.Ask.{Ask}
 use Rattle.qs_status.specs.declared.status.Status.{Status}
@@ -16,15 +16,22 @@ use Rattle.qs_nbd_transmission.proofs.Reading.{has_data-ask_of}
 use Rattle.qs_outside.specs.Blocks.{Seen}
 use Rattle.qs_stream.specs.Buffers.{Buffers}
 use Rattle.qs_stream.specs.Flows.{Side, Flow, Moved}
-use Rattle.qs_stream.proofs.Moves.{moved_on}
+use Rattle.qs_stream.proofs.Moves.{moved_none, moved_on}
 use Rattle.qs_stdio.specs.declared.session.Came.{Came}
 use Rattle.qs_stdio.specs.declared.session.Came.TheVariants as came
 use Rattle.qs_stdio.specs.declared.serve.Progress.{Progress}
 use Rattle.qs_stdio.specs.declared.serve.Progress.TheVariants as progress
 use Rattle.qs_stdio.specs.Service.{Exchange}
 use Rattle.qs_stdio.specs.Calls.{Answers}
-use Rattle.qs_stdio.specs.Scenes.{Scene, IsCutWrite, Ending, Exchanges, Stops}
-use Rattle.qs_stdio.specs.Turns.{Answered, AwaitsRoom, Brings, Comes, Finishes, HasRoom, IsData, ServesMessage, awaited, between}
+use Rattle.qs_stdio.specs.Scenes.{Scene, IsCutWrite, IsWhole, Ending, Exchanges, Stops, disks_in}
+use Rattle.qs_stdio.specs.Turns.{Answered, AnswersBare, AwaitsRoom, Brings, Comes, Finishes, HasRoom, IsData, ServesMessage, awaited, between}
+use Rattle.qs_stdio.specs.Events.{IsUsedUp}
+use Rattle.qs_stream.specs.declared.state.State.TheVariants.{Open}
+use Rattle.qs_world.specs.Values.{WorldValue}
+use Rattle.qs_calls.specs.Calls.{Happened}
+use Rattle.qs_part.specs.declared.event.Event.TheVariants.{Ask as AskEvent}
+use Rattle.qs_part.specs.declared.event.Outcome.TheVariants.{Made}
+use Rattle.qs_status.specs.declared.status.Status.TheVariants.{Ended}
 
 -- how many bytes are awaited where room was given
 by_room : (h : RequestHead) (room : Room) → awaited (phase_with_room (Wants h) room) ≡ h.size
@@ -53,15 +60,14 @@ data_length taken size (Keep whole) is = is.1
 data_length taken size (Drop count) is = is.1
 
 -- a request was answered behind its data
-pub answered_in : (align size : ℕ) (a : Ask) (body : List ℕ) (before : Scene) (mid : Flow) (new : List Seen) (p : Side) (t : Buffers) →
-    Moved body [] before.flow mid → Answers align size a body before.disks new mid.output mid.stream p t →
-    Answered align size a body before (record { flow = record { input = mid.input; output = p; stream = t }; disks = new })
-answered_in align size a body before mid new p t moved answers =
+pub answered_in : {D : Type 0} (seen : D → Seen) (session : ℕ) (writable : Bool) (a : Ask) (body : List ℕ) (before : Scene D) (mid : Flow) (new : WorldValue D) (p : Side) (t : Buffers) →
+    Moved body [] before.flow mid → Answers seen session writable a body before.world new mid.output mid.stream p t →
+    Answered seen session writable a body before (record { flow = record { input = mid.input; output = p; stream = t }; world = new })
+answered_in seen session writable a body before mid new p t moved answers =
     let after : Flow = record { input = mid.input; output = p; stream = t } in
     record {
       verdict = answers.verdict;
-      may = answers.may;
-      called = answers.called;
+      does = answers.does;
       moved = subst (λ (taken : List ℕ). Moved taken (reply_of false a answers.verdict) before.flow after) (append-nil body)
           (moved_on before.flow mid after body [] [] (reply_of false a answers.verdict) moved (answers.puts.moved mid.input));
     }
@@ -72,19 +78,24 @@ body_length : (head : RequestHead) (body : List ℕ) (b : Bool) → has_body hea
 body_length head body b is long = long ∙ ap (λ (c : Bool). if c then head.size else 0) (sym is)
 
 -- a request came, and its data, and it was answered
-pub exchanged : (align size : ℕ) (before : Scene) (mid : Flow) (after : Scene) (taken body : List ℕ) (a : Ask) (phase : Phase) (b : Bool) →
+pub exchanged : {D : Type 0} (seen : D → Seen) (session : ℕ) (writable : Bool) (before : Scene D) (mid : Flow) (after : Scene D) (taken body : List ℕ) (a : Ask) (phase : Phase) (b : Bool) →
     IsServed false taken a phase → has_data a ≡ b → length body ≡ (if b then a.length else 0) → Moved taken [] before.flow mid →
-    Answered align size a body (record { flow = mid; disks = before.disks }) after → (x : Exchange) × Exchanges align size before x after
-exchanged align size before mid after taken body a phase b is has long moved answered =
+    Answered seen session writable a body (record { flow = mid; world = before.world }) after → (x : Exchange) × Exchanges seen session writable before x after
+exchanged {D} seen session writable before mid after taken body a phase b is has long moved answered =
     let head : RequestHead = head_of taken in
-    let here : Scene = record { flow = mid; disks = before.disks } in
-    let answered' : Answered align size (ask_of false head) body here after =
-    subst (λ (q : Ask). Answered align size q body here after) is.asks answered in
+    let here : Scene D = record { flow = mid; world = before.world } in
+    let answered' : Answered seen session writable (ask_of false head) body here after =
+    subst (λ (q : Ask). Answered seen session writable q body here after) is.asks answered in
     let has' : has_body head ≡ b = sym (has_data-ask_of false head) ∙ ap (λ (q : Ask). has_data q) (sym is.asks) ∙ has in
     let long' : length body ≡ (if b then head.size else 0) =
     long ∙ ap (λ (q : Ask). if b then q.length else 0) is.asks in
     let reply : List ℕ = reply_of false (ask_of false head) answered'.verdict in (
-      record { message = record { head = head; body = body }; verdict = answered'.verdict },
+      record {
+        message = record { head = head; body = body };
+        verdict = answered'.verdict;
+        calls = Happened (AskEvent session (ask_of false head) answered'.does.body) (Made answered'.does.exchanged.number) ∷ answered'.does.exchanged.steps;
+        left = disks_in seen after;
+      },
       record {
         message = record {
           fits = is.head.fits;
@@ -92,11 +103,36 @@ exchanged align size before mid after taken body a phase b is has long moved ans
           not_long = is.not_long;
           body = body_length head body b has' long';
         };
-        may = answered'.may;
         moved = subst (λ (bytes : List ℕ). Moved (bytes ++ body) reply before.flow after.flow) is.head.spelled
             (moved_on before.flow mid after.flow taken [] body reply moved answered'.moved);
-        called = answered'.called;
+        does = answered'.does;
+        calls_are = refl;
+        left_is = refl;
       },
+    )
+
+-- a whole request was taken
+pub whole_request : (taken body : List ℕ) (a : Ask) (phase : Phase) (b : Bool) → IsServed false taken a phase → has_data a ≡ b → length body ≡ (if b then a.length else 0) → IsWhole (taken ++ body)
+whole_request taken body a phase b is has long =
+    let head : RequestHead = head_of taken in
+    let has' : has_body head ≡ b = sym (has_data-ask_of false head) ∙ ap (λ (q : Ask). has_data q) (sym is.asks) ∙ has in
+    let long' : length body ≡ (if b then head.size else 0) = long ∙ ap (λ (q : Ask). if b then q.length else 0) is.asks in (
+      record { head = head; body = body },
+      (
+        record { fits = is.head.fits; not_disc = is.not_disc; not_long = is.not_long; body = body_length head body b has' long' },
+        ap (λ (bytes : List ℕ). bytes ++ body) is.head.spelled,
+      ),
+    )
+
+-- all data came, and memory was refused for the request
+pub memory_stops : {D : Type 0} (before : Scene D) (mid : Flow) (new : WorldValue D) (p : Side) (t : Buffers) (taken : List ℕ) (size : ℕ) → Moved taken [] before.flow mid → mid.stream.state ≡ Open →
+    length taken ≡ size → new ≡ before.world → t ≡ mid.stream → p ≡ mid.output →
+    (t.state ≡ Open) × Stops before (record { flow = record { input = mid.input; output = p; stream = t }; world = new }) (λ (bytes : List ℕ). length bytes ≡ size)
+memory_stops before mid new p t taken size moved going long world stream output =
+    let same : record { input = mid.input; output = p; stream = t } ≡ mid =
+    ap (λ (b : Buffers). record { input = mid.input; output = p; stream = b }) stream ∙ ap (λ (o : Side). record { input = mid.input; output = o; stream = mid.stream }) output in (
+      ap (λ (b : Buffers). b.state) stream ∙ going,
+      record { rest = taken; moved = subst (λ (f : Flow). Moved taken [] before.flow f) (sym same) moved; world = world; ends = long },
     )
 
 -- a request came, and less than its data
@@ -113,28 +149,59 @@ cut_write taken more a phase is has short = record {
 }
 
 -- the session stopped within the data
-stopped : (before : Scene) (mid : Flow) (after : Scene) (taken : List ℕ) {P Q : List ℕ → Type 0} → Moved taken [] before.flow mid →
-    (stops : Stops (record { flow = mid; disks = before.disks }) after P) → Q (taken ++ stops.rest) → Stops before after Q
+pub stopped : {D : Type 0} (before : Scene D) (mid : Flow) (after : Scene D) (taken : List ℕ) {P Q : List ℕ → Type 0} → Moved taken [] before.flow mid →
+    (stops : Stops (record { flow = mid; world = before.world }) after P) → Q (taken ++ stops.rest) → Stops before after Q
 stopped before mid after taken moved stops ends = record {
   rest = taken ++ stops.rest;
   moved = moved_on before.flow mid after.flow taken [] stops.rest [] moved stops.moved;
-  disks = stops.disks;
+  world = stops.world;
   ends = ends;
 }
 
-module _ {E : Type 0} (align size : ℕ) (before : Scene) (mid : Flow) (after : Scene) (taken : List ℕ) (a : Ask) (phase : Phase) (new : Reader)
+module _ {D : Type 0} (seen : D → Seen) (session : ℕ) (writable : Bool) (before : Scene D) (mid : Flow) (after : Scene D) (taken : List ℕ) (a : Ask) (phase : Phase) (new : Reader)
     (is : IsServed false taken a phase) (has : has_data a ≡ true) (moved : Moved taken [] before.flow mid) where
-  -- a request with data came, and what became of it
-  pub finished : (result : Result Progress E) → Finishes align size a (record { flow = mid; disks = before.disks }) result new after → ServesMessage align size before result new after
-  finished (Ok progress.Goes) finishes =
-      let one : (x : Exchange) × Exchanges align size before x after =
-      exchanged align size before mid after taken finishes.0 a phase true is has finishes.1.0 moved finishes.1.1 in
-      (one.0, (one.1, finishes.1.2))
-  finished (Ok (progress.Ends told)) finishes =
+  -- the session ended within the data
+  cut_off : (told : Status) → (told ≡ Ended end.Truncated) × IsUsedUp after.flow × (after.flow.stream.state ≡ Open)
+      × Stops (record { flow = mid; world = before.world }) after (λ (bytes : List ℕ). length bytes < a.length) → (after.flow.stream.state ≡ Open) × Stops before after (Ending told after.flow)
+  cut_off told finishes =
       let cut : Ending (status.Ended end.Truncated) after.flow (taken ++ finishes.3.rest) =
       (inr (cut_write taken finishes.3.rest a phase is has finishes.3.ends), finishes.1) in
       (finishes.2, stopped before mid after taken moved finishes.3 (subst (λ (s : Status). Ending s after.flow (taken ++ finishes.3.rest)) (sym finishes.0) cut))
+
+  -- a request with data came, and what became of it
+  pub finished : {E : Type 0} (result : Result Progress E) → Finishes seen session writable a (record { flow = mid; world = before.world }) result new after → ServesMessage seen session writable before result new after
+  finished (Ok progress.Goes) finishes =
+      let one : (x : Exchange) × Exchanges seen session writable before x after =
+      exchanged seen session writable before mid after taken finishes.0 a phase true is has finishes.1.0 moved finishes.1.1 in
+      (one.0, (one.1, finishes.1.2))
+  finished (Ok (progress.Ends status.Memory)) finishes =
+      (finishes.0, stopped before mid after taken moved finishes.1 (whole_request taken finishes.1.rest a phase true is has finishes.1.ends))
+  finished (Ok (progress.Ends told)) finishes = cut_off told finishes
   finished (Err e) finishes = (finishes.0, stopped before mid after taken moved finishes.1 (inr (cut_write taken finishes.1.rest a phase is has finishes.1.ends)))
+
+-- a request without data
+module _ {D : Type 0} (seen : D → Seen) (session : ℕ) (writable : Bool) (before : Scene D) (mid : Flow) (taken : List ℕ) (a : Ask) (phase : Phase) (reader : Reader)
+    (is : IsServed false taken a phase) (bare : has_data a ≡ false) (moved : Moved taken [] before.flow mid) (going : mid.stream.state ≡ Open) (ready_is : reader ≡ between) where
+  -- came, and what became of it
+  pub finished_bare : (E : Type 0) (result : Progress) (new : WorldValue D) (p : Side) (t : Buffers) → AnswersBare seen session writable a before.world result new mid.output mid.stream p t →
+      ServesMessage {E = E} seen session writable before (Ok result) reader (record { flow = record { input = mid.input; output = p; stream = t }; world = new })
+  finished_bare E progress.Goes new p t answers =
+      let after : Scene D = record { flow = record { input = mid.input; output = p; stream = t }; world = new } in
+      let one : (x : Exchange) × Exchanges seen session writable before x after =
+      exchanged seen session writable before mid after taken [] a phase false is bare refl moved
+      (answered_in seen session writable a [] (record { flow = mid; world = before.world }) mid new p t (moved_none mid) answers) in
+      (one.0, (one.1, ready_is))
+  finished_bare E (progress.Ends told) new p t ends =
+      let after : Scene D = record { flow = record { input = mid.input; output = p; stream = t }; world = new } in
+      let same : after.flow ≡ mid = ap (λ (b : Buffers). record { input = mid.input; output = p; stream = b }) ends.2 ∙ ap (λ (o : Side). record { input = mid.input; output = o; stream = mid.stream }) ends.3 in (
+        ap (λ (b : Buffers). b.state) ends.2 ∙ going,
+        record {
+          rest = taken;
+          moved = subst (λ (f : Flow). Moved taken [] before.flow f) (sym same) moved;
+          world = ends.1;
+          ends = subst (λ (s : Status). Ending s after.flow taken) (sym ends.0) (subst IsWhole (append-nil taken) (whole_request taken [] a phase false is bare refl));
+        },
+      )
 
 -- the next request is awaited behind one that no data follow
 pub ready : (reader : Reader) → reader.structured ≡ false → reader.phase ≡ InHead [] → reader ≡ between

@@ -1,17 +1,26 @@
 -- What `run_stdio` does, from its words to its status.
-use Rattle.std.specs.Prelude.{◌≡◌, ◌^◌, ℕ, ◌⊎◌, List, [], ◌++◌, length, Some, String, Result, Ok, Err}
+use Rattle.std.specs.Prelude.{◌≡◌, ◌^◌, ℕ, ◌⊎◌, Bool, false, not, List, [], ◌∷◌, ◌++◌, length, map, codes, Some, String, Result, Ok, Err}
 use Rattle.std.specs.Global.{Global}
 use Rattle.qs_status.specs.declared.status.Status.{Status}
 use Rattle.qs_status.specs.declared.status.Status.TheVariants as status
-use Rattle.qs_image.specs.Image.{content, align_of, size_of, AllTell, SameDisks}
+use Rattle.qs_outside.specs.Blocks.{Seen}
+use Rattle.qs_image.specs.Image.{content, size_of, AllTell, SameDisks}
 use Rattle.qs_image.specs.Opening.{IsImage, Opens}
+use Rattle.qs_part.specs.declared.event.Event.TheVariants.{Attach}
+use Rattle.qs_part.specs.declared.event.Outcome.TheVariants.{Attached}
+use Rattle.qs_part.specs.declared.graph.ExportInfo.{ExportInfo}
+use Rattle.qs_stripe.specs.Table.{StripeState}
+use Rattle.qs_world.specs.Values.{WorldValue, disks_of}
+use Rattle.qs_calls.specs.Calls.{Happened, Plays}
+use Rattle.qs_calls.specs.Runs.{Begins, HasRun}
+use Rattle.qs_single.specs.Resting.{Attaches}
 use Rattle.qs_stream.specs.declared.state.State.{State}
 use Rattle.qs_stream.specs.declared.state.State.TheVariants as state
-use Rattle.qs_stream.specs.Flows.{Flow, Moved}
+use Rattle.qs_stream.specs.Buffers.{Buffers, new_buffers}
+use Rattle.qs_stream.specs.Flows.{Flow, Moved, Side}
 use Rattle.qs_stdio.specs.Words.{IsCommand}
-use Rattle.qs_stdio.specs.Service.{Exchange, AllFit, LeadsAll, asked, answered}
-use Rattle.qs_stdio.specs.Calls.{CalledAll}
-use Rattle.qs_stdio.specs.Scenes.{Scene, IsFront, Ending}
+use Rattle.qs_stdio.specs.Service.{Exchange, AllFit, CalledAll, LeadsAll, asked, answered, rounds}
+use Rattle.qs_stdio.specs.Scenes.{Scene, IsFront, IsWhole, Ending, disks_in}
 
 -- the side that failed, by the status of the run
 abbrev pub side_of : Status → State
@@ -29,41 +38,86 @@ abbrev pub status_by : {E : Type 0} → Result Status E → State → Status
 status_by (Ok told) now = told
 status_by (Err e) now = fault_at now
 
--- How a session ended: Spent where its whole budget of messages was read, Memory before the first, and else as the
--- bytes behind the last answered request say. Where a side failed, they are less than a message, or, at the last
+-- How a session ended: Spent where its whole budget of messages was read, Memory before the first or behind a whole request, and else
+-- as the bytes behind the last answered request say. Where a side failed, they are less than a message, or, at the last
 -- write, what ended the session.
 abbrev pub Ends : Status → ℕ → List Exchange → Flow → List ℕ → Type 0
 Ends status.Spent budget exchanges after rest = (rest ≡ []) × (length exchanges ≡ budget)
-Ends status.Memory budget exchanges after rest = (rest ≡ []) × (exchanges ≡ [])
+Ends status.Memory budget exchanges after rest = ((rest ≡ []) × (exchanges ≡ [])) ⊎ IsWhole rest
 Ends status.ReadFault budget exchanges after rest = IsFront rest
 Ends status.WriteFault budget exchanges after rest = IsFront rest ⊎ ((told : Status) × Ending told after rest)
 Ends other budget exchanges after rest = Ending other after rest
 
 -- A session: requests were read one after the other, answered by the plain service, and their replies
 -- written in order, a front of them where a side failed.
-pub record Sitting (align size budget : ℕ) (before after : Scene) (result : Status) : Type 0 where
+pub record Sitting {D : Type 0} (seen : D → Seen) (session : ℕ) (writable : Bool) (budget : ℕ) (before after : Scene D) (result : Status) : Type 0 where
   -- the requests that were answered, and the bytes that were taken behind them
   pub exchanges : List Exchange
   pub rest : List ℕ
-  pub fit : AllFit align size exchanges
+  pub fit : AllFit session (size_of (disks_in seen before)) writable exchanges
   -- what was read is the requests and the rest; what was given to the output is their replies
   pub moved : Moved (asked exchanges ++ rest) (answered exchanges) before.flow after.flow
   pub failed : after.flow.stream.state ≡ side_of result
   pub whole : side_of result ≡ state.Open → after.flow.stream.held ≡ []
-  -- the content goes on from request to request; the disks were called for these alone
-  pub service : AllTell before.disks → LeadsAll (content before.disks) exchanges (content after.disks)
-  pub calls : CalledAll before.disks exchanges after.disks
-  pub same : SameDisks before.disks after.disks
+  -- the content goes on from request to request; the core was called for these alone
+  pub service : AllTell (disks_in seen before) → LeadsAll (content (disks_in seen before)) exchanges (content (disks_in seen after))
+  pub called : CalledAll (disks_in seen before) exchanges (disks_in seen after)
+  pub plays : Plays seen before.world (rounds exchanges) after.world
+  pub same : SameDisks (disks_in seen before) (disks_in seen after)
   pub ends : Ends result budget exchanges after.flow rest
 
--- the disks are tested, and requests are served over them, at most 2^32
-abbrev pub Serves : Scene → Scene → Status → Type 0
-Serves before after status.Usage = ⊥
-Serves before after (status.OpenBad bad) = Opens before.disks (Some bad) × (after ≡ before)
-Serves before after other =
-    IsImage before.disks × Sitting (align_of before.disks) (size_of before.disks) (2 ^ 32) before after other
+-- the first scene of a session
+abbrev pub first : {D : Type 0} → Side → Side → WorldValue D → Scene D
+first input output world = record { flow = record { input = input; output = output; stream = new_buffers }; world = world }
 
--- One call of `run_stdio`: the words are tested first, then the disks; then requests are served, at most 2^32.
-abbrev pub Ran : List (String Global) → Scene → Scene → Status → Type 0
-Ran words before after status.Usage = ¬ IsCommand words × (after ≡ before)
-Ran words before after other = IsCommand words × Serves before after other
+-- and the last one
+abbrev pub last_scene : {D : Type 0} → Side → Side → Buffers → WorldValue D → Scene D
+last_scene input output stream world = record { flow = record { input = input; output = output; stream = stream }; world = world }
+
+-- nothing was read or written
+pub record Idles (input output input' output' : Side) : Type 0 where
+  pub input_same : input' ≡ input
+  pub output_same : output' ≡ output
+
+-- A session was attached to a core that was just opened, and sat to its end. Its calls are a run from the opening, with all laws.
+pub record Sits {D : Type 0} (seen : D → Seen) (disks : List D) (read_only : Bool) (budget : ℕ) (input output : Side) (start : WorldValue D) (result : Status)
+    (input' output' : Side) (new : WorldValue D) : Type 0 where
+  pub begun : WorldValue D
+  pub info : ExportInfo
+  pub attaches : Attaches seen 0 (not read_only) start (codes "disk") info begun
+  pub stream : Buffers
+  pub sits : Sitting seen 0 (not read_only) budget (first input output begun) (last_scene input' output' stream new) result
+  pub run : HasRun seen (map seen disks) read_only start (Happened (Attach 0 (codes "disk")) (Attached info) ∷ rounds sits.exchanges) new
+
+-- One client was served over a core that was just opened; or memory was refused before, and nothing was read or written.
+abbrev pub ServesStream : {D : Type 0} → (D → Seen) → List D → Bool → ℕ → Side → Side → WorldValue D → Status → Side → Side → WorldValue D → Type 0
+ServesStream seen disks read_only budget input output start status.Memory input' output' new =
+    (Idles input output input' output' × (disks_of seen new ≡ disks_of seen start)) ⊎ Sits seen disks read_only budget input output start status.Memory input' output' new
+ServesStream seen disks read_only budget input output start result input' output' new = Sits seen disks read_only budget input output start result input' output' new
+
+-- A session over the disks: they are an image, and hold then what it left.
+pub record Holds {D : Type 0} (seen : D → Seen) (disks : List D) (read_only : Bool) (input output : Side) (result : Status) (disks' : List D) (input' output' : Side) : Type 0 where
+  pub image : IsImage (map seen disks)
+  pub start : WorldValue D
+  pub begins : Begins seen disks read_only start
+  pub new : WorldValue D
+  pub sits : Sits seen disks read_only (2 ^ 32) input output start result input' output' new
+  pub disks_are : disks' ≡ map (λ (s : StripeState D). s.disk) new.stripes
+  -- of the disks as they came and as they come back: the content goes on from request to request, and nothing else was made of them
+  pub service : AllTell (map seen disks) → LeadsAll (content (map seen disks)) sits.sits.exchanges (content (map seen disks'))
+  pub called : CalledAll (map seen disks) sits.sits.exchanges (map seen disks')
+  pub same : SameDisks (map seen disks) (map seen disks')
+
+-- the disks are tested, and requests are served over them, at most 2^32; memory may be refused before
+abbrev pub Serves : {D : Type 0} → (D → Seen) → Bool → List D → Side → Side → Status → List D → Side → Side → Type 0
+Serves seen read_only disks input output status.Usage disks' input' output' = ⊥
+Serves seen read_only disks input output (status.OpenBad bad) disks' input' output' = Opens (map seen disks) (Some bad) × (disks' ≡ disks) × Idles input output input' output'
+Serves seen read_only disks input output status.Memory disks' input' output' =
+    ((map seen disks' ≡ map seen disks) × Idles input output input' output') ⊎ Holds seen disks read_only input output status.Memory disks' input' output'
+Serves seen read_only disks input output other disks' input' output' = Holds seen disks read_only input output other disks' input' output'
+
+-- One call of `run_stdio`: the words are tested first, then the disks; then requests are served, at most 2^32, over an export that
+-- may be written.
+abbrev pub Ran : {D : Type 0} → List (String Global) → (D → Seen) → List D → Side → Side → Status → List D → Side → Side → Type 0
+Ran words seen disks input output status.Usage disks' input' output' = ¬ IsCommand words × (disks' ≡ disks) × Idles input output input' output'
+Ran words seen disks input output other disks' input' output' = IsCommand words × Serves seen false disks input output other disks' input' output'

@@ -1,29 +1,37 @@
 -- What is seen of a session from outside, and how it ends.
-use Rattle.std.specs.Prelude.{◌≡◌, ◌≢◌, ℕ, ◌<◌, ◌⊎◌, true, false, List, [], ◌++◌, length, map, Option}
+use Rattle.std.specs.Prelude.{◌≡◌, ◌≢◌, ℕ, ◌<◌, ◌⊎◌, Bool, true, false, List, [], ◌∷◌, ◌++◌, length, Option}
 use Rattle.qs_bytes.specs.Numbers.{number32}
 use Rattle.qs_status.specs.declared.status.SessionEnd.TheVariants as end
 use Rattle.qs_status.specs.declared.status.Status.{Status}
-use Rattle.qs_status.specs.declared.status.Status.TheVariants.{Done, Ended}
-use Rattle.qs_nbd_wire.specs.Requests.{request_magic, head_of, IsHead, disc, is_too_long, has_body, IsMessage, spelling}
+use Rattle.qs_status.specs.declared.status.Status.TheVariants.{Done, Ended, Memory}
+use Rattle.qs_nbd_wire.specs.Requests.{request_magic, head_of, IsHead, disc, is_too_long, has_body, Message, IsMessage, spelling}
 use Rattle.qs_nbd_transmission.specs.Heads.{IsHeadFront}
 use Rattle.qs_outside.specs.Blocks.{Seen}
 use Rattle.qs_stream.specs.Buffers.{Buffers}
 use Rattle.qs_stream.specs.Flows.{Flow, Moved, flow as stream_flow}
 use Rattle.qs_stdio.specs.Events.{IsUsedUp}
-use Rattle.qs_stdio.specs.Service.{Exchange, ask, MayGet, reply}
-use Rattle.qs_stdio.specs.Calls.{Called}
+use Rattle.qs_part.specs.declared.event.Event.TheVariants.{Ask as AskEvent}
+use Rattle.qs_part.specs.declared.event.Outcome.TheVariants.{Made}
+use Rattle.qs_calls.specs.Calls.{Happened}
+use Rattle.qs_world.specs.Values.{WorldValue, disks_of}
+use Rattle.qs_stdio.specs.Service.{Exchange, ask, reply}
+use Rattle.qs_stdio.specs.Calls.{Does}
 
--- a stream with its two sides, and the disks
-pub record Scene : Type 0 where
+-- a stream with its two sides, and the core
+pub record Scene (D : Type 0) : Type 0 where
   pub flow : Flow
-  pub disks : List Seen
+  pub world : WorldValue D
 
--- by the meanings of the source, of the sink and of a disk
-abbrev pub scene : {I O D : Type 0} → (I → Option (List ℕ)) → (I → ℕ) → (O → Option (List ℕ)) → (O → ℕ) → (D → Seen) → I → O → Buffers → List D → Scene
-scene left read_faults sent write_faults seen input output stream disks = record {
+-- by the meanings of the source and of the sink
+abbrev pub scene : {I O D : Type 0} → (I → Option (List ℕ)) → (I → ℕ) → (O → Option (List ℕ)) → (O → ℕ) → I → O → Buffers → WorldValue D → Scene D
+scene left read_faults sent write_faults input output stream world = record {
   flow = stream_flow left read_faults sent write_faults input output stream;
-  disks = map seen disks;
+  world = world;
 }
+
+-- what its disks mean
+abbrev pub disks_in : {D : Type 0} → (D → Seen) → Scene D → List Seen
+disks_in seen s = disks_of seen s.world
 
 -- these bytes are the head of a DISC
 abbrev pub IsLeave : List ℕ → Type 0
@@ -47,8 +55,13 @@ IsFront bytes = IsHeadFront bytes ⊎ IsCutWrite bytes
 abbrev pub IsCut : List ℕ → Type 0
 IsCut bytes = (IsHeadFront bytes × (0 < length bytes)) ⊎ IsCutWrite bytes
 
--- How a session may end before a request was answered, where these bytes of it were taken.
+-- a whole request
+abbrev pub IsWhole : List ℕ → Type 0
+IsWhole bytes = (m : Message) × (IsMessage m × (bytes ≡ spelling m))
+
+-- How a session may end before a request was answered, where these bytes of it were taken. For want of memory it may end behind a request.
 abbrev pub Ending : Status → Flow → List ℕ → Type 0
+Ending Memory after rest = IsWhole rest
 Ending Done after rest = IsLeave rest ⊎ ((rest ≡ []) × IsUsedUp after)
 Ending (Ended end.Truncated) after rest = IsCut rest × IsUsedUp after
 Ending (Ended (end.BadMagic found)) after rest = (length rest ≡ 4) × (found ≡ number32 rest 0) × (found ≢ request_magic)
@@ -57,15 +70,16 @@ Ending (Ended (end.TooLong size)) after rest =
 Ending other after rest = ⊥
 
 -- one request was read and answered
-pub record Exchanges (align size : ℕ) (before : Scene) (x : Exchange) (after : Scene) : Type 0 where
+pub record Exchanges {D : Type 0} (seen : D → Seen) (session : ℕ) (writable : Bool) (before : Scene D) (x : Exchange) (after : Scene D) : Type 0 where
   pub message : IsMessage x.message
-  pub may : MayGet align size (ask x) x.verdict
   pub moved : Moved (spelling x.message) (reply x) before.flow after.flow
-  pub called : Called before.disks (ask x) x.message.body x.verdict after.disks
+  pub does : Does seen session writable (ask x) x.message.body before.world x.verdict after.world
+  pub calls_are : x.calls ≡ Happened (AskEvent session (ask x) does.body) (Made does.exchanged.number) ∷ does.exchanged.steps
+  pub left_is : x.left ≡ disks_in seen after
 
 -- No request was answered; of the bytes that were taken this is so.
-pub record Stops (before after : Scene) (P : List ℕ → Type 0) : Type 0 where
+pub record Stops {D : Type 0} (before after : Scene D) (P : List ℕ → Type 0) : Type 0 where
   pub rest : List ℕ
   pub moved : Moved rest [] before.flow after.flow
-  pub disks : after.disks ≡ before.disks
+  pub world : after.world ≡ before.world
   pub ends : P rest

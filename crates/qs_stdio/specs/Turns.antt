@@ -1,11 +1,11 @@
 -- One turn of a session: a request, and a WRITE's data.
-use Rattle.std.specs.Prelude.{◌≡◌, ◌≢◌, ℕ, ◌<◌, false, List, [], length, Option, None, Some, Result, Ok, Err}
+use Rattle.std.specs.Prelude.{◌≡◌, ◌≢◌, ℕ, ◌<◌, Bool, false, List, [], length, Option, None, Some, Result, Ok, Err}
 use Rattle.qs_bytes.specs.declared.ask.Ask.{Ask}
 use Rattle.qs_bytes.specs.declared.ask.Verdict.{Verdict}
 use Rattle.qs_status.specs.declared.status.SessionEnd.{SessionEnd}
 use Rattle.qs_status.specs.declared.status.SessionEnd.TheVariants as end
 use Rattle.qs_status.specs.declared.status.Status.{Status}
-use Rattle.qs_status.specs.declared.status.Status.TheVariants.{Done, Ended}
+use Rattle.qs_status.specs.declared.status.Status.TheVariants.{Done, Ended, Memory}
 use Rattle.qs_nbd_wire.specs.declared.request.RequestHead.{RequestHead}
 use Rattle.qs_nbd_transmission.specs.declared.event.Room.{Room}
 use Rattle.qs_nbd_transmission.specs.declared.event.Room.TheVariants.{Keep, Drop}
@@ -17,8 +17,12 @@ use Rattle.qs_stdio.specs.declared.session.Came.{Came}
 use Rattle.qs_stdio.specs.declared.session.Came.TheVariants as came
 use Rattle.qs_stdio.specs.declared.serve.Progress.{Progress}
 use Rattle.qs_stdio.specs.declared.serve.Progress.TheVariants as progress
-use Rattle.qs_stdio.specs.Service.{Exchange, MayGet}
-use Rattle.qs_stdio.specs.Calls.{Called}
+use Rattle.qs_outside.specs.Blocks.{Seen}
+use Rattle.qs_stdio.specs.Service.{Exchange}
+use Rattle.qs_stream.specs.Buffers.{Buffers}
+use Rattle.qs_stream.specs.Flows.{Side}
+use Rattle.qs_world.specs.Values.{WorldValue}
+use Rattle.qs_stdio.specs.Calls.{Answers, Does}
 use Rattle.qs_stdio.specs.Events.{IsUsedUp}
 use Rattle.qs_stdio.specs.Scenes.{Scene, IsFront, Ending, Exchanges, Stops}
 
@@ -68,6 +72,11 @@ Brings old taken (Ok (Some room)) new after = IsData taken (awaited old.phase) r
 Brings old taken (Ok None) new after = (length taken < awaited old.phase) × IsUsedUp after
 Brings old taken (Err e) new after = length taken < awaited old.phase
 
+-- the data, where memory was given for them
+abbrev pub body_in : Room → Option (List ℕ)
+body_in (Keep whole) = Some whole
+body_in (Drop count) = None
+
 -- the data of a WRITE were sought
 pub record Bringing {E : Type 0} (old : Reader) (before : Flow) (result : Result (Option Room) E) (new : Reader) (after : Flow) : Type 0 where
   pub taken : List ℕ
@@ -84,22 +93,27 @@ abbrev pub between : Reader
 between = record { structured = false; phase = InHead [] }
 
 -- data were taken, and a request was answered
-pub record Answered (align size : ℕ) (a : Ask) (body : List ℕ) (before after : Scene) : Type 0 where
+pub record Answered {D : Type 0} (seen : D → Seen) (session : ℕ) (writable : Bool) (a : Ask) (body : List ℕ) (before after : Scene D) : Type 0 where
   pub verdict : Verdict
-  pub may : MayGet align size a verdict
-  pub called : Called before.disks a body verdict after.disks
+  pub does : Does seen session writable a body before.world verdict after.world
   pub moved : Moved body (reply_of false a verdict) before.flow after.flow
 
--- the data of a WRITE came and it was answered, or the session ended within them
-abbrev pub Finishes : {E : Type 0} → ℕ → ℕ → Ask → Scene → Result Progress E → Reader → Scene → Type 0
-Finishes align size a before (Ok progress.Goes) new after =
-    (body : List ℕ) × ((length body ≡ a.length) × Answered align size a body before after × (new ≡ between))
-Finishes align size a before (Ok (progress.Ends status)) new after =
+-- a request that no data follow was answered, or there was no memory for it, and nothing changed
+abbrev pub AnswersBare : {D : Type 0} → (D → Seen) → ℕ → Bool → Ask → WorldValue D → Progress → WorldValue D → Side → Buffers → Side → Buffers → Type 0
+AnswersBare seen session writable a old progress.Goes new o s p t = Answers seen session writable a [] old new o s p t
+AnswersBare seen session writable a old (progress.Ends status) new o s p t = (status ≡ Memory) × (new ≡ old) × (t ≡ s) × (p ≡ o)
+
+-- The data of a WRITE came and it was answered; or the session ended within them, or behind them for want of memory.
+abbrev pub Finishes : {E D : Type 0} → (D → Seen) → ℕ → Bool → Ask → Scene D → Result Progress E → Reader → Scene D → Type 0
+Finishes seen session writable a before (Ok progress.Goes) new after =
+    (body : List ℕ) × ((length body ≡ a.length) × Answered seen session writable a body before after × (new ≡ between))
+Finishes seen session writable a before (Ok (progress.Ends Memory)) new after = (after.flow.stream.state ≡ Open) × Stops before after (λ taken. length taken ≡ a.length)
+Finishes seen session writable a before (Ok (progress.Ends status)) new after =
     (status ≡ Ended end.Truncated) × IsUsedUp after.flow × (after.flow.stream.state ≡ Open) × Stops before after (λ taken. length taken < a.length)
-Finishes align size a before (Err e) new after = (after.flow.stream.state ≢ Open) × Stops before after (λ taken. length taken < a.length)
+Finishes seen session writable a before (Err e) new after = (after.flow.stream.state ≢ Open) × Stops before after (λ taken. length taken < a.length)
 
 -- A request came and was answered, or the session ended before, or the stream failed within it.
-abbrev pub ServesMessage : {E : Type 0} → ℕ → ℕ → Scene → Result Progress E → Reader → Scene → Type 0
-ServesMessage align size before (Ok progress.Goes) new after = (x : Exchange) × (Exchanges align size before x after × (new ≡ between))
-ServesMessage align size before (Ok (progress.Ends status)) new after = (after.flow.stream.state ≡ Open) × Stops before after (Ending status after.flow)
-ServesMessage align size before (Err e) new after = (after.flow.stream.state ≢ Open) × Stops before after IsFront
+abbrev pub ServesMessage : {E D : Type 0} → (D → Seen) → ℕ → Bool → Scene D → Result Progress E → Reader → Scene D → Type 0
+ServesMessage seen session writable before (Ok progress.Goes) new after = (x : Exchange) × (Exchanges seen session writable before x after × (new ≡ between))
+ServesMessage seen session writable before (Ok (progress.Ends status)) new after = (after.flow.stream.state ≡ Open) × Stops before after (Ending status after.flow)
+ServesMessage seen session writable before (Err e) new after = (after.flow.stream.state ≢ Open) × Stops before after IsFront

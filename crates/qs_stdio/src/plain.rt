@@ -1,13 +1,5 @@
 //! The plain service as a slow function: requests, one after the other, over the whole content.
-ghost use Rattle.std.specs.Prelude.{◌≡◌, ◌≢◌, ◌+◌, ◌≤◌, true, length, vec_len, IfOk};
-ghost use Rattle.qs_bytes.specs.Pieces.{overlay};
-ghost use Rattle.qs_nbd_transmission.specs.Heads.{is_write};
-ghost use Rattle.qs_stdio.specs.Service.{Leads, MayGet, is_valid};
-
-use crate::answer::asks_bytes;
-use qs_bytes::{
-    Ask, Bytes, Errno, Kind, MAX_PAYLOAD, Memory, Verdict, put16, put32, put64, write_into,
-};
+use qs_bytes::{Bytes, Memory, put16, put32, put64};
 use std::alloc::Global;
 
 /// A request as a client sends it, and the byte that a WRITE's data repeat.
@@ -22,32 +14,8 @@ pub struct Request {
 }
 
 impl Request {
-    /// What the request asks for.
-    fn ask(&self) -> Ask
-        ensures length { result.length ≡ self.now.length }
-        ensures write { is_write result.kind ≡ true → self.now.kind ≡ 1 }
-    {
-        Ask {
-            kind: match self.kind {
-                0 => Kind::Read,
-                1 => Kind::Write,
-                3 => Kind::Flush,
-                4 => Kind::Trim,
-                6 => Kind::Zero,
-                other => Kind::Unknown(other),
-            },
-            fua: self.flags & 1 == 1,
-            flags_fit: self.flags < 2,
-            cookie: self.cookie,
-            offset: self.offset,
-            length: u64::from(self.length),
-        }
-    }
-
     /// The data of a WRITE; nothing else has any.
-    fn body(&self, alloc: Global) -> Result<Vec<u8>, Memory>
-        ensures { IfOk result (λ body. self.now.kind ≡ 1 → vec_len body ≡ self.now.length) }
-    {
+    fn body(&self, alloc: Global) -> Result<Vec<u8>, Memory> {
         let count = if self.kind == 1 { self.length } else { 0 };
         Ok(vec![in alloc; self.byte; count as usize]?)
     }
@@ -62,76 +30,72 @@ impl Request {
         put32(stream, self.length)?;
         stream.append(self.body(alloc)?.as_slice())
     }
-}
 
-/// The bytes of a block.
-const BLOCK: u64 = 512;
-
-/// Whether a request of an image of `size` bytes is served, and not refused with EINVAL.
-fn is_good(size: usize, ask: &Ask) -> bool
-    ensures { result ≡ is_valid 512 size ask.now }
-{
-    let kind_fits = match ask.kind {
-        Kind::Read => ask.length <= MAX_PAYLOAD,
-        Kind::Write => true,
-        _ => false,
-    };
-    let end = u128::from(ask.offset) + u128::from(ask.length);
-    let whole = ask.offset % BLOCK == 0 && ask.length % BLOCK == 0;
-    kind_fits && !ask.fua && ask.flags_fit && whole && end <= size as u128
-}
-
-/// Answers one request from the whole content, over which a WRITE's data are written.
-pub fn plain_answer(
-    alloc: Global,
-    content: &mut Vec<u8>,
-    ask: &Ask,
-    body: &[u8],
-) -> Result<Verdict, Memory>
-    requires { is_write ask.now.kind ≡ true → length body.now ≡ ask.now.length }
-    ensures may { IfOk result (MayGet 512 (vec_len content.old) ask.now) }
-    ensures leads { IfOk result (λ verdict. Leads content.old.items ask.now body.now verdict content.new.items) }
-    ensures no_fault { result ≢ Ok (Verdict.Refused Errno.Io) }
-    ensures memory { result ≢ Ok (Verdict.Refused Errno.NoMem) }
-{
-    if !is_good(content.len(), ask) {
-        return Ok(Verdict::Refused(Errno::Inval));
+    /// Whether the type and its flags are known: FUA fits all, NO_HOLE a WRITE_ZEROES alone (NBD proto.md,
+    /// "Command flags"), and a READ is at most 32 MiB.
+    fn is_formed(&self) -> bool {
+        let known = matches!(self.kind, 0 | 1 | 3 | 4 | 6);
+        let fits = self.flags < 2 || (self.flags < 4 && self.kind == 6);
+        known && fits && (self.kind != 0 || self.length <= 33_554_432)
     }
-    let from = ask.offset as usize;
-    if asks_bytes(ask.kind) {
-        let to = from + ask.length as usize;
-        let bytes = Vec::from_slice(alloc, &content.as_slice()[from..to])?;
-        return Ok(Verdict::Got(Bytes::of(bytes)));
+
+    /// The error in the reply over an image of so many bytes; 0 where it is done.
+    fn error(&self, size: usize, writable: bool) -> u32 {
+        let stores = matches!(self.kind, 1 | 6);
+        let end = u128::from(self.offset) + u128::from(self.length);
+        let passes = self.kind != 3 && end > size as u128;
+        match (self.is_formed(), stores || self.kind == 4, passes) {
+            (false, _, _) => 22,
+            (true, true, _) if !writable => 1,
+            (true, _, true) if stores => 28,
+            (true, _, true) => 22,
+            _ => 0,
+        }
     }
-    write_into(content, from, body);
-    Ok(Verdict::Fine)
 }
 
-/// Puts a simple reply behind the others (NBD proto.md, "Simple reply message").
-fn put_reply(replies: &mut Bytes, ask: &Ask, verdict: &Verdict) -> Result<(), Memory> {
-    let (error, data): (u32, &[u8]) = match verdict {
-        Verdict::Got(bytes) => (0, bytes.as_slice()),
-        Verdict::Refused(errno) => (errno.number(), &[]),
-        _ => (0, &[]),
-    };
-    put32(replies, 0x67446698)?;
-    put32(replies, error)?;
-    put64(replies, ask.cookie)?;
-    replies.append(data)
+/// The first bytes of a list, as many as it has.
+pub fn front(bytes: &[u8], count: usize) -> &[u8] {
+    &bytes[..count.min(bytes.len())]
 }
 
-/// The replies to requests, one after the other; `content` is that of the image before and after.
+/// Puts the bytes of a READ behind the replies.
+fn put_bytes(replies: &mut Bytes, content: &[u8], request: &Request) -> Result<(), Memory> {
+    let from = content.len().min(request.offset as usize);
+    replies.append(front(&content[from..], request.length as usize))
+}
+
+/// Sets the bytes of a WRITE, and those of a WRITE_ZEROES to zero.
+fn set_bytes(content: &mut [u8], request: &Request) {
+    let byte = if request.kind == 1 { request.byte } else { 0 };
+    let begin = u128::from(request.offset);
+    let end = begin + u128::from(request.length);
+    for at in 0..content.len() {
+        if begin <= at as u128 && (at as u128) < end {
+            content[at] = byte;
+        }
+    }
+}
+
+/// The replies to requests, one after the other, each a simple one (NBD proto.md, "Simple reply
+/// message"); `content` is that of the image before and after.
 pub fn plain_service(
     alloc: Global,
     requests: &[Request],
+    writable: bool,
     content: &mut Vec<u8>,
 ) -> Result<Bytes, Memory> {
     let mut replies = Bytes::of(Vec::new(alloc));
     for request in requests {
-        let ask = request.ask();
-        let body = request.body(alloc)?;
-        let verdict = plain_answer(alloc, content, &ask, body.as_slice())?;
-        put_reply(&mut replies, &ask, &verdict)?;
+        let error = request.error(content.len(), writable);
+        put32(&mut replies, 0x67446698)?;
+        put32(&mut replies, error)?;
+        put64(&mut replies, request.cookie)?;
+        match (error, request.kind) {
+            (0, 0) => put_bytes(&mut replies, content.as_slice(), request)?,
+            (0, 1 | 6) => set_bytes(content.as_mut_slice(), request),
+            _ => {}
+        }
     }
     Ok(replies)
 }

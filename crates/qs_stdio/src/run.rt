@@ -1,24 +1,27 @@
-ghost use Rattle.std.specs.Prelude.{◌≡◌, List, ℕ, [], map, IfOk, OnOk, Some};
+ghost use Rattle.std.specs.Prelude.{◌≡◌, ◌+◌, ◌-◌, ◌^◌, ◌≤◌, Bool, List, ℕ, [], map, IfOk, OnOk, Some};
+ghost use Rattle.qs_calls.specs.Runs.{Begins};
 ghost use Rattle.qs_outside.specs.Faults.{Rose};
 ghost use Rattle.qs_image.specs.Opening.{IsImage};
-ghost use Rattle.qs_stream.specs.Buffers.{Buffers, new_buffers};
+ghost use Rattle.qs_single.specs.Resting.{IsResting};
 ghost use Rattle.qs_stream.specs.Flows.{Puts, Rises, Tells, side};
-ghost use Rattle.qs_stdio.specs.Runs.{Ran, Serves, Sitting, fault_at, side_of, status_by};
+ghost use Rattle.qs_stdio.specs.Runs.{Ran, Serves, ServesStream, Sitting, fault_at, side_of, status_by};
 ghost use Rattle.qs_stdio.specs.Scenes.{scene};
-ghost use Rattle.qs_stdio.specs.Service.{IsShape};
 ghost use Rattle.qs_stdio.specs.Streams.{IsServed, IsValidStream};
 ghost use Rattle.qs_stdio.specs.Turns.{between};
 ghost use Rattle.qs_stdio.specs.Words.{IsCommand};
 
-use crate::answer::Shape;
+use crate::answer::SESSION;
 use crate::serve::Progress;
 use crate::session::Session;
 use crate::words::stdio_words;
-use qs_image::open_fault;
+use qs_calls::open_core;
 use qs_outside::{Clock, Disk, Failed, Sink, Source};
+use qs_single::attach;
 use qs_status::Status;
 use qs_stream::{State, Stream};
+use qs_world::world::World;
 use std::alloc::Global;
+use std::mem;
 
 /// Writes the replies that wait, at the end of a session.
 fn finish<O: Sink>(stream: &mut Stream, output: &mut O, status: Status) -> Result<Status, Failed>
@@ -43,25 +46,25 @@ fn fault(stream: &Stream) -> Status
 
 impl Session {
     /// Serves requests, at most so many, to the end of the session.
-    fn serve_all<I: Source, O: Sink, D: Disk>(
+    fn serve_all<I: Source, O: Sink, D: Disk + Drop, C: Clock>(
         &mut self,
         alloc: Global,
         budget: u64,
         input: &mut I,
         output: &mut O,
-        disks: &mut [D],
-        shape: Shape,
+        world: &mut World<D>,
+        clock: &C,
     ) -> Result<Status, Failed>
-        requires image { IsImage (map D.seen disks.old) }
-        requires shape { IsShape shape (map D.seen disks.old) }
+        requires resting { (writable : Bool) × IsResting D.seen 0 writable world.old }
+        requires room { world.old.next + budget ≤ 2 ^ 64 - 1 }
         requires between { self.old.reader ≡ between }
-        ensures { Sitting shape.align shape.size budget
-            (scene I.left I.read_faults O.sent O.write_faults D.seen input.old output.old self.old.stream disks.old)
-            (scene I.left I.read_faults O.sent O.write_faults D.seen input.new output.new self.new.stream disks.new)
+        ensures { (writable : Bool) → IsResting D.seen 0 writable world.old → Sitting D.seen 0 writable budget
+            (scene I.left I.read_faults O.sent O.write_faults input.old output.old self.old.stream world.old)
+            (scene I.left I.read_faults O.sent O.write_faults input.new output.new self.new.stream world.new)
             (status_by result self.new.stream.state) }
     {
         for _ in 0..budget {
-            match self.serve_one(alloc, input, output, disks, shape)? {
+            match self.serve_one(alloc, input, output, world, clock.now())? {
                 Progress::Goes => {}
                 Progress::Ends(status) => return finish(&mut self.stream, output, status),
             }
@@ -70,81 +73,103 @@ impl Session {
     }
 
     /// Serves requests, at most so many, and answers how the session ended.
-    pub fn serve<I: Source, O: Sink, D: Disk>(
+    pub fn serve<I: Source, O: Sink, D: Disk + Drop, C: Clock>(
         &mut self,
         alloc: Global,
         budget: u64,
         input: &mut I,
         output: &mut O,
-        disks: &mut [D],
-        shape: Shape,
+        world: &mut World<D>,
+        clock: &C,
     ) -> Status
-        requires image { IsImage (map D.seen disks.old) }
-        requires shape { IsShape shape (map D.seen disks.old) }
+        requires resting { (writable : Bool) × IsResting D.seen 0 writable world.old }
+        requires room { world.old.next + budget ≤ 2 ^ 64 - 1 }
         requires between { self.old.reader ≡ between }
-        ensures { Sitting shape.align shape.size budget
-            (scene I.left I.read_faults O.sent O.write_faults D.seen input.old output.old self.old.stream disks.old)
-            (scene I.left I.read_faults O.sent O.write_faults D.seen input.new output.new self.new.stream disks.new)
+        ensures { (writable : Bool) → IsResting D.seen 0 writable world.old → Sitting D.seen 0 writable budget
+            (scene I.left I.read_faults O.sent O.write_faults input.old output.old self.old.stream world.old)
+            (scene I.left I.read_faults O.sent O.write_faults input.new output.new self.new.stream world.new)
             result }
     {
-        match self.serve_all(alloc, budget, input, output, disks, shape) {
+        match self.serve_all(alloc, budget, input, output, world, clock) {
             Ok(status) => status,
             Err(_) => fault(&self.stream),
         }
     }
 }
 
+/// Serves one client over a core that was just opened: its session begins at the export `disk`, and at most
+/// `budget` requests are read from the input, answered in order and replied to on the output, by the
+/// readings of the clock. Answers how the session ended.
+pub fn serve_stream<I: Source, O: Sink, D: Disk + Drop, C: Clock>(
+    alloc: Global,
+    world: &mut World<D>,
+    budget: u64,
+    input: &mut I,
+    output: &mut O,
+    clock: &C,
+) -> Status
+    requires { (disks : List D) × (read_only : Bool) × Begins D.seen disks read_only world.old }
+    ensures { (disks : List D) (read_only : Bool) → Begins D.seen disks read_only world.old → ServesStream D.seen disks read_only budget
+        (side I.left I.read_faults input.old) (side O.sent O.write_faults output.old) world.old result
+        (side I.left I.read_faults input.new) (side O.sent O.write_faults output.new) world.new }
+{
+    let Ok(mut session) = Session::new(alloc) else {
+        return Status::Memory;
+    };
+    let Some(_) = attach(world, SESSION) else {
+        return Status::Memory;
+    };
+    session.serve(alloc, budget, input, output, world, clock)
+}
+
 /// How many messages one call reads at most.
 const BUDGET: u64 = 1 << 32;
 
 /// Serves the image that the disks hold, if they hold one.
-fn serve_disks<I: Source, O: Sink, D: Disk>(
+fn serve_disks<I: Source, O: Sink, D: Disk + Drop, C: Clock>(
     alloc: Global,
+    read_only: bool,
     input: &mut I,
     output: &mut O,
-    disks: &mut [D],
+    disks: &mut Vec<D>,
+    clock: &C,
 ) -> Status
-    ensures { (after : Buffers) × Serves
-        (scene I.left I.read_faults O.sent O.write_faults D.seen input.old output.old new_buffers disks.old)
-        (scene I.left I.read_faults O.sent O.write_faults D.seen input.new output.new after disks.new)
-        result }
+    ensures { Serves D.seen read_only disks.old.items
+        (side I.left I.read_faults input.old) (side O.sent O.write_faults output.old) result
+        disks.new.items (side I.left I.read_faults input.new) (side O.sent O.write_faults output.new) }
 {
-    match open_fault(disks) {
-        Some(bad) => return Status::OpenBad(bad),
-        None => {}
-    }
-    let mut session = match Session::new(alloc) {
-        Ok(session) => session,
-        Err(_) => return Status::Memory,
+    let taken = mem::replace(disks, Vec::new(alloc));
+    let mut world = match open_core(alloc, taken, read_only) {
+        Ok(world) => world,
+        Err((back, status)) => {
+            *disks = back;
+            return status;
+        }
     };
-    let shape = Shape {
-        align: disks[0].align() as usize,
-        size: disks[0].length(),
-    };
-    session.serve(alloc, BUDGET, input, output, disks, shape)
+    let status = serve_stream(alloc, &mut world, BUDGET, input, output, clock);
+    *disks = world.into_disks();
+    status
 }
 
 /// Serves one client over the image that the disks hold, from its input to its output, and answers how
-/// the run ended.
+/// the run ended. It takes no handle, and returns.
 ///
-/// The words are those behind the program's name: `--transmission IMAGE`. The input is a stream of NBD
-/// requests alone; READ, WRITE and DISC of whole blocks are served, and everything else is refused with
-/// EINVAL. Requests are answered in order, each by a simple reply. At most 2^32 messages are read.
+/// The words are those behind the program's name: `--transmission IMAGE`. The
+/// input is a stream of NBD requests alone, answered in order, each by a simple reply, by the core over the
+/// file node `file0` and its export `disk`. At most 2^32 messages are read.
 ///
 /// A fault of the input or the output ends the run at that call. What was answered before stays on the
-/// image.
-pub fn run_stdio<I: Source, O: Sink, D: Disk, C: Clock>(
+/// image. The disks come back in their order, as the run left them.
+pub fn run_stdio<I: Source, O: Sink, D: Disk + Drop, C: Clock>(
     alloc: Global,
     words: &[String],
     input: &mut I,
     output: &mut O,
     disks: &mut Vec<D>,
-    _clock: &C,
+    clock: &C,
 ) -> Status
-    ensures ran { (after : Buffers) × Ran words.now
-        (scene I.left I.read_faults O.sent O.write_faults D.seen input.old output.old new_buffers disks.old.items)
-        (scene I.left I.read_faults O.sent O.write_faults D.seen input.new output.new after disks.new.items)
-        result }
+    ensures ran { Ran words.now D.seen disks.old.items (side I.left I.read_faults input.old) (side O.sent O.write_faults output.old) result
+        disks.new.items (side I.left I.read_faults input.new) (side O.sent O.write_faults output.new) }
     // A valid stream is served to its end, unless memory is refused or a side fails.
     ensures complete { (stream : List ℕ) → I.left input.old ≡ Some stream → IsValidStream stream → IsCommand words.now →
         IsImage (map D.seen disks.old.items) → ¬ Rose (I.read_faults input.old) (I.read_faults input.new) →
@@ -154,8 +179,7 @@ pub fn run_stdio<I: Source, O: Sink, D: Disk, C: Clock>(
         (O.write_faults output.old) (O.write_faults output.new) }
 {
     match stdio_words(words) {
-        Some(_) => {}
-        None => return Status::Usage,
+        Some(_) => serve_disks(alloc, false, input, output, disks, clock),
+        None => Status::Usage,
     }
-    serve_disks(alloc, input, output, disks.as_mut_slice())
 }

@@ -15,12 +15,11 @@ use std::alloc::Global;
 use std::mem;
 
 /// One client's session: the reader of its requests, the bytes that wait to be taken and to be
-/// written, a buffer for the bytes of a READ, and one that the data of each WRITE are read into.
+/// written, and a buffer for the bytes of a READ or the data of a WRITE.
 #[derive(Debug, Drop)]
 pub struct Session {
     pub reader: Transmission,
     pub stream: Stream,
-    pub read: Vec<u8>,
     pub spare: Vec<u8>,
 }
 
@@ -66,7 +65,6 @@ impl Session {
         Ok(Session {
             reader: Transmission::new(mode),
             stream: Stream::new(alloc)?,
-            read: Vec::new(alloc),
             spare: Vec::new(alloc),
         })
     }

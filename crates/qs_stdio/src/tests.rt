@@ -1,10 +1,11 @@
-use crate::plain::{Request, plain_service};
-use crate::run_stdio;
+use crate::plain::{Request, front, plain_service};
+use crate::{run_stdio, serve_stream};
 use qs_bytes::{Bytes, Memory};
-use qs_outside::{MemClock, MemSink, MemSource, QuietDisk};
+use qs_calls::open_core;
+use qs_outside::{Fail, MemClock, MemDisk, MemSink, MemSource, QuietDisk, RiggedDisk};
 use qs_status::{OpenBad, SessionEnd, Status};
 use std::alloc::Global;
-use std::test::Fail;
+use std::test::Fail as Failure;
 
 /// A WRITE of 512 bytes 11 at 0 with cookie 1, a READ of them with cookie 2, and a DISC with cookie 3.
 const WRITE: [u8; 28] = *b"\x25\x60\x95\x13\0\0\0\x01\0\0\0\0\0\0\0\x01\0\0\0\0\0\0\0\0\0\0\x02\0";
@@ -17,16 +18,6 @@ const DISC: [u8; 28] = *b"\x25\x60\x95\x13\0\0\0\x02\0\0\0\0\0\0\0\x03\0\0\0\0\0
 const WRITTEN: [u8; 16] = *b"\x67\x44\x66\x98\0\0\0\0\0\0\0\0\0\0\0\x01";
 
 const READ_BACK: [u8; 16] = *b"\x67\x44\x66\x98\0\0\0\0\0\0\0\0\0\0\0\x02";
-
-/// A READ at offset 1, a FLUSH, and the error that each gets.
-const READ_AT_1: [u8; 28] =
-    *b"\x25\x60\x95\x13\0\0\0\0\0\0\0\0\0\0\0\x04\0\0\0\0\0\0\0\x01\0\0\x02\0";
-
-const FLUSH: [u8; 28] = *b"\x25\x60\x95\x13\0\0\0\x03\0\0\0\0\0\0\0\x05\0\0\0\0\0\0\0\0\0\0\0\0";
-
-const REFUSED_READ: [u8; 16] = *b"\x67\x44\x66\x98\0\0\0\x16\0\0\0\0\0\0\0\x04";
-
-const REFUSED_FLUSH: [u8; 16] = *b"\x67\x44\x66\x98\0\0\0\x16\0\0\0\0\0\0\0\x05";
 
 /// A WRITE of 33,554,433 bytes.
 const TOO_LONG: [u8; 28] =
@@ -50,18 +41,18 @@ fn worked(alloc: Global) -> Result<(Vec<u8>, Vec<u8>), Memory> {
     Ok((input, replies))
 }
 
-/// The first bytes of a list, as many as it has.
-fn front(bytes: &[u8], count: usize) -> &[u8] {
-    &bytes[..count.min(bytes.len())]
-}
-
-fn disks(alloc: Global, count: u8, length: u64) -> Result<Vec<QuietDisk>, Memory> {
+fn disks_of(alloc: Global, count: u8, align: u32, length: u64) -> Result<Vec<QuietDisk>, Memory> {
     let mut disks = Vec::new(alloc);
+    if align == 0 {
+        return Ok(disks);
+    }
     for stripe in 0..count {
-        disks.push(QuietDisk::new(alloc, stripe, 512, length)?)?;
+        disks.push(QuietDisk::new(alloc, stripe, align, length)?)?;
     }
     Ok(disks)
 }
+
+const GOOD: &[&str] = &["--transmission", "disk.img"];
 
 /// A run over an image of so many zero bytes, with reads of at most `cut` bytes; what was written, and
 /// how it ended.
@@ -74,15 +65,16 @@ fn run(alloc: Global, length: u64, input: &[u8], cut: usize) -> Result<(Status, 
         Vec::new(alloc),
     );
     let mut sink = MemSink::new(alloc, 1 << 18, Vec::new(alloc))?;
-    let status = run_words(
-        alloc,
-        &["--transmission", "disk.img"],
-        &mut source,
-        &mut sink,
-        8,
-        length,
-    )?;
+    let status = run_words(alloc, GOOD, &mut source, &mut sink, 8, length)?;
     Ok((status, Vec::from_slice(alloc, sink.sent())?))
+}
+
+fn words_of(alloc: Global, words: &[&str]) -> Result<Vec<String>, Memory> {
+    let mut texts = Vec::new(alloc);
+    for word in words {
+        texts.push(String::from_str(alloc, word)?)?;
+    }
+    Ok(texts)
 }
 
 fn run_words(
@@ -93,11 +85,8 @@ fn run_words(
     count: u8,
     length: u64,
 ) -> Result<Status, Memory> {
-    let mut texts = Vec::new(alloc);
-    for word in words {
-        texts.push(String::from_str(alloc, word)?)?;
-    }
-    let mut disks = disks(alloc, count, length)?;
+    let texts = words_of(alloc, words)?;
+    let mut disks = disks_of(alloc, count, 512, length)?;
     Ok(run_stdio(
         alloc,
         texts.as_slice(),
@@ -110,7 +99,7 @@ fn run_words(
 
 /// Between requests the end of the input is the end of the run; within one it cuts it.
 #[test]
-fn each_front_of_the_input_has_its_end(rt: HostRuntime) -> Result<(), Fail> {
+fn each_front_of_the_input_has_its_end(rt: HostRuntime) -> Result<(), Failure> {
     let alloc = rt.alloc();
     let (input, replies) = worked(alloc)?;
     let cut = Status::Ended(SessionEnd::Truncated);
@@ -136,7 +125,7 @@ fn each_front_of_the_input_has_its_end(rt: HostRuntime) -> Result<(), Fail> {
 }
 
 #[test]
-fn pieces_of_each_size_are_answered_alike(rt: HostRuntime) -> Result<(), Fail> {
+fn pieces_of_each_size_are_answered_alike(rt: HostRuntime) -> Result<(), Failure> {
     let alloc = rt.alloc();
     let (input, replies) = worked(alloc)?;
     for cut in 1..input.len() + 1 {
@@ -148,7 +137,7 @@ fn pieces_of_each_size_are_answered_alike(rt: HostRuntime) -> Result<(), Fail> {
 }
 
 #[test]
-fn what_is_no_request_ends_the_run(rt: HostRuntime) -> Result<(), Fail> {
+fn what_is_no_request_ends_the_run(rt: HostRuntime) -> Result<(), Failure> {
     let alloc = rt.alloc();
     let bad_magic = *b"\x25\x60\x95\x14";
     let cases: [(&[u8], SessionEnd); 2] = [
@@ -163,22 +152,9 @@ fn what_is_no_request_ends_the_run(rt: HostRuntime) -> Result<(), Fail> {
     Ok(())
 }
 
-#[test]
-fn what_is_not_served_is_refused(rt: HostRuntime) -> Result<(), Fail> {
-    let alloc = rt.alloc();
-    for (request, reply) in [(READ_AT_1, REFUSED_READ), (FLUSH, REFUSED_FLUSH)] {
-        let (status, sent) = run(alloc, 4096, &request, 65_536)?;
-        assert_eq!(rt; status, Status::Done);
-        assert_eq!(rt; sent.as_slice(), reply.as_slice());
-    }
-    Ok(())
-}
-
 /// Words, the count of disks and their image's length, the read that fails, and the room of the output;
 /// and the status.
 type Case = (&'static [&'static str], u8, u64, Option<u64>, usize, Status);
-
-const GOOD: &[&str] = &["--transmission", "disk.img"];
 
 const CASES: [Case; 7] = [
     (&[], 8, 4096, None, 544, Status::Usage),
@@ -205,7 +181,7 @@ const CASES: [Case; 7] = [
 ];
 
 #[test]
-fn words_disks_and_faults_have_their_statuses(rt: HostRuntime) -> Result<(), Fail> {
+fn words_disks_and_faults_have_their_statuses(rt: HostRuntime) -> Result<(), Failure> {
     let alloc = rt.alloc();
     for (words, count, length, fail, room, status) in CASES {
         let mut fails = Vec::new(alloc);
@@ -227,37 +203,50 @@ fn words_disks_and_faults_have_their_statuses(rt: HostRuntime) -> Result<(), Fai
 type Row = (u16, u16, u64, u32, u8);
 
 /// Streams over an image of 130 blocks. Blocks 15 and 16 lie on two disks, and so do 127 and 128.
-const STREAMS: [&[Row]; 4] = [
+const STREAMS: [&[Row]; 5] = [
     // the worked inputs
     &[
         (0, 1, 0, 512, 0x11),
         (0, 0, 0, 512, 0),
         (0, 0, 1, 512, 0),
         (0, 3, 0, 0, 0),
+        (1, 6, 100, 300, 0),
     ],
-    // several blocks and disks, written over one another
+    // several blocks and disks, written over one another, at any offset
     &[
         (0, 1, 14 * 512, 5 * 512, 0x22),
         (0, 0, 13 * 512, 7 * 512, 0),
-        (0, 1, 127 * 512, 3 * 512, 0x33),
-        (0, 1, 16 * 512, 100 * 512, 0x44),
-        (0, 0, 14 * 512, 5 * 512, 0),
-        (0, 1, 16 * 512, 512, 0x55),
+        (1, 1, 127 * 512 - 3, 3 * 512, 0x33),
+        (0, 1, 16 * 512 + 1, 100 * 512, 0x44),
+        (0, 0, 14 * 512 + 511, 5 * 512 + 2, 0),
+        (2, 6, 20 * 512 + 100, 40 * 512, 0),
+        (0, 3, 0, 0, 0),
+        (0, 4, 30 * 512, 512, 0),
+        (0, 1, 16 * 512 + 7, 1, 0x55),
+        (0, 1, 17 * 512 - 1, 2, 0x56),
     ],
-    // ranges that pass the end, parts of blocks, flags, other types, a READ that is too long
+    // the ends of the image
     &[
         (0, 1, 0, 130 * 512, 0x66),
-        (0, 1, 129 * 512, 1024, 0x77),
+        (0, 1, 130 * 512 - 1, 1, 0x67),
+        (0, 1, 130 * 512 - 1, 2, 0x77),
+        (0, 6, 130 * 512 - 1, 2, 0),
+        (0, 4, 130 * 512 - 1, 2, 0),
+        (0, 0, 130 * 512 - 1, 2, 0),
         (0, 0, 130 * 512, 512, 0),
         (0, 0, u64::MAX - 511, 512, 0),
-        (0, 1, 256, 512, 0x77),
-        (0, 1, 0, 511, 0x77),
-        (1, 1, 0, 512, 0x77),
+        (0, 6, u64::MAX, u32::MAX, 0),
+        (0, 3, u64::MAX, u32::MAX, 0),
+    ],
+    // flags, other types, a READ that is too long
+    &[
         (4, 0, 0, 512, 0),
-        (0, 4, 0, 512, 0),
-        (0, 6, 0, 512, 0),
+        (2, 1, 0, 512, 0x77),
+        (8, 6, 0, 512, 0),
+        (0, 5, 0, 512, 0),
         (0, 9, 0, 512, 0),
         (0, 0, 0, 33_554_944, 0),
+        (9, 0, 131 * 512, 512, 0),
     ],
     // no bytes
     &[
@@ -265,15 +254,15 @@ const STREAMS: [&[Row]; 4] = [
         (0, 1, 130 * 512, 0, 0x88),
         (0, 0, 131 * 512, 0, 0),
         (0, 1, 131 * 512, 0, 0x88),
+        (0, 6, 131 * 512, 0, 0),
         (0, 0, 1, 0, 0),
     ],
 ];
 
-/// The requests of a stream, and behind them a READ of the whole image.
-fn requests_of(alloc: Global, rows: &[Row]) -> Result<Vec<Request>, Memory> {
+/// The requests of a stream.
+fn rows_of(alloc: Global, rows: &[Row]) -> Result<Vec<Request>, Memory> {
     let mut requests = Vec::new(alloc);
-    let whole: Row = (0, 0, 0, 130 * 512, 0);
-    for &(flags, kind, offset, length, byte) in rows.iter().chain([whole].iter()) {
+    for &(flags, kind, offset, length, byte) in rows {
         requests.push(Request {
             flags,
             kind,
@@ -283,6 +272,20 @@ fn requests_of(alloc: Global, rows: &[Row]) -> Result<Vec<Request>, Memory> {
             byte,
         })?;
     }
+    Ok(requests)
+}
+
+/// The requests of a stream, and behind them a READ of the whole image.
+fn requests_of(alloc: Global, rows: &[Row]) -> Result<Vec<Request>, Memory> {
+    let mut requests = rows_of(alloc, rows)?;
+    requests.push(Request {
+        flags: 0,
+        kind: 0,
+        cookie: 9,
+        offset: 0,
+        length: 130 * 512,
+        byte: 0,
+    })?;
     Ok(requests)
 }
 
@@ -296,18 +299,150 @@ fn spelled(alloc: Global, requests: &[Request]) -> Result<Bytes, Memory> {
 }
 
 #[test]
-fn streams_are_answered_as_by_the_plain_service(rt: HostRuntime) -> Result<(), Fail> {
+fn streams_are_answered_as_by_the_plain_service(rt: HostRuntime) -> Result<(), Failure> {
     let alloc = rt.alloc();
     for rows in STREAMS {
         let requests = requests_of(alloc, rows)?;
         let input = spelled(alloc, requests.as_slice())?;
         let mut content = vec![in alloc; 0; 130 * 512]?;
-        let replies = plain_service(alloc, requests.as_slice(), &mut content)?;
+        let replies = plain_service(alloc, requests.as_slice(), true, &mut content)?;
         for cut in [1, 4096, 65_536] {
             let (status, sent) = run(alloc, 130 * 512, input.as_slice(), cut)?;
             assert_eq!(rt; status, Status::Done);
             assert_eq!(rt; sent.as_slice(), replies.as_slice());
         }
+    }
+    Ok(())
+}
+
+/// A session over a core that was just opened, of so many messages at most; what was written, and how it
+/// ended.
+fn served(
+    alloc: Global,
+    disks: Vec<QuietDisk>,
+    read_only: bool,
+    budget: u64,
+    input: &[u8],
+) -> Result<(Status, Vec<u8>), Memory> {
+    let Ok(mut world) = open_core(alloc, disks, read_only) else {
+        return Err(Memory);
+    };
+    let bytes = Bytes::of(Vec::from_slice(alloc, input)?);
+    let mut source = MemSource::new(bytes, Vec::new(alloc), Vec::new(alloc));
+    let mut sink = MemSink::new(alloc, 1 << 18, Vec::new(alloc))?;
+    let clock = MemClock::new(0);
+    let status = serve_stream(alloc, &mut world, budget, &mut source, &mut sink, &clock);
+    Ok((status, Vec::from_slice(alloc, sink.sent())?))
+}
+
+/// Over a file that can't be written, and over blocks of 4,096 bytes.
+#[test]
+fn other_cores_are_served_alike(rt: HostRuntime) -> Result<(), Failure> {
+    let alloc = rt.alloc();
+    for rows in STREAMS {
+        let requests = requests_of(alloc, rows)?;
+        let input = spelled(alloc, requests.as_slice())?;
+        for (align, length, read_only) in [(512, 130 * 512, true), (4096, 17 * 4096, false)] {
+            let mut content = vec![in alloc; 0; length]?;
+            let replies = plain_service(alloc, requests.as_slice(), !read_only, &mut content)?;
+            let disks = disks_of(alloc, 8, align, length as u64)?;
+            let (status, sent) = served(alloc, disks, read_only, 100, input.as_slice())?;
+            assert_eq!(rt; status, Status::Done);
+            assert_eq!(rt; sent.as_slice(), replies.as_slice());
+        }
+    }
+    Ok(())
+}
+
+/// After its budget of messages the session ends, before the next is read.
+#[test]
+fn a_budget_is_spent(rt: HostRuntime) -> Result<(), Failure> {
+    let alloc = rt.alloc();
+    let (input, replies) = worked(alloc)?;
+    for (budget, status, count) in [
+        (0, Status::Spent, 0),
+        (1, Status::Spent, 16),
+        (2, Status::Spent, 544),
+        (3, Status::Done, 544),
+    ] {
+        let disks = disks_of(alloc, 8, 512, 4096)?;
+        let (ended, sent) = served(alloc, disks, false, budget, input.as_slice())?;
+        assert_eq!(rt; ended, status);
+        assert_eq!(rt; sent.as_slice(), front(replies.as_slice(), count));
+    }
+    Ok(())
+}
+
+/// A WRITE of two bytes at the seam of blocks 0 and 1, a FLUSH and another, and a READ of the two bytes.
+const PADDED: [Row; 4] = [
+    (0, 1, 511, 2, 0x99),
+    (0, 3, 0, 0, 0),
+    (0, 3, 0, 0, 0),
+    (0, 0, 511, 2, 0),
+];
+
+/// A failure of the disk of blocks 0 and 1, the errors of the four replies, and the two bytes.
+type Failed = (Option<Fail>, [u8; 4], [u8; 2]);
+
+const FAILED: [Failed; 5] = [
+    (None, [0, 0, 0, 0], [0x99, 0x99]),
+    (Some(Fail::Load), [5, 0, 0, 0], [0, 0]),
+    (Some(Fail::StoreOld), [5, 0, 0, 0], [0, 0]),
+    (Some(Fail::StoreNew), [5, 0, 0, 0], [0x99, 0]),
+    (Some(Fail::Sync), [0, 5, 0, 0], [0x99, 0x99]),
+];
+
+/// A byte of the output.
+fn at(sent: &[u8], i: usize) -> u8 {
+    match sent.get(i) {
+        Some(byte) => *byte,
+        None => 255,
+    }
+}
+
+/// The errors of four replies, and the bytes behind the last.
+fn told(sent: &[u8]) -> ([u8; 4], &[u8]) {
+    let errors = [at(sent, 7), at(sent, 23), at(sent, 39), at(sent, 55)];
+    (errors, &sent[sent.len().min(64)..])
+}
+
+/// Eight disks of 4,096 zero bytes; the first one's next call of a kind fails.
+fn rigged(alloc: Global, fail: Option<Fail>) -> Result<Vec<MemDisk>, Memory> {
+    let mut disks = Vec::new(alloc);
+    for stripe in 0..8 {
+        let mut disk = MemDisk::new(alloc, stripe, 512, 4096, 64)?;
+        match fail {
+            Some(fail) if stripe == 0 => disk.plan(fail),
+            _ => {}
+        }
+        disks.push(disk)?;
+    }
+    Ok(disks)
+}
+
+#[test]
+fn each_planned_failure_has_its_answer(rt: HostRuntime) -> Result<(), Failure> {
+    let alloc = rt.alloc();
+    let requests = rows_of(alloc, &PADDED)?;
+    for (fail, errors, bytes) in FAILED {
+        let mut disks = rigged(alloc, fail)?;
+        let input = spelled(alloc, requests.as_slice())?;
+        let mut source = MemSource::new(input, Vec::new(alloc), Vec::new(alloc));
+        let mut sink = MemSink::new(alloc, 1 << 12, Vec::new(alloc))?;
+        let words = words_of(alloc, GOOD)?;
+        let clock = MemClock::new(0);
+        let status = run_stdio(
+            alloc,
+            words.as_slice(),
+            &mut source,
+            &mut sink,
+            &mut disks,
+            &clock,
+        );
+        assert_eq!(rt; status, Status::Done);
+        let (answered, read) = told(sink.sent());
+        assert_eq!(rt; answered, errors);
+        assert_eq!(rt; read, bytes.as_slice());
     }
     Ok(())
 }

@@ -13,8 +13,8 @@ usage: qsd_stdio --transmission IMAGE
        qsd_stdio --help | --version
 
 Serves one NBD client on standard input and output over a raw image: the input is a stream of requests
-without a handshake, the output that of simple replies. READ, WRITE and DISC of whole blocks of 512
-bytes are served. IMAGE is a file or a block device, which is locked while it is served.
+without a handshake, the output that of simple replies. READ, WRITE, WRITE_ZEROES, TRIM and FLUSH are
+served, at any offset and length. IMAGE is a file or a block device, which is locked while it is served.
 
 Exit statuses: 0 after a DISC or the input's end between requests; 2 for other words; 3 where the
 image's length isn't right; 4, 5 where the input couldn't be read, the output not be written; 8 after

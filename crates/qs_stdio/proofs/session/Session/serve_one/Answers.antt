@@ -1,38 +1,30 @@
 -- A request came: one turn with its data, or without.
-use Rattle.std.proofs.Common.{[], refl, sym, ◌∙◌, false}
+use Rattle.std.proofs.Common.{sym, ◌∙◌, false}
 use Rattle.qs_nbd_transmission.proofs.Reading.{asks_room}
 use Rattle.qs_outside.specs.declared.stream.Failed.{Failed}
-use Rattle.qs_stream.specs.Flows.{Flow, flow}
-use Rattle.qs_stream.proofs.Moves.{moved_none}
-use Rattle.qs_stdio.specs.Scenes.{Scene, scene}
-use Rattle.qs_stdio.proofs.Turning.{answered_in, exchanged, finished, ready, request_came}
+use Rattle.qs_stream.specs.Flows.{flow, side}
+use Rattle.qs_stdio.specs.Scenes.{scene}
+use Rattle.qs_stdio.proofs.Turning.{finished, finished_bare, ready, request_came}
 use Rattle.qs_stdio.proofs.session.Session.serve_one.Goals as goal
 
-pub returns-then-data_follow : goal.returns-then-data_follow
-returns-then-data_follow g c =
+pub returns-then-awaits_data : goal.returns-then-awaits_data
+returns-then-awaits_data g c = λ writable rests.
     let asks = c.in_ok-ask.ensures in
-    let comes = request_came Failed asks.taken _ c.in-Asked.ask c.next_ask.new.self.reader
-    (flow g.I.Source.left g.I.Source.read_faults g.O.Sink.sent g.O.Sink.write_faults c.next_ask.new.input c.next_ask.new.output c.next_ask.new.self.stream)
-    c.in-Asked.is asks.comes in
-    finished c.args.shape.align c.args.shape.size _
-    (flow g.I.Source.left g.I.Source.read_faults g.O.Sink.sent g.O.Sink.write_faults c.next_ask.new.input c.next_ask.new.output c.next_ask.new.self.stream)
-    _ asks.taken c.in-Asked.ask _ _ comes.0 (sym c.data_follow.ensures ∙ c.if-data_follow.true) asks.moved c.serve_data.result c.serve_data.ensures
+    let mid = flow g.I.Source.left g.I.Source.read_faults g.O.Sink.sent g.O.Sink.write_faults c.next_ask.new.input c.next_ask.new.output c.next_ask.new.self.stream in
+    let comes = request_came Failed asks.taken _ c.in-Asked.ask c.next_ask.new.self.reader mid c.in-Asked.is asks.comes in
+    finished g.D.Disk.seen 0 writable
+    (scene g.I.Source.left g.I.Source.read_faults g.O.Sink.sent g.O.Sink.write_faults c.args.input.now c.args.output.now c.args.self.now.stream c.args.world.now)
+    mid _ asks.taken c.in-Asked.ask _ _ comes.0 (sym c.awaits_data.ensures ∙ c.if-awaits_data.true) asks.moved c.serve_data.result (c.serve_data.ensures writable rests)
 
 pub returns : goal.returns
-returns g c =
+returns g c = λ writable rests.
     let asks = c.in_ok-ask.ensures in
-    let comes = request_came Failed asks.taken _ c.in-Asked.ask c.next_ask.new.self.reader
-    (flow g.I.Source.left g.I.Source.read_faults g.O.Sink.sent g.O.Sink.write_faults c.next_ask.new.input c.next_ask.new.output c.next_ask.new.self.stream)
-    c.in-Asked.is asks.comes in
-    let bare = sym c.data_follow.ensures ∙ c.if-data_follow.false in
-    let mid : Flow =
-    flow g.I.Source.left g.I.Source.read_faults g.O.Sink.sent g.O.Sink.write_faults c.next_ask.new.input c.next_ask.new.output c.next_ask.new.self.stream in
-    let here : Scene =
-    scene g.I.Source.left g.I.Source.read_faults g.O.Sink.sent g.O.Sink.write_faults g.D.Disk.seen c.next_ask.new.input c.next_ask.new.output c.next_ask.new.self.stream c.args.disks.now in
-    let one = exchanged c.args.shape.align c.args.shape.size
-    (scene g.I.Source.left g.I.Source.read_faults g.O.Sink.sent g.O.Sink.write_faults g.D.Disk.seen c.args.input.now c.args.output.now c.args.self.now.stream c.args.disks.now)
-    mid
-    (scene g.I.Source.left g.I.Source.read_faults g.O.Sink.sent g.O.Sink.write_faults g.D.Disk.seen c.next_ask.new.input c.answer_bare.new.output c.answer_bare.new.stream c.answer_bare.new.disks)
-    asks.taken [] c.in-Asked.ask _ false comes.0 bare refl asks.moved
-    (answered_in _ _ c.in-Asked.ask [] here mid _ _ _ (moved_none mid) c.answer_bare.ensures) in
-    (one.0, (one.1, ready c.next_ask.new.self.reader comes.1 (asks_room.none false asks.taken c.in-Asked.ask _ comes.0 bare)))
+    let mid = flow g.I.Source.left g.I.Source.read_faults g.O.Sink.sent g.O.Sink.write_faults c.next_ask.new.input c.next_ask.new.output c.next_ask.new.self.stream in
+    let comes = request_came Failed asks.taken _ c.in-Asked.ask c.next_ask.new.self.reader mid c.in-Asked.is asks.comes in
+    let bare = sym c.awaits_data.ensures ∙ c.if-awaits_data.false in
+    finished_bare g.D.Disk.seen 0 writable
+    (scene g.I.Source.left g.I.Source.read_faults g.O.Sink.sent g.O.Sink.write_faults c.args.input.now c.args.output.now c.args.self.now.stream c.args.world.now)
+    mid asks.taken c.in-Asked.ask c.next_ask.new.self.reader.phase c.serve_bare.new.self.reader comes.0 bare asks.moved asks.tells
+    (c.serve_bare.ensures.reader ∙ ready c.next_ask.new.self.reader comes.1 (asks_room.none false asks.taken c.in-Asked.ask _ comes.0 bare))
+    Failed c.serve_bare.result c.serve_bare.new.world (side g.O.Sink.sent g.O.Sink.write_faults c.serve_bare.new.output) c.serve_bare.new.self.stream
+    (c.serve_bare.ensures.bare writable rests)
