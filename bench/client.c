@@ -1,10 +1,12 @@
 /* The load: one NBD client that keeps a server busy over two pipes for a while.
  *
- *     client read|write BYTES IN_FLIGHT SECONDS IMAGE_BYTES SERVER [WORD..]
+ *     client WORK BYTES SHIFT IN_FLIGHT SECONDS MOST IMAGE_BYTES SERVER [WORD..]
  *
- * Starts SERVER, sends it requests of BYTES at random multiples of BYTES inside the image, at most
- * IN_FLIGHT unanswered (at most 1,000, whose heads fit a pipe), and checks the head of each reply. One
- * request before the clock starts waits for the server to be up. Prints on one line how many were
+ * WORK is read, write, zero (a WRITE_ZEROES) or sync (a WRITE and, when it is answered, a FLUSH, which
+ * count as one; IN_FLIGHT is 1 then). Starts SERVER, sends it requests of BYTES at random multiples of
+ * BYTES and SHIFT behind them inside the image, at most IN_FLIGHT unanswered (at most 1,000, whose heads
+ * fit a pipe), and checks the head of each reply. It ends after SECONDS, or when MOST were sent. A READ of
+ * no bytes before the clock starts waits for the server to be up. Prints on one line how many were
  * answered, in how many seconds, and the processor seconds that the server and the client used. */
 #include <endian.h>
 #include <stdint.h>
@@ -15,16 +17,18 @@
 #include <time.h>
 #include <unistd.h>
 
-enum { ROOM = 65536, HEAD = 28, REPLY = 16, READ = 0, WRITE = 1, DISC = 2 };
+enum { ROOM = 65536, HEAD = 28, REPLY = 16, READ = 0, WRITE = 1, DISC = 2, FLUSH = 3,
+       WRITE_ZEROES = 6 };
 
 static uint16_t kind;
-static uint64_t bytes, in_flight, places;
+static int is_synced; /* a FLUSH follows each request */
+static uint64_t bytes, shift, in_flight, places;
 
 /* `in_flight` requests with their data. Request i stands at number i % in_flight. */
 static unsigned char *requests;
-static size_t request_bytes, reply_bytes;
+static size_t request_bytes;
 
-static uint64_t sent, answered;
+static uint64_t sent, answered; /* requests, from the READ of no bytes on */
 static unsigned char reply_head[REPLY]; /* of the next reply */
 static size_t reply_seen;               /* bytes of the next reply that came already */
 static int to_server, from_server;
@@ -90,6 +94,14 @@ static void write_all(const unsigned char *from, size_t count)
     }
 }
 
+static void send_head(uint16_t head_kind)
+{
+    unsigned char head[HEAD];
+    put_head(head, head_kind, sent, 0, 0);
+    write_all(head, HEAD);
+    sent++;
+}
+
 /* Sends `count` more requests, those that stand side by side in one write. */
 static void send_requests(uint64_t count)
 {
@@ -98,7 +110,7 @@ static void send_requests(uint64_t count)
         uint64_t run = in_flight - first < count ? in_flight - first : count;
         for (uint64_t i = 0; i < run; i++)
             put_head(requests + (first + i) * request_bytes, kind, sent + i,
-                     next_random() % places * bytes, bytes);
+                     next_random() % places * bytes + shift, bytes);
         write_all(requests + first * request_bytes, run * request_bytes);
         sent += run;
         count -= run;
@@ -118,6 +130,7 @@ static void check_reply(void)
 /* Takes bytes of the next reply, up to its end, and answers how many. Data are passed over. */
 static size_t pass_reply(const unsigned char *bytes_came, size_t count)
 {
+    size_t reply_bytes = REPLY + (kind == READ && answered > 0 ? bytes : 0);
     int in_head = reply_seen < REPLY;
     size_t missing = (in_head ? REPLY : reply_bytes) - reply_seen;
     size_t piece = count < missing ? count : missing;
@@ -173,10 +186,8 @@ static pid_t start_server(char **words)
 
 static void end_server(pid_t server)
 {
-    unsigned char head[HEAD];
     int status;
-    put_head(head, DISC, sent, 0, 0);
-    write_all(head, HEAD);
+    send_head(DISC);
     if (waitpid(server, &status, 0) != server || status != 0)
         fail("the server didn't end with status 0");
 }
@@ -184,7 +195,6 @@ static void end_server(pid_t server)
 static void make_buffers(void)
 {
     request_bytes = HEAD + (kind == WRITE ? bytes : 0);
-    reply_bytes = REPLY + (kind == READ ? bytes : 0);
     requests = malloc(in_flight * request_bytes);
     if (!requests)
         fail("no memory");
@@ -192,33 +202,66 @@ static void make_buffers(void)
         requests[i] = next_random();
 }
 
+static void read_words(char **words)
+{
+    const char *work = words[1];
+    is_synced = strcmp(work, "sync") == 0;
+    if (strcmp(work, "read") == 0)
+        kind = READ;
+    else if (strcmp(work, "write") == 0 || is_synced)
+        kind = WRITE;
+    else if (strcmp(work, "zero") == 0)
+        kind = WRITE_ZEROES;
+    else
+        fail("the work is read, write, zero or sync");
+    bytes = strtoull(words[2], NULL, 10);
+    shift = strtoull(words[3], NULL, 10);
+    in_flight = is_synced ? 1 : strtoull(words[4], NULL, 10);
+    places = (strtoull(words[7], NULL, 10) - shift) / bytes;
+    if (places == 0 || in_flight == 0)
+        fail("no request fits");
+}
+
+/* Keeps `in_flight` requests unanswered while the clock runs, `most` in all; how many were answered. */
+static uint64_t keep_busy(double seconds, uint64_t most)
+{
+    double start = seconds_of(CLOCK_MONOTONIC);
+    uint64_t made = 0, before = answered;
+    while (made < most && (made == 0 || seconds_of(CLOCK_MONOTONIC) - start < seconds)) {
+        uint64_t room = in_flight - (sent - answered);
+        uint64_t count = room < most - made ? room : most - made;
+        send_requests(count);
+        made += count;
+        receive();
+        if (is_synced) {
+            receive_all();
+            send_head(FLUSH);
+            receive_all();
+        }
+    }
+    receive_all();
+    return (answered - before) / (is_synced ? 2 : 1);
+}
+
 int main(int count, char **words)
 {
-    if (count < 7)
-        fail("the words are read|write BYTES IN_FLIGHT SECONDS IMAGE_BYTES SERVER [WORD..]");
-    kind = strcmp(words[1], "write") == 0 ? WRITE : READ;
-    bytes = strtoull(words[2], NULL, 10);
-    in_flight = strtoull(words[3], NULL, 10);
-    double seconds = strtod(words[4], NULL);
-    places = strtoull(words[5], NULL, 10) / bytes;
+    if (count < 9)
+        fail("the words are WORK BYTES SHIFT IN_FLIGHT SECONDS MOST IMAGE_BYTES SERVER [WORD..]");
+    read_words(words);
     make_buffers();
-    pid_t server = start_server(words + 6);
-    send_requests(1);
+    pid_t server = start_server(words + 8);
+    send_head(READ);
     receive_all();
 
     clockid_t clocks[3] = {CLOCK_MONOTONIC, processor_clock(server), CLOCK_PROCESS_CPUTIME_ID};
     double before[3], used[3];
     for (int i = 0; i < 3; i++)
         before[i] = seconds_of(clocks[i]);
-    while (seconds_of(CLOCK_MONOTONIC) - before[0] < seconds) {
-        send_requests(in_flight - (sent - answered));
-        receive();
-    }
-    receive_all();
+    uint64_t made = keep_busy(strtod(words[5], NULL), strtoull(words[6], NULL, 10));
     for (int i = 0; i < 3; i++)
         used[i] = seconds_of(clocks[i]) - before[i];
 
     end_server(server);
-    printf("%llu %.6f %.6f %.6f\n", (unsigned long long)(answered - 1), used[0], used[1], used[2]);
+    printf("%llu %.6f %.6f %.6f\n", (unsigned long long)made, used[0], used[1], used[2]);
     return 0;
 }

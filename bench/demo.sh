@@ -77,17 +77,17 @@ send "WRITE of 512 bytes at 4096, with its data:" "25609513 0000 0001 0000000000
 data >>input
 data | od -A n -t x1z | sed 's/^/       /'
 send "READ of 512 bytes at 4096" "25609513 0000 0000 0000000000000002 0000000000001000 00000200"
-send "READ of 512 bytes at 1" "25609513 0000 0000 0000000000000003 0000000000000001 00000200"
+send "READ of 512 bytes at 1048576" "25609513 0000 0000 0000000000000003 0000000000100000 00000200"
 send "DISC" "25609513 0000 0002 0000000000000004 0000000000000000 00000000"
 
 status=0
 "$program" --transmission disk.img <input >output || status=$?
 
 echo
-echo "What comes out (magic, error, cookie; error 22 is EINVAL, here since 1 is no multiple of 512):"
+echo "What comes out (magic, error, cookie; error 22 is EINVAL, here since the image ends at 1048576):"
 show_reply "WRITE at 4096" 0
 show_reply "READ at 4096" 512
-show_reply "READ at 1" 0
+show_reply "READ at 1048576" 0
 echo "    exit status $status"
 echo
 echo "disk.img afterwards (the places are hexadecimal):"

@@ -2,9 +2,10 @@
  *
  *     floor IMAGE
  *
- * One NBD client in the transmission phase, on standard input and output: READ, WRITE and DISC with
- * simple replies, one pread or pwrite a request. Replies are gathered, and written when the input is
- * used up (before reading more), when the buffer is full, and at the end. Requests are taken as
+ * One NBD client in the transmission phase, on standard input and output: READ, WRITE, FLUSH,
+ * WRITE_ZEROES and DISC with simple replies: one pread or pwrite a READ or WRITE, one fdatasync a FLUSH,
+ * and a pwrite of zeros for each MiB of a WRITE_ZEROES. Replies are gathered, and written when the input
+ * is used up (before reading more), when the buffer is full, and at the end. Requests are taken as
  * well-formed: no magic, flag or range is checked. */
 #include <endian.h>
 #include <fcntl.h>
@@ -13,7 +14,8 @@
 #include <string.h>
 #include <unistd.h>
 
-enum { ROOM = 65536, HEAD = 28, REPLY = 16, READ = 0, WRITE = 1 };
+enum { ROOM = 65536, HEAD = 28, REPLY = 16, READ = 0, WRITE = 1, FLUSH = 3, WRITE_ZEROES = 6,
+       MIB = 1048576 };
 
 static unsigned char inbox[ROOM];
 static size_t inbox_start, inbox_end;
@@ -100,6 +102,28 @@ static void serve_write(int image, uint64_t cookie, uint64_t offset, uint32_t le
     put_reply(cookie);
 }
 
+static void serve_flush(int image, uint64_t cookie)
+{
+    if (fdatasync(image))
+        exit(1);
+    reserve(REPLY);
+    put_reply(cookie);
+}
+
+static void serve_zeroes(int image, uint64_t cookie, uint64_t offset, uint64_t length)
+{
+    static unsigned char zeros[MIB];
+    while (length > 0) {
+        size_t piece = length < MIB ? length : MIB;
+        if (pwrite(image, zeros, piece, offset) != (ssize_t)piece)
+            exit(1);
+        offset += piece;
+        length -= piece;
+    }
+    reserve(REPLY);
+    put_reply(cookie);
+}
+
 int main(int count, char **words)
 {
     int image = count == 2 ? open(words[1], O_RDWR) : -1;
@@ -120,6 +144,10 @@ int main(int count, char **words)
             serve_read(image, cookie, be64toh(offset), be32toh(length));
         else if (be16toh(kind) == WRITE)
             serve_write(image, cookie, be64toh(offset), be32toh(length));
+        else if (be16toh(kind) == FLUSH)
+            serve_flush(image, cookie);
+        else if (be16toh(kind) == WRITE_ZEROES)
+            serve_zeroes(image, cookie, be64toh(offset), be32toh(length));
         else
             break;
     }

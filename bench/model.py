@@ -1,11 +1,16 @@
 """Random requests to the program, with a plain model that says each reply and the final image.
 
-    python3 bench/model.py [PROGRAM] [--requests N] [--seed S]
+    python3 bench/model.py [PROGRAM] [--whole-blocks] [--align N] [--read-only] [--requests N] [--seed S]
 
 Makes an image of 8 MiB of random bytes, sends N requests (100,000 if left out) to
 `PROGRAM --transmission IMAGE` in pieces cut at random, and compares every byte that it answers, its
-exit status and the image at the end with what the model says. Prints one line; exits with 1 where
-anything differs. The same seed gives the same requests in the same pieces.
+exit status and the image at the end with what the model says. READ, WRITE, WRITE_ZEROES, TRIM and
+FLUSH, FUA and the other flags, at any offset and of any length; --align and --read-only are handed to the
+program. Prints one line; exits with 1 where anything differs. The same seed gives the same requests in
+the same pieces.
+
+With --whole-blocks a request is left out where a program that serves READs and WRITEs of whole blocks
+alone, without flags, and answers EINVAL to everything else, would give another answer.
 """
 import argparse
 import collections
@@ -24,11 +29,13 @@ BENCH = os.path.dirname(os.path.abspath(__file__))
 OUT = os.path.join(BENCH, "out")
 PROGRAM = os.path.join(BENCH, "..", "crates", "qsd_stdio", "out", "qsd_stdio")
 
-BLOCK = 512
+BLOCK = 512  # what many offsets and lengths are multiples of, and of 8 times as much
 IMAGE_BYTES = 8 << 20
 LONGEST = 33_554_432
-READ, WRITE, DISC = 0, 1, 2
-EINVAL = 22
+READ, WRITE, DISC, FLUSH, TRIM, WRITE_ZEROES = 0, 1, 2, 3, 4, 6
+STORING = (WRITE, WRITE_ZEROES, TRIM)  # what a read-only image refuses
+FUA, NO_HOLE = 1, 2
+EPERM, EINVAL, ENOSPC = 1, 22, 28
 LARGEST_PIECE = 1 << 16
 SECONDS_ALLOWED = 600
 
@@ -44,7 +51,34 @@ def request_bytes(request):
 # What the program should do
 
 
-def is_refused(request):
+def allowed_flags(kind):
+    return FUA | NO_HOLE if kind == WRITE_ZEROES else FUA
+
+
+def form_error(request):
+    """The error of a request that no image would take."""
+    return (
+        request.kind not in (READ, WRITE, FLUSH, TRIM, WRITE_ZEROES)
+        or request.flags & ~allowed_flags(request.kind) != 0
+        or (request.kind == READ and request.length > LONGEST)
+    ) and EINVAL
+
+
+def error_of(request, read_only):
+    """The first rule that applies; 0 where none does."""
+    if error := form_error(request):
+        return error
+    if request.kind == FLUSH:
+        return 0
+    if read_only and request.kind in STORING:
+        return EPERM
+    if request.offset + request.length > IMAGE_BYTES:
+        return ENOSPC if request.kind in (WRITE, WRITE_ZEROES) else EINVAL
+    return 0
+
+
+def whole_blocks_error(request):
+    """The answer of a program that serves READs and WRITEs of whole blocks, and refuses all else."""
     return (
         request.kind not in (READ, WRITE)
         or request.flags != 0
@@ -52,20 +86,22 @@ def is_refused(request):
         or request.offset % BLOCK != 0
         or request.length % BLOCK != 0
         or request.offset + request.length > IMAGE_BYTES
-    )
+    ) and EINVAL
 
 
-def answer(image, request):
-    """The reply's bytes; a WRITE that succeeds changes the image."""
-    error = EINVAL if is_refused(request) else 0
+def answer(image, request, error):
+    """The reply's bytes; a WRITE or a WRITE_ZEROES that succeeds changes the image."""
     reply = struct.pack(">IIQ", 0x67446698, error, request.cookie)
     end = request.offset + request.length
     if error:
         return reply
     if request.kind == WRITE:
         image[request.offset:end] = request.data
-        return reply
-    return reply + image[request.offset:end]
+    if request.kind == WRITE_ZEROES:
+        image[request.offset:end] = bytes(request.length)
+    if request.kind == READ:
+        return reply + image[request.offset:end]
+    return reply
 
 
 # Random requests
@@ -78,68 +114,85 @@ def random_blocks(rng):
     return rng.choice((1, 1, 1, 2, 3, 4, 8, 16, 17))
 
 
-def good_range(rng):
+def whole_blocks(rng):
     length = random_blocks(rng) * BLOCK
     return rng.randint(0, (IMAGE_BYTES - length) // BLOCK) * BLOCK, length
 
 
+def any_range(rng):
+    """Any place, of a few bytes to some blocks."""
+    length = rng.randint(1, rng.choice((8, BLOCK, 8 * BLOCK, 20 * BLOCK)))
+    return rng.randint(0, IMAGE_BYTES - length), length
+
+
+def near_edges(rng):
+    """From about the edge of a block of either size to about another such edge."""
+    unit = rng.choice((BLOCK, 8 * BLOCK))
+    first, last = sorted(rng.randint(0, IMAGE_BYTES // unit) for _ in range(2))
+    last = min(last, first + rng.randint(0, 3))
+    ends = (edge * unit + rng.choice((-1, 0, 0, 1)) for edge in (first, last))
+    start, end = sorted(min(max(edge, 0), IMAGE_BYTES) for edge in ends)
+    return start, end - start
+
+
 def range_to_the_end(rng):
-    length = random_blocks(rng) * BLOCK
+    length = random_blocks(rng) * BLOCK - rng.choice((0, 0, rng.randint(1, BLOCK - 1)))
     return IMAGE_BYTES - length, length
 
 
 def empty_range(rng):
     """Length 0: at a block, at the image's end, past it, and inside a block."""
     some_block = rng.randint(0, IMAGE_BYTES // BLOCK) * BLOCK
-    return rng.choice((some_block, IMAGE_BYTES, IMAGE_BYTES + BLOCK, 1)), 0
-
-
-def unaligned_offset(rng):
-    offset, length = good_range(rng)
-    return offset + rng.randint(1, BLOCK - 1), length
-
-
-def unaligned_length(rng):
-    offset, length = good_range(rng)
-    return offset, length - rng.randint(1, BLOCK - 1)
+    return rng.choice((some_block, IMAGE_BYTES, IMAGE_BYTES + 1, IMAGE_BYTES + BLOCK, 1)), 0
 
 
 def past_the_end(rng):
-    length = random_blocks(rng) * BLOCK
-    first = IMAGE_BYTES - length + BLOCK
-    last = (1 << 64) - BLOCK
-    between = rng.randint(first // BLOCK, last // BLOCK) * BLOCK
-    return rng.choice((first, IMAGE_BYTES, between, last)), length
+    length = random_blocks(rng) * BLOCK - rng.choice((0, 0, rng.randint(1, BLOCK - 1)))
+    first = IMAGE_BYTES - length + 1
+    last = (1 << 64) - 1
+    between = rng.randint(first, last)
+    whole = rng.randint(IMAGE_BYTES // BLOCK, last // BLOCK) * BLOCK
+    return rng.choice((first, IMAGE_BYTES - length + BLOCK, IMAGE_BYTES, between, whole, last)), length
 
 
 def far_too_long(rng):
-    lengths = (IMAGE_BYTES + BLOCK, LONGEST, LONGEST + BLOCK, (1 << 32) - BLOCK, (1 << 32) - 1)
-    return 0, rng.choice(lengths)
+    lengths = (IMAGE_BYTES + 1, IMAGE_BYTES + BLOCK, LONGEST, LONGEST + 1, (1 << 32) - BLOCK, (1 << 32) - 1)
+    return rng.choice((0, 0, 1, (1 << 64) - 1)), rng.choice(lengths)
 
 
-RANGES = (good_range,) * 14 + (
-    range_to_the_end,
-    empty_range,
-    unaligned_offset,
-    unaligned_length,
-    past_the_end,
-)
+RANGES = (whole_blocks,) * 6 + (any_range,) * 5 + (near_edges,) * 5 + (range_to_the_end, empty_range, past_the_end)
+KINDS = (READ,) * 8 + (WRITE,) * 8 + (WRITE_ZEROES,) * 3 + (TRIM, FLUSH)
+
+
+def random_flags(rng, kind):
+    if rng.random() < 0.04:
+        return rng.choice((1 << rng.randint(0, 15), rng.randint(1, 65535)))
+    return rng.choice((0, 0, 0, 0, 0, 0, 0, FUA, allowed_flags(kind) & rng.randint(0, 3)))
 
 
 def random_request(rng):
-    kind = rng.choice((READ, WRITE))
+    kind = rng.choice(KINDS)
     offset, length = rng.choice(RANGES)(rng)
-    flags = 0
     odd = rng.random()
-    if odd < 0.04:
-        flags = rng.choice((1 << rng.randint(0, 15), rng.randint(1, 65535)))
-    elif odd < 0.08:
-        kind = rng.choice((3, 4, 5, 6, 7, rng.randint(8, 65535)))
-    elif odd < 0.10:
-        kind = READ
+    if odd < 0.03:
+        kind = rng.choice((5, 7, rng.randint(8, 65535)))
+    elif odd < 0.05:
+        kind = rng.choice((READ, WRITE_ZEROES, TRIM, FLUSH))
         offset, length = far_too_long(rng)
+    elif odd < 0.051:
+        kind = WRITE_ZEROES
+        offset, length = rng.randint(0, 9), IMAGE_BYTES // rng.choice((2, 4)) - rng.randint(0, 9)
     data = rng.randbytes(length) if kind == WRITE else b""
-    return Request(flags, kind, rng.getrandbits(64), offset, length, data)
+    return Request(random_flags(rng, kind), kind, rng.getrandbits(64), offset, length, data)
+
+
+def next_request(rng, words):
+    """The next request and its error."""
+    while True:
+        request = random_request(rng)
+        error = error_of(request, words.read_only)
+        if not words.whole_blocks or error == whole_blocks_error(request):
+            return request, error
 
 
 # To the program and back
@@ -164,11 +217,11 @@ def send_all(to_program, words, image, due, counts):
     waiting = bytearray()
     try:
         for number in range(words.requests):
-            request = random_request(rng)
-            reply = answer(image, request)
+            request, error = next_request(rng, words)
+            reply = answer(image, request, error)
             due.put(Due(number, request, reply))
             waiting += request_bytes(request)
-            counts["refused"] += is_refused(request)
+            counts["refused"] += error != 0
             counts["sent"] += 28 + len(request.data)
             write_in_pieces(to_program, rng, waiting, LARGEST_PIECE)
         waiting += request_bytes(Request(0, DISC, rng.getrandbits(64), 0, 0, b""))
@@ -217,8 +270,11 @@ def run(words, folder):
         file.write(image)
     counts = {"refused": 0, "sent": 0, "got": 0}
     due = queue.SimpleQueue()
+    options = ["--transmission"] + ["--read-only"] * words.read_only
+    if words.align:
+        options += ["--align", str(words.align)]
     program = subprocess.Popen(
-        [os.path.abspath(words.program), "--transmission", path],
+        [os.path.abspath(words.program)] + options + [path],
         stdin=subprocess.PIPE,
         stdout=subprocess.PIPE,
         bufsize=0,
@@ -242,6 +298,9 @@ def run(words, folder):
 def main():
     parser = argparse.ArgumentParser(description="Random requests, compared with a plain model.")
     parser.add_argument("program", nargs="?", default=PROGRAM)
+    parser.add_argument("--whole-blocks", action="store_true", help="only what a program of whole blocks answers so")
+    parser.add_argument("--align", type=int, choices=(512, 4096), help="the size of the program's blocks")
+    parser.add_argument("--read-only", action="store_true", help="the program serves the image read-only")
     parser.add_argument("--requests", type=int, default=100_000)
     parser.add_argument("--seed", type=int, default=1)
     words = parser.parse_args()
