@@ -13,4 +13,5 @@ pub mod Requests
 pub mod Opening
 pub mod Ready
 pub mod Plans
+pub mod Crashes
 pub mod SameDisks

@@ -1,6 +1,6 @@
 -- The disks of the core behind an event.
-use Rattle.std.proofs.Common.{◌≡◌, ℕ, zero, suc, ◌≤◌, inl, inr, List, [], ◌∷◌, length, map, sym, ap, subst, ◌∙◌, refl, arith}
-use Rattle.std.proofs.lemmas.List.{length-map, length-set}
+use Rattle.std.proofs.Common.{◌≡◌, ℕ, zero, suc, ◌≤◌, inl, inr, List, [], ◌∷◌, length, map, sym, subst, ◌∙◌, refl, arith}
+use Rattle.std.proofs.lemmas.List.{length-map}
 use Rattle.std.specs.Prelude.{Some, None}
 use Rattle.qs_outside.specs.Blocks.{Seen, Fixed}
 use Rattle.qs_image.specs.Image.{SameDisks, disk}
@@ -24,7 +24,7 @@ disk_at seen (s ∷ ss) zero = refl
 disk_at seen (s ∷ ss) (suc j) = disk_at seen ss j
 
 -- the same disks, where each is
-same_each : (old new : List Seen) → length new ≡ length old → ((k : ℕ) → Fixed (disk old k) (disk new k) × ((disk old k).faults ≤ (disk new k).faults)) → SameDisks old new
+pub same_each : (old new : List Seen) → length new ≡ length old → ((k : ℕ) → Fixed (disk old k) (disk new k) × ((disk old k).faults ≤ (disk new k).faults)) → SameDisks old new
 same_each old new count each = record {
   count = count;
   stripe = λ k. (each k).0.stripe;

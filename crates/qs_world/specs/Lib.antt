@@ -9,3 +9,4 @@ pub mod Follows
 pub mod Cores
 pub mod Bodies
 pub mod Openings
+pub mod Crashing

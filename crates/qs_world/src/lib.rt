@@ -3,6 +3,7 @@
 #![tactic(auto)]
 
 mod asking;
+mod crash;
 mod disks;
 mod inner;
 pub mod live;

@@ -1,6 +1,6 @@
 use crate::world::World;
 use qs_bytes::{Ask, Bytes, Errno, Kind, Name, Verdict};
-use qs_outside::{Fail, MemDisk};
+use qs_outside::{CrashChoice, Fail, MemDisk, Picks};
 use qs_part::event::{Actor, Event, GraphNote, Note, NoteReply, Outcome, StripeNote};
 use qs_part::tracker::TrackerReply;
 use qs_status::OpenBad;
@@ -23,6 +23,8 @@ enum Act {
     Step(u64),
     StepSession(u32),
     Plan(u8, Fail),
+    /// Each block is left as it was stored this often, and the export is made anew, read-only.
+    Crash(u64),
 }
 
 /// What came of it. Of a READ the first and the last byte are told.
@@ -50,6 +52,7 @@ enum Said {
     Dropped,
     NotNext,
     Planned,
+    Crashed,
     Other,
 }
 
@@ -155,7 +158,7 @@ fn event(alloc: Global, act: Act) -> Result<Event, Failure> {
         Act::WrongBuffer(s) => asked(s, ask(Kind::Read, 0, 4), Some(bytes(alloc, 5, 0)?)),
         Act::Step(r) => stepped(Actor::Request(r)),
         Act::StepSession(s) => stepped(Actor::Session(s)),
-        Act::Plan(_, _) => Event::Leave { session: 99 },
+        Act::Plan(_, _) | Act::Crash(_) => Event::Leave { session: 99 },
     })
 }
 
@@ -171,6 +174,12 @@ fn play(
                 assert!(rt; stripe < 8);
                 world.plan(stripe, fail);
                 Said::Planned
+            }
+            Act::Crash(rest) => {
+                let picks = Picks([(0, 1)].to_vec(alloc)?);
+                world.crash(&CrashChoice { rest, picks });
+                world.export_disk(name(b"disk")?, false)?;
+                Said::Crashed
             }
             other => told(&world.step(event(alloc, other)?)),
         };
@@ -384,6 +393,41 @@ fn a_session_leaves_and_is_detached(rt: HostRuntime) -> Result<(), Failure> {
         (Act::StepSession(1), Said::Detached),
         (Act::StepSession(1), Said::NotNext),
         (Act::Attach(1), Said::Attached(4096, true)),
+    ];
+    play(&rt, rt.alloc(), &mut world, &script)
+}
+
+#[test]
+fn a_crash_leaves_the_image_alone_and_numbers_go_on(rt: HostRuntime) -> Result<(), Failure> {
+    let mut world = world(rt.alloc())?;
+    let script = [
+        (Act::Attach(1), Said::Attached(4096, true)),
+        (Act::Write(1, 0, 512, 0x11), Said::Made(0)),
+        (Act::Step(0), Said::Enter(0)),
+        (Act::Step(0), Said::Route(0, 4096)),
+        (Act::Step(0), Said::Listed(0)),
+        (Act::Step(0), Said::Started),
+        (Act::Step(0), Said::Stored(0)),
+        (Act::Step(0), Said::Fine),
+        (Act::Write(1, 514, 4, 0x22), Said::Made(1)),
+        (Act::Step(1), Said::Enter(0)),
+        (Act::Step(1), Said::Route(0, 4096)),
+        (Act::Step(1), Said::Listed(1)),
+        (Act::Step(1), Said::Started),
+        (Act::Step(1), Said::Filled(1)),
+        (Act::Plan(0, Fail::Load), Said::Planned),
+        (Act::Crash(0), Said::Crashed),
+        (Act::Step(1), Said::NotNext),
+        (Act::Leave(1), Said::NotNext),
+        (Act::Attach(2), Said::Attached(4096, false)),
+        (Act::Read(2, 0, 1024), Said::Made(2)),
+        (Act::Step(2), Said::Enter(0)),
+        (Act::Step(2), Said::Route(0, 4096)),
+        (Act::Step(2), Said::Listed(0)),
+        (Act::Step(2), Said::Started),
+        (Act::Step(2), Said::Filled(0)),
+        (Act::Step(2), Said::Filled(1)),
+        (Act::Step(2), Said::Got(1024, 0x11, 0)),
     ];
     play(&rt, rt.alloc(), &mut world, &script)
 }

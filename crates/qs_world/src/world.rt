@@ -1,16 +1,18 @@
 ghost use Rattle.std.specs.Prelude.{◌≡◌, ◌↔◌, ◌<◌, ◌&&◌, false, map, MatchResult};
 ghost use Rattle.qs_part.specs.declared.event.Outcome.TheVariants.{NotNext};
 ghost use Rattle.qs_model.specs.Worlds.{World as Model_};
+ghost use Rattle.qs_world.specs.Crashing.{Crashed};
 ghost use Rattle.qs_world.specs.Events.{HasCause, IsNotNext, StepsTo};
 ghost use Rattle.qs_world.specs.Openings.{ComeBack, Exports, HasNoExport, IsOpened, Planned};
 ghost use Rattle.qs_world.specs.Stands.{Stands};
 
+use crate::crash::crash_all;
 use crate::disks::{put_away, put_back};
 use crate::inner::Core;
 use qs_bytes::{Memory, Name};
 use qs_graph::graph::Graph;
 use qs_image::open_fault;
-use qs_outside::{Disk, Fail, RiggedDisk};
+use qs_outside::{CrashChoice, Disk, Fail, RiggedDisk};
 use qs_part::event::{Event, Outcome};
 use qs_request::Shape;
 use qs_status::OpenBad;
@@ -136,5 +138,17 @@ impl<D: RiggedDisk + Drop> World<D> {
         ensures { Planned D.Disk.seen self.old stripe fail self.new }
     {
         self.core.stripes[usize::from(stripe)].plan(fail);
+    }
+
+    /// The power fails: each disk crashes, and requests, sessions and exports are gone, as [`World::new`] left them;
+    /// the numbers of requests go on. It takes no memory.
+    pub fn crash(&mut self, choice: &CrashChoice)
+        ensures { Crashed D.Disk.seen self.old choice.now self.new }
+    {
+        crash_all(&mut self.core.stripes, choice);
+        self.core.requests.clear();
+        self.core.sessions.clear();
+        self.core.graph.reset();
+        self.core.tracker.reset();
     }
 }
