@@ -1,20 +1,25 @@
 -- The step of an input is one step, but for what a crash may leave of a stored block.
 use Rattle.std.proofs.Common.{◌≡◌, ℕ, Bool, if◌then◌else◌, ◌==◌, List, [], ◌∷◌, Option, Some, IsTrue, refl, sym, ◌∙◌, subst}
 use Rattle.qs_bytes.specs.declared.ask.Ask.{Ask}
+use Rattle.qs_outside.specs.declared.crash.CrashChoice.{CrashChoice}
 use Rattle.qs_outside.specs.declared.rigged_disk.Fail.{Fail}
 use Rattle.qs_part.specs.declared.event.Actor.{Actor}
 use Rattle.qs_part.specs.declared.event.Actor.TheVariants.{Session as ASession, Request as ARequest}
 use Rattle.qs_part.specs.declared.event.Event.TheVariants.{Attach, Leave, Ask as AskEvent, Step as StepEvent}
+use Rattle.qs_part.specs.declared.graph.GraphOp.{GraphOp}
+use Rattle.qs_part.specs.declared.graph.GraphOp.TheVariants.{ExportAdd}
+use Rattle.qs_part.specs.declared.graph.GraphReply.TheVariants.{Added}
+use Rattle.qs_graph.specs.Table.{GraphValue, May as GraphMay}
 use Rattle.qs_model.specs.Puts.{put}
 use Rattle.qs_model.specs.Requests.{Client, Pads, Req, Stage}
 use Rattle.qs_model.specs.Worlds.{World}
 use Rattle.qs_bytes.specs.Geometry.{stripe_of}
-use Rattle.qs_model.specs.Acts.{Act, Stores, StoreFails, Syncs, Element, Attached, NoExport, Crowded, Left, Detached, NotAttached, Asked, Did, Planned, Crashed}
+use Rattle.qs_model.specs.Acts.{Act, Stores, StoreFails, Syncs, Element, Attached, NoExport, Crowded, Left, Detached, NotAttached, Asked, Did, Exported, Planned, Crashed}
 use Rattle.qs_model.specs.Guards.{May, CanAsk}
 use Rattle.qs_model.specs.Steps.{happens}
 use Rattle.qs_model.specs.Events.{outcome_of}
 use Rattle.qs_model.specs.Histories.{IsOddStep}
-use Rattle.qs_determined.specs.Determined.{Alike, Input, Happens, Fails, IsGivenAlike, IsInput, IsUndisturbed}
+use Rattle.qs_determined.specs.Determined.{Alike, Input, Happens, Fails, Cuts, Makes, IsGivenAlike, IsInput, IsUndisturbed}
 use Rattle.qs_determined.proofs.States.{with_past, alike_is}
 use Rattle.qs_determined.proofs.Rows.{Due, keeping, row_one}
 use Rattle.qs_determined.proofs.Events.{info_one, crowded_never, found_never, live_one, leaving_one, session_one, asked_one}
@@ -70,6 +75,14 @@ pub record Comes (A : ℕ) (w : World) (input : Input) (e : Element) : Type 0 wh
   pub is : IsInput input e
   pub undisturbed : IsUndisturbed A w e
   pub plain : IsOddStep e → ⊥
+
+-- an export is made at one place
+place_one : (found : Option ℕ) (e k : ℕ) → found ≡ Some e → found ≡ Some k → k ≡ e
+place_one found e k a b = cc
+
+pub added_one : (graph : GraphValue) (op : GraphOp) (e k : ℕ) → GraphMay graph op (Added e) → GraphMay graph op (Added k) → k ≡ e
+added_one graph (ExportAdd id name node writable share) e k a b = place_one _ e k a.1 b.1
+added_one graph op e k a b = absurd a
 
 -- an actor is one request or one session
 pub request_one : (actor : Actor) (r s : ℕ) → actor ≡ ARequest r → actor ≡ ARequest s → s ≡ r
@@ -167,6 +180,18 @@ module _ (A : ℕ) (w : World) (past : ℕ → List (List ℕ)) where
   fail_one j fail (Planned i x) d h g = absurd g.is
   fail_one j fail e d h g = absurd h.is
 
+  pub cut_one : (choice : CrashChoice) (left : ℕ → List ℕ) (e d : Element) → Comes A w (Cuts choice left) e → Comes A (with_past w past) (Cuts choice left) d → OneStep e d
+  cut_one choice left (Crashed one) (Crashed other) h g = ([], λ n. Crashed (λ b. (g.is b ∙ sym (h.is b)) n))
+  cut_one choice left (Crashed one) d h g = absurd g.is
+  cut_one choice left e d h g = absurd h.is
+
+  pub export_one : (op : GraphOp) (e d : Element) → Comes A w (Makes op) e → Comes A (with_past w past) (Makes op) d → OneStep e d
+  export_one op (Exported one e) (Exported other k) h g =
+      let same : other ≡ one = g.is ∙ sym h.is in
+      ([], λ n. Exported (same n) (added_one w.graph one e k h.may (subst (λ (o : GraphOp). GraphMay w.graph o (Added k)) same g.may) n))
+  export_one op (Exported one e) d h g = absurd g.is
+  export_one op e d h g = absurd h.is
+
   -- the step of an input
   pub input_one : (input : Input) (e d : Element) → IsTrue w.tells → IsGivenAlike e d → Comes A w input e → Comes A (with_past w past) input d → OneStep e d
   input_one (Happens (Attach session name)) e d told given h g = attach_one session name e d h g
@@ -174,6 +199,8 @@ module _ (A : ℕ) (w : World) (past : ℕ → List (List ℕ)) where
   input_one (Happens (AskEvent session ask body)) e d told given h g = ask_one session ask body e d given h g
   input_one (Happens (StepEvent actor now)) e d told given h g = step_one actor now e d told h g
   input_one (Fails j fail) e d told given h g = fail_one j fail e d h g
+  input_one (Cuts choice left) e d told given h g = cut_one choice left e d h g
+  input_one (Makes op) e d told given h g = export_one op e d h g
 
 -- the law
 pub one_outcome : (A : ℕ) (w v : World) (input : Input) (e d : Element) → IsTrue w.tells → Alike w v → IsGivenAlike e d →

@@ -1,23 +1,32 @@
--- What fixes a run: its events, its planned failures, and what the disks held.
-use Rattle.std.specs.Prelude.{◌≡◌, ℕ, true, Some}
+-- What fixes a run: its events, its planned failures, what its crashes left, and what the disks held.
+use Rattle.std.specs.Prelude.{◌≡◌, ℕ, List, true, Some}
+use Rattle.qs_outside.specs.declared.crash.CrashChoice.{CrashChoice}
 use Rattle.qs_outside.specs.declared.rigged_disk.Fail.{Fail}
 use Rattle.qs_part.specs.declared.event.Event.{Event}
+use Rattle.qs_part.specs.declared.graph.GraphOp.{GraphOp}
 use Rattle.qs_model.specs.Requests.{Client, Stage, edge}
 use Rattle.qs_model.specs.Worlds.{World}
 use Rattle.qs_bytes.specs.Geometry.{stripe_of}
-use Rattle.qs_model.specs.Acts.{Act, LoadFails, HoldFails, StoreFails, SyncFails, Element, Asked, Did, Planned}
+use Rattle.qs_model.specs.Acts.{Act, LoadFails, HoldFails, StoreFails, SyncFails, Element, Asked, Did, Exported, Planned, Crashed}
 use Rattle.qs_model.specs.Events.{IsEvent}
 
--- what comes from outside: an event, or a failure that is planned for the disk of a stripe
+-- What comes from outside: an event; a failure that is planned for the disk of a stripe; a crash, with what was chosen and the
+-- blocks that it left; or the making of an export by an operation of the graph.
 pub data Input : Type 0 where
   Happens : Event → Input
   Fails : (j : ℕ) → Fail → Input
+  Cuts : CrashChoice → (left : ℕ → List ℕ) → Input
+  Makes : GraphOp → Input
 
 -- the step that an input makes
 abbrev pub IsInput : Input → Element → Type 0
 IsInput (Happens event) e = IsEvent event e
 IsInput (Fails j fail) (Planned i kind) = (i ≡ j) × (kind ≡ fail)
 IsInput (Fails j fail) _ = ⊥
+IsInput (Cuts choice left) (Crashed blocks) = (b : ℕ) → blocks b ≡ left b
+IsInput (Cuts choice left) _ = ⊥
+IsInput (Makes op) (Exported made place) = made ≡ op
+IsInput (Makes op) _ = ⊥
 
 -- A row in which the disk failed: that was planned, and a store that failed left what its plan says.
 abbrev pub IsRowPlanned : ℕ → World → Client → {stage : Stage} → Act stage → Type 0
