@@ -334,10 +334,13 @@ name=qsd_stdio program=$stdio
 says 2 "a word is missing" empty output
 says 2 "a word is missing" empty output --transmission
 says 2 "the word \"--foo\" isn't understood" empty output --foo disk.img
-says 2 "the word \"--read-only\" isn't understood" empty output --transmission --read-only
+says 2 "a word is missing" empty output --transmission --read-only --align
+says 2 "the word \"1024\" isn't understood" empty output --transmission --align 1024 disk.img
+says 2 "the word \"--read-only\" isn't understood" empty output --read-only --transmission --read-only disk.img
 says 2 "the word \"more\" isn't understood" empty output --transmission disk.img more
 says 2 "a word isn't text in UTF-8" empty output --transmission $'\xff'
 says 3 '"odd.img": its length, 700 bytes, is no multiple of 512' empty output --transmission odd.img
+says 3 '"odd.img": its length, 700 bytes, is no multiple of 4096' empty output --transmission --align 4096 odd.img
 says 3 '"large.img": its length, 1099511628288 bytes, is over 2^40' empty output --transmission large.img
 says 4 "standard input can't be read: Is a directory" . output "${words[@]}"
 says 5 "standard output can't be written: No space left on device" read /dev/full "${words[@]}"

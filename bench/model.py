@@ -1,6 +1,6 @@
 """Random requests to the program, with a plain model that says each reply and the final image.
 
-    python3 bench/model.py [PROGRAM] [--whole-blocks] [--align N] [--read-only] [--requests N] [--seed S]
+    python3 bench/model.py [PROGRAM] [--align N] [--read-only] [--requests N] [--seed S]
 
 Makes an image of 8 MiB of random bytes, sends N requests (100,000 if left out) to
 `PROGRAM --transmission IMAGE` in pieces cut at random, and compares every byte that it answers, its
@@ -8,9 +8,6 @@ exit status and the image at the end with what the model says. READ, WRITE, WRIT
 FLUSH, FUA and the other flags, at any offset and of any length; --align and --read-only are handed to the
 program. Prints one line; exits with 1 where anything differs. The same seed gives the same requests in
 the same pieces.
-
-With --whole-blocks a request is left out where a program that serves READs and WRITEs of whole blocks
-alone, without flags, and answers EINVAL to everything else, would give another answer.
 """
 import argparse
 import collections
@@ -75,18 +72,6 @@ def error_of(request, read_only):
     if request.offset + request.length > IMAGE_BYTES:
         return ENOSPC if request.kind in (WRITE, WRITE_ZEROES) else EINVAL
     return 0
-
-
-def whole_blocks_error(request):
-    """The answer of a program that serves READs and WRITEs of whole blocks, and refuses all else."""
-    return (
-        request.kind not in (READ, WRITE)
-        or request.flags != 0
-        or (request.kind == READ and request.length > LONGEST)
-        or request.offset % BLOCK != 0
-        or request.length % BLOCK != 0
-        or request.offset + request.length > IMAGE_BYTES
-    ) and EINVAL
 
 
 def answer(image, request, error):
@@ -188,11 +173,8 @@ def random_request(rng):
 
 def next_request(rng, words):
     """The next request and its error."""
-    while True:
-        request = random_request(rng)
-        error = error_of(request, words.read_only)
-        if not words.whole_blocks or error == whole_blocks_error(request):
-            return request, error
+    request = random_request(rng)
+    return request, error_of(request, words.read_only)
 
 
 # To the program and back
@@ -298,7 +280,6 @@ def run(words, folder):
 def main():
     parser = argparse.ArgumentParser(description="Random requests, compared with a plain model.")
     parser.add_argument("program", nargs="?", default=PROGRAM)
-    parser.add_argument("--whole-blocks", action="store_true", help="only what a program of whole blocks answers so")
     parser.add_argument("--align", type=int, choices=(512, 4096), help="the size of the program's blocks")
     parser.add_argument("--read-only", action="store_true", help="the program serves the image read-only")
     parser.add_argument("--requests", type=int, default=100_000)

@@ -1,6 +1,6 @@
 """Speed of the program beside that of the floor: requests a second and MB a second over a pipe.
 
-    python3 bench/speed.py [PROGRAM] [--whole-blocks] [--align N] [--only WORK] [--seconds S] [--rounds N]
+    python3 bench/speed.py [PROGRAM] [--align N] [--only WORK] [--seconds S] [--rounds N]
 
 READs and WRITEs of 4 KiB and of 256 KiB at random places, one at a time and 16 in flight; a WRITE of
 4 KiB or of 1 MiB and a FLUSH behind it; a WRITE_ZEROES of 256 MiB. Each at multiples of its size and one
@@ -9,9 +9,6 @@ each case N times for S seconds, the program and the floor one after the other, 
 each as a table. `processor` is the time of a processor, in microseconds a request, that the server used,
 and behind the slash the client. A second table has the calls of the system that a request makes, counted
 by strace where it is there.
-
-With --whole-blocks only READs and WRITEs at multiples of their size are made, and no --align is given to
-the program: for one that serves nothing else.
 """
 import argparse
 import collections
@@ -178,7 +175,6 @@ def print_calls(client, servers, cases, folder):
 def read_words():
     parser = argparse.ArgumentParser(description="Speed of the program beside that of the floor.")
     parser.add_argument("program", nargs="?", default=PROGRAM)
-    parser.add_argument("--whole-blocks", action="store_true", help="only what a program of whole blocks serves")
     parser.add_argument("--align", type=int, choices=(512, 4096), help="blocks of one size alone")
     parser.add_argument("--only", choices=sorted(KINDS), help="one kind of work alone")
     parser.add_argument("--seconds", type=float, default=2.0, help="the time of one run")
@@ -192,8 +188,6 @@ def read_words():
 def cases_of(words):
     """Each case with the size of its blocks."""
     cases = [case for case in CASES if words.only in (None, case.work)]
-    if words.whole_blocks:
-        return [(case, 512) for case in cases if case.work in ("read", "write") and case.shift == 0]
     aligns = [words.align] if words.align else [512, 4096]
     return [(case, align) for case in cases for align in aligns]
 
@@ -208,8 +202,7 @@ def main():
         image = make_image(folder)
 
         def servers(align):
-            options = [] if words.whole_blocks else ["--align", str(align)]
-            return [os.path.abspath(words.program), "--transmission"] + options + [image], [floor, image]
+            return [os.path.abspath(words.program), "--transmission", "--align", str(align), image], [floor, image]
 
         print_speeds(client, servers, cases, words.seconds, words.rounds)
         print()

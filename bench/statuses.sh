@@ -53,8 +53,11 @@ words=(--transmission disk.img)
 
 try 0 "a DISC" disc output "${words[@]}"
 try 0 "the input's end between requests" read output "${words[@]}"
+try 0 "an image that is read-only, in blocks of 4096 bytes" read output --align 4096 --read-only "${words[@]}"
 try 2 "no word" empty output
 try 2 "no IMAGE" empty output --transmission
+try 2 "no number behind --align" empty output --transmission --align
+try 2 "an option that stands twice" empty output --read-only --read-only "${words[@]}"
 try 2 "a word too many" empty output "${words[@]}" disk.img
 try 2 "a word that isn't UTF-8" empty output --transmission $'\xff'
 try 3 "an image of 700 bytes" empty output --transmission odd.img

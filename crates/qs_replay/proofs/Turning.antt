@@ -39,10 +39,6 @@ put_reads o p a b given puts reads = by_state a.state b.state reads (puts.moved 
 pub open_reads : (s : State) → s ≡ state.Open → s ≢ state.ReadFault
 open_reads s is = λ e. let both : state.Open ≡ state.ReadFault = sym is ∙ e in absurd (cc)
 
--- nothing was put
-pub puts_none : (o : Side) (a : Buffers) → Puts [] o a o a
-puts_none o a = record { waiting = refl; moved = λ input. moved_none (record { input = input; output = o; stream = a }) }
-
 -- the line was done, and what it printed was put; or it wasn't done to its end
 pub puts_text : {D : Type 0} (seen : D → Seen) (old played new : Desk D) (o p : Side) (a b : Buffers) (text : List ℕ) → old.out ≡ [] →
     PlaysText seen old text (Ok tt) played → Puts played.out o a p b → new.world ≡ played.world → new.table ≡ played.table →

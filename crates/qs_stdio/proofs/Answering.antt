@@ -162,7 +162,3 @@ bare_body a body bare none = record {
 -- data that follow are some
 pub some_data : (a : Ask) → has_data a ≡ true → 0 < a.length
 some_data a is = grind (arith, nat_tests)
-
--- nothing was put
-pub puts_none : (o : Side) (a : Buffers) → Puts [] o a o a
-puts_none o a = record { waiting = refl; moved = λ input. moved_none (record { input = input; output = o; stream = a }) }

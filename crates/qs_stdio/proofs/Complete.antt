@@ -1,5 +1,6 @@
 -- A valid stream is served to its end.
 use Rattle.std.proofs.Common.{◌≡◌, ◌≢◌, ℕ, ◌≤◌, ◌^◌, ◌⊎◌, inl, inr, Bool, true, false, not, List, [], ◌∷◌, ◌++◌, length, refl, sym, ap, ◌∙◌, subst, arith, append-nil, append_assoc, length-append}
+use Rattle.std.proofs.lemmas.Option.{none-some}
 use Rattle.std.specs.Prelude.{Option, None, Some, String, map}
 use Rattle.std.specs.Global.{Global}
 use Rattle.std.specs.List.{All, AllByRecursion, flat_map}
@@ -25,7 +26,8 @@ use Rattle.qs_nbd_transmission.proofs.Streams.{same_head, message_once, first_of
 use Rattle.qs_outside.specs.Blocks.{Seen}
 use Rattle.qs_image.specs.Image.{size_of}
 use Rattle.qs_image.specs.Opening.{IsImage, Opens}
-use Rattle.qs_stdio.specs.Words.{IsCommand}
+use Rattle.qs_stdio.specs.declared.words.StdioWords.{StdioWords}
+use Rattle.qs_stdio.specs.Words.{command}
 use Rattle.qs_stdio.specs.Service.{Exchange, AllFit, asked}
 use Rattle.qs_stream.specs.Bytes.{Takes}
 use Rattle.qs_stdio.specs.Scenes.{Scene, IsCut, disks_in}
@@ -214,18 +216,18 @@ module _ {D : Type 0} (seen : D → Seen) (session : ℕ) (writable : Bool) (str
 
 -- a valid stream over an image, without a fault of its ends, is served
 pub complete_of : {D : Type 0} (seen : D → Seen) (words : List (String Global)) (disks disks' : List D) (input output : Side) (result : Status) (input' output' : Side) (stream : List ℕ) →
-    Ran words seen disks input output result disks' input' output' → input.bytes ≡ Some stream → IsValidStream stream → IsCommand words → IsImage (map seen disks) →
+    Ran words seen disks input output result disks' input' output' → input.bytes ≡ Some stream → IsValidStream stream → (told : StdioWords) → command words ≡ Some told → IsImage (map seen disks) →
     (result ≡ status.ReadFault → ⊥) → (result ≡ status.WriteFault → ⊥) → IsServed result
-complete_of seen words disks disks' input output status.Done input' output' stream ran is valid command image read write = inl refl
-complete_of seen words disks disks' input output status.Memory input' output' stream ran is valid command image read write = inr refl
-complete_of seen words disks disks' input output status.Usage input' output' stream ran is valid command image read write = absurd (ran.0 command)
-complete_of seen words disks disks' input output (status.OpenBad fault) input' output' stream ran is valid command image read write =
-    absurd (opens_not (map seen disks) fault image ran.1.0)
-complete_of seen words disks disks' input output status.ReadFault input' output' stream ran is valid command image read write = absurd (read refl)
-complete_of seen words disks disks' input output status.WriteFault input' output' stream ran is valid command image read write = absurd (write refl)
-complete_of seen words disks disks' input output (status.BadLine n) input' output' stream ran is valid command image read write = absurd ran.1.sits.sits.ends
-complete_of seen words disks disks' input output (status.NotNext n) input' output' stream ran is valid command image read write = absurd ran.1.sits.sits.ends
-complete_of seen words disks disks' input output status.Spent input' output' stream ran is valid command image read write =
-    absurd (not_spent seen 0 true stream (first input output ran.1.sits.begun) (last_scene input' output' ran.1.sits.stream ran.1.new) valid is refl ran.1.sits.sits)
-complete_of seen words disks disks' input output (status.Ended e) input' output' stream ran is valid command image read write =
-    absurd (not_ended seen 0 true stream (first input output ran.1.sits.begun) (last_scene input' output' ran.1.sits.stream ran.1.new) valid is refl e ran.1.sits.sits)
+complete_of seen words disks disks' input output status.Done input' output' stream ran is valid told command image read write = inl refl
+complete_of seen words disks disks' input output status.Memory input' output' stream ran is valid told command image read write = inr refl
+complete_of seen words disks disks' input output status.Usage input' output' stream ran is valid told command image read write = absurd (none-some told (sym ran.0 ∙ command))
+complete_of seen words disks disks' input output (status.OpenBad fault) input' output' stream ran is valid told command image read write =
+    absurd (opens_not (map seen disks) fault image ran.2.0)
+complete_of seen words disks disks' input output status.ReadFault input' output' stream ran is valid told command image read write = absurd (read refl)
+complete_of seen words disks disks' input output status.WriteFault input' output' stream ran is valid told command image read write = absurd (write refl)
+complete_of seen words disks disks' input output (status.BadLine n) input' output' stream ran is valid told command image read write = absurd ran.2.sits.sits.ends
+complete_of seen words disks disks' input output (status.NotNext n) input' output' stream ran is valid told command image read write = absurd ran.2.sits.sits.ends
+complete_of seen words disks disks' input output status.Spent input' output' stream ran is valid told command image read write =
+    absurd (not_spent seen 0 (not ran.0.read_only) stream (first input output ran.2.sits.begun) (last_scene input' output' ran.2.sits.stream ran.2.new) valid is refl ran.2.sits.sits)
+complete_of seen words disks disks' input output (status.Ended e) input' output' stream ran is valid told command image read write =
+    absurd (not_ended seen 0 (not ran.0.read_only) stream (first input output ran.2.sits.begun) (last_scene input' output' ran.2.sits.stream ran.2.new) valid is refl e ran.2.sits.sits)

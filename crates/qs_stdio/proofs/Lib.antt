@@ -1,3 +1,4 @@
+pub mod FromLeft
 pub mod Answering
 pub mod Sought
 pub mod Turning

@@ -1,6 +1,6 @@
 -- From the words to the status.
 use Rattle.std.proofs.Common.{◌≡◌, ℕ, ◌^◌, inl, inr, Bool, false, not, List, [], ◌∷◌, ◌++◌, map, codes, refl, sym, ap, ◌∙◌, subst, arith}
-use Rattle.std.specs.Prelude.{String}
+use Rattle.std.specs.Prelude.{Some, String}
 use Rattle.std.specs.Global.{Global}
 use Rattle.qs_status.specs.declared.status.Status.{Status}
 use Rattle.qs_status.specs.declared.status.Status.TheVariants as status
@@ -20,7 +20,8 @@ use Rattle.qs_calls.proofs.Runs.{has_run}
 use Rattle.qs_single.specs.Resting.{Attaches}
 use Rattle.qs_single.proofs.Attaching.{disks_are}
 use Rattle.qs_stdio.specs.Service.{CalledAll, LeadsAll, rounds}
-use Rattle.qs_stdio.specs.Words.{IsCommand}
+use Rattle.qs_stdio.specs.declared.words.StdioWords.{StdioWords}
+use Rattle.qs_stdio.specs.Words.{command}
 use Rattle.qs_stdio.specs.Runs.{Holds, Idles, Ran, Serves, ServesStream, Sits, Sitting, first, last_scene, side_of}
 use Rattle.qs_stream.specs.Buffers.{Buffers}
 use Rattle.qs_stream.specs.declared.state.State.TheVariants as state
@@ -91,9 +92,9 @@ serves_back seen read_only disks back input output _ input' output' is idle = ab
 
 -- with the words of the command
 pub ran_of : {D : Type 0} (seen : D → Seen) (words : List (String Global)) (disks : List D) (input output : Side) (result : Status) (disks' : List D) (input' output' : Side) →
-    IsCommand words → Serves seen false disks input output result disks' input' output' → Ran words seen disks input output result disks' input' output'
-ran_of seen words disks input output status.Usage disks' input' output' command serves = absurd serves
-ran_of seen words disks input output other disks' input' output' command serves = (command, serves)
+    (told : StdioWords) → command words ≡ Some told → Serves seen told.read_only disks input output result disks' input' output' → Ran words seen disks input output result disks' input' output'
+ran_of seen words disks input output status.Usage disks' input' output' told is serves = absurd serves
+ran_of seen words disks input output other disks' input' output' told is serves = (told, is, serves)
 
 -- the counts of a run
 idle_rises : (input output input' output' : Side) → Idles input output input' output' → Rises state.Open input.faults input'.faults output.faults output'.faults
@@ -109,14 +110,14 @@ sits_rises seen disks read_only budget input output start result input' output' 
 pub rises_of : {D : Type 0} (seen : D → Seen) (words : List (String Global)) (disks : List D) (input output : Side) (result : Status) (disks' : List D) (input' output' : Side) →
     Ran words seen disks input output result disks' input' output' → Rises (side_of result) input.faults input'.faults output.faults output'.faults
 rises_of seen words disks input output status.Usage disks' input' output' ran = idle_rises input output input' output' ran.2
-rises_of seen words disks input output (status.OpenBad bad) disks' input' output' ran = idle_rises input output input' output' ran.1.2
-rises_of seen words disks input output status.Memory disks' input' output' ran = elim ran.1 [
+rises_of seen words disks input output (status.OpenBad bad) disks' input' output' ran = idle_rises input output input' output' ran.2.2
+rises_of seen words disks input output status.Memory disks' input' output' ran = elim ran.2 [
   | inl idle ↦ idle_rises input output input' output' idle.1
-  | inr holds ↦ sits_rises seen disks false (2 ^ 32) input output holds.start status.Memory input' output' holds.new holds.sits
+  | inr holds ↦ sits_rises seen disks ran.0.read_only (2 ^ 32) input output holds.start status.Memory input' output' holds.new holds.sits
 ]
 rises_of seen words disks input output other disks' input' output' ran =
-    let holds = ran.1 in
-    sits_rises seen disks false (2 ^ 32) input output holds.start other input' output' holds.new holds.sits
+    let holds = ran.2 in
+    sits_rises seen disks ran.0.read_only (2 ^ 32) input output holds.start other input' output' holds.new holds.sits
 
 -- which side failed
 pub read_rose : (result : Status) (r r' w w' : ℕ) → Rises (side_of result) r r' w w' → result ≡ status.ReadFault → Rose r r'

@@ -1,5 +1,5 @@
 -- What `run_stdio` does, from its words to its status.
-use Rattle.std.specs.Prelude.{◌≡◌, ◌^◌, ℕ, ◌⊎◌, Bool, false, not, List, [], ◌∷◌, ◌++◌, length, map, codes, Some, String, Result, Ok, Err}
+use Rattle.std.specs.Prelude.{◌≡◌, ◌^◌, ℕ, ◌⊎◌, Bool, false, not, List, [], ◌∷◌, ◌++◌, length, map, codes, None, Some, String, Result, Ok, Err}
 use Rattle.std.specs.Global.{Global}
 use Rattle.qs_status.specs.declared.status.Status.{Status}
 use Rattle.qs_status.specs.declared.status.Status.TheVariants as status
@@ -18,7 +18,8 @@ use Rattle.qs_stream.specs.declared.state.State.{State}
 use Rattle.qs_stream.specs.declared.state.State.TheVariants as state
 use Rattle.qs_stream.specs.Buffers.{Buffers, new_buffers}
 use Rattle.qs_stream.specs.Flows.{Flow, Moved, Side}
-use Rattle.qs_stdio.specs.Words.{IsCommand}
+use Rattle.qs_stdio.specs.declared.words.StdioWords.{StdioWords}
+use Rattle.qs_stdio.specs.Words.{command}
 use Rattle.qs_stdio.specs.Service.{Exchange, AllFit, CalledAll, LeadsAll, asked, answered, rounds}
 use Rattle.qs_stdio.specs.Scenes.{Scene, IsFront, IsWhole, Ending, disks_in}
 
@@ -117,7 +118,8 @@ Serves seen read_only disks input output status.Memory disks' input' output' =
 Serves seen read_only disks input output other disks' input' output' = Holds seen disks read_only input output other disks' input' output'
 
 -- One call of `run_stdio`: the words are tested first, then the disks; then requests are served, at most 2^32, over an export that
--- may be written.
+-- may be written unless the words say that it is read-only.
 abbrev pub Ran : {D : Type 0} → List (String Global) → (D → Seen) → List D → Side → Side → Status → List D → Side → Side → Type 0
-Ran words seen disks input output status.Usage disks' input' output' = ¬ IsCommand words × (disks' ≡ disks) × Idles input output input' output'
-Ran words seen disks input output other disks' input' output' = IsCommand words × Serves seen false disks input output other disks' input' output'
+Ran words seen disks input output status.Usage disks' input' output' = (command words ≡ None) × (disks' ≡ disks) × Idles input output input' output'
+Ran words seen disks input output other disks' input' output' =
+    (told : StdioWords) × (command words ≡ Some told) × Serves seen told.read_only disks input output other disks' input' output'

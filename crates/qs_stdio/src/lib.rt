@@ -10,7 +10,7 @@ mod session;
 mod words;
 
 pub use run::{run_stdio, serve_stream};
-pub use words::{StdioWords, stdio_words};
+pub use words::{Expected, Reading, StdioWords, stdio_words};
 
 #[cfg(test)]
 mod plain;

@@ -8,7 +8,8 @@ ghost use Rattle.qs_stdio.specs.Runs.{Ran, Serves, ServesStream, Sitting, fault_
 ghost use Rattle.qs_stdio.specs.Scenes.{scene};
 ghost use Rattle.qs_stdio.specs.Streams.{IsServed, IsValidStream};
 ghost use Rattle.qs_stdio.specs.Turns.{between};
-ghost use Rattle.qs_stdio.specs.Words.{IsCommand};
+ghost use Rattle.qs_stdio.specs.Words.{command};
+ghost use Rattle.qs_stdio.specs.declared.words.StdioWords.{StdioWords as Told};
 
 use crate::answer::SESSION;
 use crate::serve::Progress;
@@ -154,9 +155,10 @@ fn serve_disks<I: Source, O: Sink, D: Disk + Drop, C: Clock>(
 /// Serves one client over the image that the disks hold, from its input to its output, and answers how
 /// the run ended. It takes no handle, and returns.
 ///
-/// The words are those behind the program's name: `--transmission IMAGE`. The
+/// The words are those behind the program's name: `--transmission [--read-only] [--align N] IMAGE`. The
 /// input is a stream of NBD requests alone, answered in order, each by a simple reply, by the core over the
-/// file node `file0` and its export `disk`. At most 2^32 messages are read.
+/// file node `file0` and its export `disk`, which may be written unless `--read-only` stands among the words.
+/// Blocks are as the disks have them. At most 2^32 messages are read.
 ///
 /// A fault of the input or the output ends the run at that call. What was answered before stays on the
 /// image. The disks come back in their order, as the run left them.
@@ -171,7 +173,7 @@ pub fn run_stdio<I: Source, O: Sink, D: Disk + Drop, C: Clock>(
     ensures ran { Ran words.now D.seen disks.old.items (side I.left I.read_faults input.old) (side O.sent O.write_faults output.old) result
         disks.new.items (side I.left I.read_faults input.new) (side O.sent O.write_faults output.new) }
     // A valid stream is served to its end, unless memory is refused or a side fails.
-    ensures complete { (stream : List ℕ) → I.left input.old ≡ Some stream → IsValidStream stream → IsCommand words.now →
+    ensures complete { (stream : List ℕ) → I.left input.old ≡ Some stream → IsValidStream stream → (told : Told) → command words.now ≡ Some told →
         IsImage (map D.seen disks.old.items) → ¬ Rose (I.read_faults input.old) (I.read_faults input.new) →
         ¬ Rose (O.write_faults output.old) (O.write_faults output.new) → IsServed result }
     // A fault is told only where its count rose.
@@ -179,7 +181,7 @@ pub fn run_stdio<I: Source, O: Sink, D: Disk + Drop, C: Clock>(
         (O.write_faults output.old) (O.write_faults output.new) }
 {
     match stdio_words(words) {
-        Some(_) => serve_disks(alloc, false, input, output, disks, clock),
+        Some(told) => serve_disks(alloc, told.read_only, input, output, disks, clock),
         None => Status::Usage,
     }
 }

@@ -1,5 +1,5 @@
 use crate::plain::{Request, front, plain_service};
-use crate::{run_stdio, serve_stream};
+use crate::{StdioWords, run_stdio, serve_stream, stdio_words};
 use qs_bytes::{Bytes, Memory};
 use qs_calls::open_core;
 use qs_outside::{Fail, MemClock, MemDisk, MemSink, MemSource, QuietDisk, RiggedDisk};
@@ -152,6 +152,59 @@ fn what_is_no_request_ends_the_run(rt: HostRuntime) -> Result<(), Failure> {
     Ok(())
 }
 
+/// Words, and the number of the image's word, the bytes of a block, and whether the export is read-only.
+type Told = (&'static [&'static str], Option<(usize, u32, bool)>);
+
+const TOLD: [Told; 16] = [
+    (GOOD, Some((1, 512, false))),
+    (
+        &["--transmission", "--read-only", "a"],
+        Some((2, 512, true)),
+    ),
+    (
+        &["--read-only", "--transmission", "a"],
+        Some((2, 512, true)),
+    ),
+    (
+        &["--align", "4096", "--transmission", "a"],
+        Some((3, 4096, false)),
+    ),
+    (
+        &["--transmission", "--align", "512", "--read-only", "-"],
+        Some((4, 512, true)),
+    ),
+    (&[], None),
+    (&["a"], None),
+    (&["--transmission"], None),
+    (&["--transmission", "--align"], None),
+    (&["--transmission", "--align", "a"], None),
+    (&["--transmission", "--align", "1024", "a"], None),
+    (&["--transmission", "--transmission", "a"], None),
+    (
+        &["--align", "512", "--align", "512", "--transmission", "a"],
+        None,
+    ),
+    (&["--transmission", "--unknown"], None),
+    (&["--transmission", "a", "b"], None),
+    (&["a", "--transmission"], None),
+];
+
+#[test]
+fn words_tell_each_option_once(rt: HostRuntime) -> Result<(), Failure> {
+    let alloc = rt.alloc();
+    for (words, told) in TOLD {
+        let texts = words_of(alloc, words)?;
+        let expected = told.map(|(image, align, read_only)| StdioWords {
+            image,
+            align,
+            read_only,
+            transmission: true,
+        });
+        assert_eq!(rt; stdio_words(texts.as_slice()), expected);
+    }
+    Ok(())
+}
+
 /// Words, the count of disks and their image's length, the read that fails, and the room of the output;
 /// and the status.
 type Case = (&'static [&'static str], u8, u64, Option<u64>, usize, Status);
@@ -196,6 +249,22 @@ fn words_disks_and_faults_have_their_statuses(rt: HostRuntime) -> Result<(), Fai
             status
         );
     }
+    Ok(())
+}
+
+/// With `--read-only` a WRITE is answered by error 1 (EPERM), and the READ behind it finds zeros.
+#[test]
+fn a_read_only_image_takes_no_write(rt: HostRuntime) -> Result<(), Failure> {
+    let alloc = rt.alloc();
+    let input = Bytes::of(write_and_read(alloc)?);
+    let mut source = MemSource::new(input, Vec::new(alloc), Vec::new(alloc));
+    let mut sink = MemSink::new(alloc, 544, Vec::new(alloc))?;
+    let words = &["--read-only", "--transmission", "disk.img"];
+    let status = run_words(alloc, words, &mut source, &mut sink, 8, 4096)?;
+    assert_eq!(rt; status, Status::Done);
+    assert_eq!(rt; at(sink.sent(), 7), 1);
+    assert_eq!(rt; at(sink.sent(), 23), 0);
+    assert_eq!(rt; at(sink.sent(), 32), 0);
     Ok(())
 }
 

@@ -1,5 +1,5 @@
 -- What each call of a stream does.
-use Rattle.std.proofs.Common.{◌≡◌, ◌≢◌, ℕ, ◌⊎◌, inl, inr, List, [], ◌++◌, length, refl, sym, ap, ◌∙◌, subst, arith, append-nil}
+use Rattle.std.proofs.Common.{◌≡◌, ◌≢◌, ℕ, ◌⊎◌, inl, inr, List, [], ◌∷◌, ◌++◌, length, refl, sym, ap, ◌∙◌, subst, arith, append-nil}
 use Rattle.std.specs.Prelude.{Option, Result, Ok, Err}
 use Rattle.std.specs.Io.KnownBytes.{Consumes}
 use Rattle.qs_stream.specs.declared.state.State.{State}
@@ -9,7 +9,7 @@ use Rattle.qs_stream.specs.Bytes.{Sends}
 use Rattle.qs_stream.specs.Faults.{Stays, Counts}
 use Rattle.qs_stream.specs.Flows.{Side, Flow, Rises, Proceeds, Moved, Puts}
 use Rattle.qs_stream.proofs.Bytes.{takes_split, takes_read, gives_none}
-use Rattle.qs_stream.proofs.Moves.{runs_from, moved_lost, moved_on}
+use Rattle.qs_stream.proofs.Moves.{runs_from, moved_lost, moved_none, moved_on}
 
 -- the state behind a call of the sink, or of the source
 abbrev pub after_write : {T E : Type 0} → Result T E → State
@@ -26,6 +26,14 @@ puts_lost out stream given failed = record {
   waiting = refl;
   moved = λ input. moved_lost (record { input = input; output = out; stream = stream }) given failed;
 }
+
+-- no bytes are put
+pub puts_none : (out : Side) (stream : Buffers) (given : List ℕ) → length given ≡ 0 → Puts given out stream out stream
+puts_none out stream [] none = record {
+  waiting = refl;
+  moved = λ input. moved_none (record { input = input; output = out; stream = stream });
+}
+puts_none out stream (b ∷ given) none = absurd (omega (arith, none))
 
 rises_write : {T E : Type 0} (result : Result T E) (reads a b : ℕ) → Counts a b result → Rises (after_write result) reads reads a b
 rises_write (Ok x) reads a b counts = (omega arith, counts)

@@ -87,6 +87,9 @@ impl Stream {
             Ok(()) => {}
             Err(_) => return,
         }
+        if bytes.is_empty() {
+            return;
+        }
         match send(&mut self.outbox, output, bytes) {
             Ok(()) => {}
             Err(_) => self.state = State::WriteFault,

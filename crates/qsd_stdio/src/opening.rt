@@ -1,5 +1,5 @@
-ghost use Rattle.std.specs.Prelude.{IsOk};
-ghost use Rattle.qs_stdio.specs.Words.{IsCommand};
+ghost use Rattle.std.specs.Prelude.{◌≡◌, IsOk, None};
+ghost use Rattle.qs_stdio.specs.Words.{command};
 
 use qs_host::{FileDisk, StartFault, file_disks};
 use qs_stdio::stdio_words;
@@ -14,7 +14,7 @@ pub fn disks_of<R: Files<File = File> + Wait + Copy>(
     alloc: Global,
     words: &[String],
 ) -> Result<Vec<FileDisk<R>>, StartFault>
-    ensures { ¬ IsCommand words.now → IsOk result }
+    ensures { command words.now ≡ None → IsOk result }
 {
     match stdio_words(words) {
         Some(told) => file_disks(

@@ -5,16 +5,19 @@ use qs_stdio::stdio_words;
 use std::fmt;
 
 /// The command's form.
-const USAGE: &str = "usage: qsd_stdio --transmission IMAGE";
+const USAGE: &str = "usage: qsd_stdio --transmission [--read-only] [--align N] IMAGE";
 
 /// What `--help` prints.
 pub const HELP: &str = "\
-usage: qsd_stdio --transmission IMAGE
+usage: qsd_stdio --transmission [--read-only] [--align N] IMAGE
        qsd_stdio --help | --version
 
 Serves one NBD client on standard input and output over a raw image: the input is a stream of requests
 without a handshake, the output that of simple replies. READ, WRITE, WRITE_ZEROES, TRIM and FLUSH are
 served, at any offset and length. IMAGE is a file or a block device, which is locked while it is served.
+
+  --read-only  refuse what would change the image, which need not be writable
+  --align N    read and write the image in blocks of N bytes, 512 (the default) or 4096
 
 Exit statuses: 0 after a DISC or the input's end between requests; 2 for other words; 3 where the
 image's length isn't right; 4, 5 where the input couldn't be read, the output not be written; 8 after
@@ -29,6 +32,14 @@ pub fn image_of(words: &[String]) -> &str {
     match stdio_words(words) {
         Some(told) => words[told.image].as_str(),
         None => "",
+    }
+}
+
+/// The bytes of a block, where the words are the command's.
+fn align_of(words: &[String]) -> u32 {
+    match stdio_words(words) {
+        Some(told) => told.align,
+        None => 512,
     }
 }
 
@@ -66,7 +77,8 @@ impl fmt::Display for Served<'_> {
             Status::Usage => write_usage(f, self.words),
             Status::OpenBad(bad) => {
                 let image = image_of(self.words);
-                let rule = BrokenRule { bad, align: 512 };
+                let align = align_of(self.words);
+                let rule = BrokenRule { bad, align };
                 write!(f, "{image:?}: {rule}")
             }
             _ => {

@@ -1,10 +1,10 @@
 -- What waits was written or couldn't be, or nothing is written.
-use Rattle.std.proofs.Common.{refl, sym, inl, inr, ◌∙◌}
-use Rattle.qs_replay.proofs.Turning.{puts_none}
+use Rattle.std.proofs.Common.{[], refl, sym, inl, inr, ◌∙◌}
+use Rattle.qs_stream.proofs.Calls.{puts_none}
 use Rattle.qs_replay.proofs.replay.finish.Goals as goal
 
 pub returns-then-is_silent : goal.returns-then-is_silent
-returns-then-is_silent g c = record { puts = puts_none _ c.args.stream.now; how = inl (sym c.is_silent.ensures ∙ c.if-is_silent.true, refl, refl, refl) }
+returns-then-is_silent g c = record { puts = puts_none _ c.args.stream.now [] refl; how = inl (sym c.is_silent.ensures ∙ c.if-is_silent.true, refl, refl, refl) }
 
 pub returns-in-Ok : goal.returns-in-Ok
 returns-in-Ok g c = record {
