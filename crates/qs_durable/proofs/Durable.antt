@@ -51,34 +51,40 @@ longer_sync s since steps more on h = record {
 }
 
 -- a run that is given as a whole
-record Given (A : ℕ) (w : World) (es : List Element) : Type 0 where
-  pos : 0 < A
-  told : IsTrue w.tells
-  ok : Ok A w
-  none : (r : ℕ) → w.req r ≡ None
-  alone : KeepsAlone w.image
-  run : Runs A w es
+pub record Given (A : ℕ) (w : World) (es : List Element) : Type 0 where
+  pub pos : 0 < A
+  pub told : IsTrue w.tells
+  pub ok : Ok A w
+  pub none : (r : ℕ) → w.req r ≡ None
+  pub alone : KeepsAlone w.image
+  pub run : Runs A w es
 
 -- where a FLUSH that was reached entered, and where it was answered
 flush_course : (entered answered : List Element) (f : ReachedFlush entered answered) → answered ≡ ((entered ++ f.enter ∷ []) ++ f.between) ++ f.answer ∷ []
 flush_course entered answered f =
     f.course ∙ sym (append_assoc entered (f.enter ∷ []) (f.between ++ f.answer ∷ [])) ∙ sym (append_assoc (entered ++ f.enter ∷ []) f.between (f.answer ∷ []))
 
--- between these a FLUSH syncs each stripe
-flush_syncs : (A : ℕ) (w : World) (es entered answered : List Element) (s : ℕ) → Given A w es → (f : ReachedFlush entered answered) → Begins answered es → s < 8 →
-    SyncedSince s [] f.between
-flush_syncs A w es entered answered s g f at small =
-    let front : List Element = entered ++ f.enter ∷ [] in
-    let answer : ComesBehind (front ++ f.between) f.answer es = final_step (front ++ f.between) f.answer answered es (flush_course entered answered f) at in
+-- between these a FLUSH syncs each stripe that it hadn't synced before
+flush_syncs : (A : ℕ) (w : World) (es front between : List Element) (answer : Element) (r : ℕ) (c : Client) (s : ℕ) → Given A w es → c.ask.kind ≡ Flush →
+    Answered r c Fine answer → ComesBehind (front ++ between) answer es → (Had s (told A r front) → ⊥) → s < 8 → SyncedSince s [] between
+flush_syncs A w es front between answer r c s g flush fine at none small =
+    synced_between A r s front between none
+    (flush_had A r s c (front ++ between) small flush (fine_story A w es (front ++ between) r c answer g.pos g.ok g.none g.run at fine))
+
+-- a FLUSH that was reached synced nothing before it entered, and is answered behind its own steps
+reached_none : (A : ℕ) (w : World) (es entered answered : List Element) (s : ℕ) → Given A w es → (f : ReachedFlush entered answered) → Begins answered es →
+    Had s (told A f.number (entered ++ f.enter ∷ [])) → ⊥
+reached_none A w es entered answered s g f at =
     let enter : ComesBehind entered f.enter es = (
       f.between ++ f.answer ∷ at.0,
       at.1 ∙ ap (λ (l : List Element). l ++ at.0) f.course ∙ append_assoc entered (f.enter ∷ (f.between ++ f.answer ∷ [])) at.0
           ∙ ap (λ (l : List Element). entered ++ f.enter ∷ l) (append_assoc f.between (f.answer ∷ []) at.0),
     ) in
-    synced_between A f.number s front f.between
-    (entered_none A w es entered f.number s f.enter g.pos g.ok g.none g.run enter f.enters)
-    (flush_had A f.number s f.client (front ++ f.between) small f.flush
-    (fine_story A w es (front ++ f.between) f.number f.client f.answer g.pos g.ok g.none g.run answer f.fine))
+    entered_none A w es entered f.number s f.enter g.pos g.ok g.none g.run enter f.enters
+
+reached_answer : (entered answered es : List Element) (f : ReachedFlush entered answered) → Begins answered es →
+    ComesBehind ((entered ++ f.enter ∷ []) ++ f.between) f.answer es
+reached_answer entered answered es f at = final_step ((entered ++ f.enter ∷ []) ++ f.between) f.answer answered es (flush_course entered answered f) at
 
 stripe_small : (b : ℕ) → stripe_of b < 8
 stripe_small b = omega arith
@@ -89,7 +95,10 @@ flush_bounds : (A : ℕ) (w : World) (es : List Element) (x : ℕ) (entered answ
 flush_bounds A w es x entered answered steps g at reached f v h =
     let front : List Element = entered ++ f.enter ∷ [] in
     let s : ℕ = stripe_of (x / A) in
-    let between : SyncedSince s [] f.between = flush_syncs A w es entered answered s g f (begins_on answered steps es reached at) (stripe_small (x / A)) in
+    let on : Begins answered es = begins_on answered steps es reached at in
+    let between : SyncedSince s [] f.between =
+    flush_syncs A w es front f.between f.answer f.number f.client s g f.flush f.fine (reached_answer entered answered es f on)
+    (reached_none A w es entered answered s g f on) (stripe_small (x / A)) in
     let before : Begins (front ++ f.between) steps =
     before_step (front ++ f.between) f.answer steps (final_step (front ++ f.between) f.answer answered steps (flush_course entered answered f) reached) in
     no_older_than_before A w x v entered front steps (begins_longer entered (f.enter ∷ []))
@@ -112,7 +121,7 @@ forced_bounds A w es x written answered steps g at reached f v h =
     syncs A w es g.pos g.told g.ok g.alone g.run x written steps at (longer_sync s written (written ++ f.between) steps before (moved_on s written f.between between)) v h
 
 -- a request keeps its kind
-abbrev HasKind : Kind → Option Req → Type 0
+abbrev pub HasKind : Kind → Option Req → Type 0
 HasKind k None = Unit {0}
 HasKind k (Some q) = q.client.ask.kind ≡ k
 
@@ -140,7 +149,7 @@ kind_left : (k : Kind) (s : ℕ) (o : Option Req) → HasKind k o → HasKind k 
 kind_left k s None h = tt
 kind_left k s (Some q) h = choose (λ x. x.client.ask.kind ≡ k) (q.client.session == s) (abandon q) q (λ e. h) (λ e. h)
 
-kind_lasts : (A : ℕ) (k : Kind) → Lasts A (HasKind k)
+pub kind_lasts : (A : ℕ) (k : Kind) → Lasts A (HasKind k)
 kind_lasts A k = record { own = λ c d p act h. kind_moves A k c d p act h; left = kind_left k; gone = tt }
 
 -- a FLUSH stores nothing, and so leaves alone what is alone
@@ -197,43 +206,49 @@ kind_before A w r c e more answer ok run own may is =
     subst (HasKind c.ask.kind) (sym there) same
 
 -- where a FLUSH ran alone, a crash leaves at its answer what each block holds
-flush_alone : (A : ℕ) (w : World) (es entered answered : List Element) (b : ℕ) → Given A w es → (f : ReachedFlush entered answered) → AreOwn f.number f.between →
-    Begins answered es → IsAlone (after A w answered).image b
-flush_alone A w es entered answered b g f own at =
-    let r : ℕ = f.number in
-    let front : List Element = entered ++ f.enter ∷ [] in
-    let sync : SyncedSince (stripe_of b) [] f.between = flush_syncs A w es entered answered (stripe_of b) g f at (stripe_small b) in
+pub flush_alone : (A : ℕ) (w : World) (es front between : List Element) (answer : Element) (r : ℕ) (c : Client) (b : ℕ) → Given A w es → c.ask.kind ≡ Flush →
+    Answered r c Fine answer → ComesBehind (front ++ between) answer es → ((s : ℕ) → Had s (told A r front) → ⊥) → AreOwn r between →
+    IsAlone (happens A (after A w (front ++ between)) answer).image b
+flush_alone A w es front between answer r c b g flush fine at none own =
+    let sync : SyncedSince (stripe_of b) [] between =
+    flush_syncs A w es front between answer r c (stripe_of b) g flush fine at (none (stripe_of b)) (stripe_small b) in
     let more : List Element = sync.before.0 in
     let position : List Element = front ++ sync.position in
-    let parts : front ++ f.between ≡ position ++ sync.sync ∷ more =
+    let parts : front ++ between ≡ position ++ sync.sync ∷ more =
     ap (λ (l : List Element). front ++ l) sync.before.1 ∙ sym (append_assoc front sync.position (sync.sync ∷ more)) in
-    let answer : ComesBehind (front ++ f.between) f.answer es = final_step (front ++ f.between) f.answer answered es (flush_course entered answered f) at in
-    let (whole, may) = split_run A w es (front ++ f.between) f.answer g.run answer in
+    let (whole, may) = split_run A w es (front ++ between) answer g.run at in
     let halves : Runs A w (position ++ sync.sync ∷ more) = subst (λ (l : List Element). Runs A w l) parts whole in
     let u : World = after A w position in
     let run : Runs A u (sync.sync ∷ more) = runs_back A w position (sync.sync ∷ more) halves in
     let ok : Ok A u = run_ok A w position g.pos g.ok (runs_front A w position (sync.sync ∷ more) halves) in
     let steps : AreOwn r (sync.sync ∷ more) = own_back r sync.position (sync.sync ∷ more) (subst (AreOwn r) sync.before.1 own) in
-    let meet : after A w (front ++ f.between) ≡ after A u (sync.sync ∷ more) = ap (after A w) parts ∙ after_append A w position (sync.sync ∷ more) in
-    let ends : May A (after A u (sync.sync ∷ more)) f.answer = subst (λ (v : World). May A v f.answer) meet may in
+    let meet : after A w (front ++ between) ≡ after A u (sync.sync ∷ more) = ap (after A w) parts ∙ after_append A w position (sync.sync ∷ more) in
+    let ends : May A (after A u (sync.sync ∷ more)) answer = subst (λ (v : World). May A v answer) meet may in
     let kind : HasKind Flush (u.req r) =
-    subst (λ (k : Kind). HasKind k (u.req r)) f.flush (kind_before A u r f.client sync.sync more f.answer ok run steps.0 ends f.fine) in
+    subst (λ (k : Kind). HasKind k (u.req r)) flush (kind_before A u r c sync.sync more answer ok run steps.0 ends fine) in
     let settled : IsAlone (happens A u sync.sync).image b = synced_alone A u sync.sync b run.0 (run_alone A w position g.alone) sync.synced in
     let still : IsAlone (after A u (sync.sync ∷ more)).image b =
     flush_run A (happens A u sync.sync) r b more g.pos (step_ok A u sync.sync g.pos ok run.0) run.1 steps.1
     (lasts_step A (HasKind Flush) (kind_lasts A Flush) u sync.sync r run.0 (made_before A u r sync.sync ok run.0 steps.0) kind) settled in
-    let answered_so : IsAlone (happens A (after A u (sync.sync ∷ more)) f.answer).image b =
-    flush_step A (after A u (sync.sync ∷ more)) r b f.answer (run_ok A u (sync.sync ∷ more) g.pos ok run) ends (answer_acts r f.client f.answer f.fine)
-    (subst (λ (k : Kind). HasKind k ((after A u (sync.sync ∷ more)).req r)) f.flush (answer_there A (after A u (sync.sync ∷ more)) r f.client f.answer ends f.fine)) still in
+    let answered_so : IsAlone (happens A (after A u (sync.sync ∷ more)) answer).image b =
+    flush_step A (after A u (sync.sync ∷ more)) r b answer (run_ok A u (sync.sync ∷ more) g.pos ok run) ends (answer_acts r c answer fine)
+    (subst (λ (k : Kind). HasKind k ((after A u (sync.sync ∷ more)).req r)) flush (answer_there A (after A u (sync.sync ∷ more)) r c answer ends fine)) still in
+    subst (λ (v : World). IsAlone (happens A v answer).image b) (sym meet) answered_so
+
+reached_alone : (A : ℕ) (w : World) (es entered answered : List Element) (b : ℕ) → Given A w es → (f : ReachedFlush entered answered) → AreOwn f.number f.between →
+    Begins answered es → IsAlone (after A w answered).image b
+reached_alone A w es entered answered b g f own at =
+    let front : List Element = entered ++ f.enter ∷ [] in
     subst (λ (v : World). IsAlone v.image b)
-    (sym (ap (after A w) (flush_course entered answered f) ∙ after_append A w (front ++ f.between) (f.answer ∷ []) ∙ ap (λ (v : World). happens A v f.answer) meet))
-    answered_so
+    (sym (ap (after A w) (flush_course entered answered f) ∙ after_append A w (front ++ f.between) (f.answer ∷ [])))
+    (flush_alone A w es front f.between f.answer f.number f.client b g f.flush f.fine (reached_answer entered answered es f at)
+    (λ s. reached_none A w es entered answered s g f at) own)
 
 alone_bounds : (A : ℕ) (w : World) (es : List Element) (x : ℕ) (entered answered steps : List Element) → Given A w es → Begins steps es → Begins answered steps →
     (f : ReachedFlush entered answered) → AreOwn f.number f.between → LeavesNoOlder A w x answered steps
 alone_bounds A w es x entered answered steps g at reached f own =
     still_leaves A w x answered answered steps es g.pos g.told g.ok g.run at (begins_itself answered) reached
-    (alone_no_older A w x answered (flush_alone A w es entered answered (x / A) g f own (begins_on answered steps es reached at)))
+    (alone_no_older A w x answered (reached_alone A w es entered answered (x / A) g f own (begins_on answered steps es reached at)))
 
 left_bounds : (A : ℕ) (w : World) (es : List Element) (x : ℕ) (position answered steps : List Element) → Given A w es → Begins steps es → Begins answered steps →
     IsBound A x position answered → LeavesNoOlder A w x position steps
