@@ -144,14 +144,14 @@ run_reached A w r c steps x (e ∷ es) pos told unrouted run own t so =
     run_reached A w r c (steps ++ e ∷ []) (happens A x e) es pos told unrouted run.1 own.1 (tracks_step A w r c steps x e pos unrouted run.0 own.0 t)
     (step_reached A w r c steps x e pos told run.0 own.0 t so)
 
-pub remains : (A : ℕ) (o : Opening) (before : List Element) (r : ℕ) (c : Client) (front : List Element) (e : Element) (v : Verdict) → 0 < A → IsTrue o.tells →
+pub remains : (A : ℕ) (o : Opening) (before : List Element) (r : ℕ) (c : Client) (front : List Element) (e : Element) (v : Verdict) → 0 < A → IsTrue (after A (opening o) before).tells →
     IsAlone A o before r c (front ++ e ∷ []) → IsAnswered r v e →
     Remains A (after A (opening o) before).image (routed_in (after A (opening o) before).graph c) (after A (opening o) (before ++ Asked r c ∷ (front ++ e ∷ []))).image
 remains A o before r c front e v pos told alone is =
     let w : World = after A (opening o) before in
     let (ok, run) = own_run A o before r c (front ++ e ∷ []) pos alone in
     let reached : Reached A w c (after A (happens A w (Asked r c)) (front ++ e ∷ [])).image =
-    run_reached A w r c [] (happens A w (Asked r c)) (front ++ e ∷ []) pos (told_run A (opening o) before told) run.0.unrouted run.1 alone.own
+    run_reached A w r c [] (happens A w (Asked r c)) (front ++ e ∷ []) pos told run.0.unrouted run.1 alone.own
     (tracks_asked A w r c pos ok alone.idle run.0) (record { from = λ y. inl refl; remains = λ y u h. inl h }) in
     subst (λ (x : World). Remains A w.image (routed_in w.graph c) x.image) (sym (after_append A (opening o) before (Asked r c ∷ (front ++ e ∷ [])))) reached.remains
 
@@ -171,7 +171,7 @@ answers_flush A x r c (Did s q act) may is kind =
     (q.client, ((is.0, refl, is.1), subst (HasKind c.ask.kind) (ap x.req (sym is.0) ∙ may.0) kind))
 answers_flush A x r c _ may is kind = absurd is
 
-pub flushed : (A : ℕ) (o : Opening) (before : List Element) (r : ℕ) (c : Client) (front : List Element) (e : Element) → 0 < A → IsTrue o.tells →
+pub flushed : (A : ℕ) (o : Opening) (before : List Element) (r : ℕ) (c : Client) (front : List Element) (e : Element) → 0 < A → IsTrue (after A (opening o) before).tells →
     IsCleanSettled (after A (opening o) before).image → c.ask.kind ≡ Flush → IsAlone A o before r c (front ++ e ∷ []) → IsAnswered r Fine e →
     IsSettled (after A (opening o) (before ++ Asked r c ∷ (front ++ e ∷ []))).image
 flushed A o before r c front e pos told clean flush alone is b =
@@ -187,7 +187,7 @@ flushed A o before r c front e pos told clean flush alone is b =
     subst (λ (y : World). y.image.past b ≡ y.image.now b ∷ [])
     (sym (after_append A (opening o) before es ∙ after_append A x front (e ∷ [])))
     (flush_alone A w es (Asked r c ∷ []) front e r d b
-    (record { pos = pos; told = told_run A (opening o) before told; ok = ok; none = alone.idle; alone = clean; run = run })
+    (record { pos = pos; told = told; ok = ok; none = alone.idle; alone = clean; run = run })
     (same ∙ flush) fine ([], refl) (λ s. asked_none A r s c) (own_of r front (own_front r front (e ∷ []) alone.own)))
 
 pub clean_settled : (A : ℕ) (w : World) (es : List Element) → IsCleanSettled w.image → IsCleanSettled (after A w es).image

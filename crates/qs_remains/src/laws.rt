@@ -15,7 +15,8 @@ ghost use Rattle.qs_remains.specs.Remains.{IsCleanSettled, IsSettled, Remains};
 /// it was, or the one that the request stores for its place.
 pub fn remains()
     ensures { (A : ℕ) (o : Opening) (before : List Element) (r : ℕ) (c : Client) (front : List Element)
-        (e : Element) (v : Verdict) → 0 < A → IsTrue o.tells → IsAlone A o before r c (front ++ e ∷ []) → IsAnswered r v e →
+        (e : Element) (v : Verdict) → 0 < A → IsTrue (after A (opening o) before).tells →
+        IsAlone A o before r c (front ++ e ∷ []) → IsAnswered r v e →
         Remains A (after A (opening o) before).image (routed_in (after A (opening o) before).graph c)
         (after A (opening o) (before ++ Asked r c ∷ (front ++ e ∷ []))).image }
 {}
@@ -28,7 +29,8 @@ pub fn clean_settled()
 /// And behind a FLUSH that was alone and is Fine, it leaves of every block what it holds (NBD proto.md, FLUSH).
 pub fn flushed()
     ensures { (A : ℕ) (o : Opening) (before : List Element) (r : ℕ) (c : Client) (front : List Element) (e : Element) →
-        0 < A → IsTrue o.tells → IsCleanSettled (after A (opening o) before).image → c.ask.kind ≡ Flush →
+        0 < A → IsTrue (after A (opening o) before).tells → IsCleanSettled (after A (opening o) before).image →
+        c.ask.kind ≡ Flush →
         IsAlone A o before r c (front ++ e ∷ []) → IsAnswered r Fine e →
         IsSettled (after A (opening o) (before ++ Asked r c ∷ (front ++ e ∷ []))).image }
 {}

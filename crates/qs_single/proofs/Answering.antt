@@ -39,7 +39,7 @@ use Rattle.qs_world.proofs.Keyed.{find_head}
 use Rattle.qs_calls.specs.Calls.{AreCalls, Call, Happened, Plays, Walks}
 use Rattle.qs_calls.specs.Goings.{RunsOut}
 use Rattle.qs_calls.proofs.Plays.{after_more, leads, plays_of, runs_more}
-use Rattle.qs_single.specs.Resting.{Exchanged, IsBody, IsResting}
+use Rattle.qs_single.specs.Resting.{IsBody, IsResting}
 use Rattle.qs_single.specs.Service.{Called, HasRisen, Leads, MayGet, whole}
 use Rattle.qs_single.proofs.Asked.{own_bytes, some_length}
 use Rattle.qs_single.proofs.Contents.{byte_is, content_length, past_is, told_model}
@@ -133,7 +133,7 @@ none_left (l ∷ ls) none =
     never q e = cc
 
 -- the same disks are an image still
-image_kept : (old new : List Seen) → SameDisks old new → IsImage old → IsImage new
+pub image_kept : (old new : List Seen) → SameDisks old new → IsImage old → IsImage new
 image_kept old new same image = (
   (
     same.count ∙ image.0.0,
@@ -160,25 +160,25 @@ reached A off len b pos some low high =
 module _ {D : Type 0} (seen : D → Seen) (session : ℕ) (writable : Bool) (a : Ask) (given : List ℕ) (body : Option (List ℕ)) (w : WorldValue D) (number : ℕ) (calls : List Call) (v : Verdict)
     (w' : WorldValue D) (rests : IsResting seen session writable w) (is_body : IsBody a given body) (events : AreEvents calls)
     (t : Ran seen session a body w rests.opened rests.steps number calls v w') where
-  abbrev A : ℕ
+  abbrev pub A : ℕ
   A = w.shape.align
 
-  abbrev m : World
+  abbrev pub m : World
   m = after A (opening rests.opened) rests.steps
 
-  abbrev its : List Element
+  abbrev pub its : List Element
   its = t.front ++ t.step ∷ []
 
-  abbrev m' : World
+  abbrev pub m' : World
   m' = after A (opening rests.opened) (rests.steps ++ Asked number t.client ∷ its)
 
-  abbrev size : ℕ
+  abbrev pub size : ℕ
   size = size_of (disks_of seen w)
 
-  is_served : IsServed A m t.client its v m'
+  pub is_served : IsServed A m t.client its v m'
   is_served = served A rests.opened rests.steps number t.client t.front t.step v (has_bytes seen session writable w rests) t.alone t.answers
 
-  same : SameDisks (disks_of seen w) (disks_of seen w')
+  pub same : SameDisks (disks_of seen w) (disks_of seen w')
   same = walk_disks seen w calls (Asked number t.client ∷ its) t.fulls w' events t.walked
 
   place_is : t.client.export ≡ rests.place
@@ -189,10 +189,10 @@ module _ {D : Type 0} (seen : D → Seen) (session : ℕ) (writable : Bool) (a :
       ap (λ (g : GraphValue). way_in g t.client.export) rests.stands.graph ∙ ap (way_in w.graph) place_is
       ∙ ap (way_by w.graph.size) rests.is ∙ ap (λ (n : ℕ). Given (whole n rests.export.writable)) rests.size ∙ ap (λ (b : Bool). Given (whole size b)) rests.leave
 
-  routed_is : routed_in m.graph t.client ≡ sent t.client size writable
+  pub routed_is : routed_in m.graph t.client ≡ sent t.client size writable
   routed_is = ap (λ (way : Way). record t.client { route = route_by way }) way_is
 
-  line : reply_of t.client.ask t.client.buffered (Given (whole size writable)) is_served.fault is_served.got ≡ Some v
+  pub line : reply_of t.client.ask t.client.buffered (Given (whole size writable)) is_served.fault is_served.got ≡ Some v
   line = subst (λ (way : Way). reply_of t.client.ask t.client.buffered way is_served.fault is_served.got ≡ Some v) way_is is_served.reply
 
   pub may_get : MayGet size writable a v
@@ -205,7 +205,7 @@ module _ {D : Type 0} (seen : D → Seen) (session : ℕ) (writable : Bool) (a :
     wants = λ none. subst (λ (q : Ask). 0 < q.length) (sym t.ask_is) (some_length t.client.ask t.client.buffered t.may.buffered none);
   }
 
-  contents : AllTell (disks_of seen w) → AreContents A size m.image m'.image (content (disks_of seen w)) (content (disks_of seen w'))
+  pub contents : AllTell (disks_of seen w) → AreContents A size m.image m'.image (content (disks_of seen w)) (content (disks_of seen w'))
   contents told =
       let image : IsImage (disks_of seen w') = image_kept (disks_of seen w) (disks_of seen w') same rests.image in
       let told' : AllTell (disks_of seen w') = λ k h. rw (same.tells k) (told k h) in
@@ -350,29 +350,3 @@ pub never_stuck : {D : Type 0} (seen : D → Seen) (session : ℕ) (writable : B
     ((v : Verdict) (n : Option Note) → last ≡ Answered v n → ⊥) → ⊥
 never_stuck seen session writable a body now w w' number steps last rests out plays other =
     let is = ran seen session writable a body now w w' number steps last rests out plays in other is.0 is.1 is.2.0
-
--- and it is an exchange, behind which the core rests
-pub exchanged : {D : Type 0} (seen : D → Seen) (session : ℕ) (writable : Bool) (a : Ask) (given : List ℕ) (body : Option (List ℕ)) (now : ℕ) (w w' : WorldValue D) (number : ℕ) (steps : List Call) (v : Verdict) (note : Option Note) →
-    IsResting seen session writable w → IsBody a given body → RunsOut (Step (ARequest number) now) steps (Answered v note) →
-    Plays seen w (Happened (AskEvent session a body) (Made number) ∷ steps) w' → Exchanged seen session writable a given body now w v w' × IsResting seen session writable w'
-exchanged {D} seen session writable a given body now w w' number steps v note rests is_body out plays =
-    let is = ran seen session writable a body now w w' number steps (Answered v note) rests out plays in
-    let calls : List Call = Happened (AskEvent session a body) (Made number) ∷ steps in
-    let t : Ran seen session a body w rests.opened rests.steps number calls v w' =
-    subst (λ (x : Verdict). Ran seen session a body w rests.opened rests.steps number calls x w') (sym (one is.0 is.1 is.2.0)) is.2.1 in
-    let events : AreEvents calls = its_events session a body number now steps (Answered v note) out in (
-      record {
-        may = may_get seen session writable a given body w number calls v w' rests is_body events t;
-        number = number;
-        steps = steps;
-        note = note;
-        ran = out;
-        plays = plays;
-        called = called seen session writable a given body w number calls v w' rests is_body events t;
-        next = next_is seen session writable a given body w number calls v w' rests is_body events t;
-      },
-      rests_again seen session writable a given body w number calls v w' rests is_body events t,
-    )
-  where
-    one : (x : Verdict) (n : Option Note) → Answered v note ≡ Answered x n → v ≡ x
-    one x n e = cc

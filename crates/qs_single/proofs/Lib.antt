@@ -5,4 +5,6 @@ pub mod Lines
 pub mod Leading
 pub mod Asked
 pub mod Answering
+pub mod Outlasting
+pub mod Exchanging
 pub mod Attaching

@@ -3,7 +3,7 @@ use Rattle.std.specs.Prelude.{◌≡◌, ℕ, ◌+◌, Bool, true, List, [], ◌
 use Rattle.qs_bytes.specs.declared.ask.Ask.{Ask}
 use Rattle.qs_bytes.specs.declared.ask.Verdict.{Verdict}
 use Rattle.qs_outside.specs.Blocks.{Seen}
-use Rattle.qs_image.specs.Image.{align_of, size_of}
+use Rattle.qs_image.specs.Image.{AllTell, align_of, size_of}
 use Rattle.qs_image.specs.Opening.{IsImage}
 use Rattle.qs_graph.specs.declared.export.Export.{Export}
 use Rattle.qs_graph.specs.Exports.{export_at}
@@ -21,6 +21,7 @@ use Rattle.qs_world.specs.Stands.{Stands}
 use Rattle.qs_world.specs.Values.{WorldValue, disks_of, session_at}
 use Rattle.qs_calls.specs.Calls.{Call, Happened, Plays}
 use Rattle.qs_calls.specs.Goings.{RunsOut}
+use Rattle.qs_single.specs.Remaining.{IsCleanSettled, Outlasts}
 use Rattle.qs_single.specs.Service.{Called, MayGet}
 
 -- No request is live, and a session is, at an export that stands over the whole image; a run of the model led here.
@@ -54,6 +55,7 @@ pub record Exchanged {D : Type 0} (seen : D → Seen) (session : ℕ) (writable 
   pub ran : RunsOut (Step (ARequest number) now) steps (Answered v note)
   pub plays : Plays seen w (Happened (AskEvent session a body) (Made number) ∷ steps) w'
   pub called : Called (disks_of seen w) a given v (disks_of seen w')
+  pub outlasts : AllTell (disks_of seen w) → IsCleanSettled seen w → Outlasts (disks_of seen w) a given v (disks_of seen w') × IsCleanSettled seen w'
   pub next : w'.next ≡ w.next + 1
 
 -- A session was attached to the export, which no client had: it tells the image's bytes, and whether it may be written.

@@ -17,9 +17,11 @@ use Rattle.qs_calls.specs.Calls.{Call, Happened, Plays}
 use Rattle.qs_calls.specs.Runs.{Begins, ComesBack}
 use Rattle.qs_calls.proofs.Plays.{plays_more}
 use Rattle.qs_calls.proofs.Runs.{has_run}
+use Rattle.qs_single.specs.Remaining.{IsSettled}
 use Rattle.qs_single.specs.Resting.{Attaches}
 use Rattle.qs_single.proofs.Attaching.{disks_are}
-use Rattle.qs_stdio.specs.Service.{CalledAll, LeadsAll, rounds}
+use Rattle.qs_stdio.specs.Service.{CalledAll, LeadsAll, OutlastsAll, rounds}
+use Rattle.qs_stdio.proofs.Outliving.{survives}
 use Rattle.qs_stdio.specs.declared.words.StdioWords.{StdioWords}
 use Rattle.qs_stdio.specs.Words.{command}
 use Rattle.qs_stdio.specs.Runs.{Holds, Idles, Ran, Serves, ServesStream, Sits, Sitting, first, last_scene, side_of}
@@ -57,6 +59,9 @@ pub holds_of : {D : Type 0} (seen : D → Seen) (disks : List D) (read_only : Bo
 holds_of {D} seen disks read_only input output start result input' output' new disks' begins sits back =
     let came : disks_of seen sits.begun ≡ map seen disks = sits.attaches.disks ∙ disks_are seen disks read_only start begins in
     let gone : disks_of seen new ≡ map seen disks' = sym (ap (λ (ds : List D). map seen ds) back) in
+    let called : CalledAll (map seen disks) sits.sits.exchanges (map seen disks') =
+    subst (λ (d : List Seen). CalledAll (map seen disks) sits.sits.exchanges d) gone
+    (subst (λ (d : List Seen). CalledAll d sits.sits.exchanges (disks_of seen new)) came sits.sits.called) in
     record {
       image = begins.opened.image;
       start = start;
@@ -66,9 +71,14 @@ holds_of {D} seen disks read_only input output start result input' output' new d
       disks_are = back;
       service = λ told. subst (λ (d : List Seen). LeadsAll (content (map seen disks)) sits.sits.exchanges (content d)) gone
           (subst (λ (d : List Seen). LeadsAll (content d) sits.sits.exchanges (content (disks_of seen new))) came (sits.sits.service (subst AllTell (sym came) told)));
-      called = subst (λ (d : List Seen). CalledAll (map seen disks) sits.sits.exchanges d) gone
-          (subst (λ (d : List Seen). CalledAll d sits.sits.exchanges (disks_of seen new)) came sits.sits.called);
+      called = called;
       same = subst (λ (d : List Seen). SameDisks (map seen disks) d) gone (subst (λ (d : List Seen). SameDisks d (disks_of seen new)) came sits.sits.same);
+      survives = λ told settled.
+          let begun : IsSettled (disks_of seen sits.begun) = subst IsSettled (sym came) settled in
+          survives (map seen disks) (map seen disks') sits.sits.exchanges settled called
+          (subst (λ (d : List Seen). OutlastsAll (map seen disks) sits.sits.exchanges d) gone
+          (subst (λ (d : List Seen). OutlastsAll d sits.sits.exchanges (disks_of seen new)) came
+          (sits.sits.outlasts (subst AllTell (sym came) told) (λ b clean. begun b))));
     }
 
 pub serves_of : {D : Type 0} (seen : D → Seen) (disks : List D) (read_only : Bool) (input output : Side) (start : WorldValue D) (result : Status) (input' output' : Side) (new : WorldValue D)

@@ -20,8 +20,9 @@ use Rattle.qs_world.specs.Values.{WorldValue, disks_of}
 use Rattle.qs_calls.specs.Calls.{Call, Plays}
 use Rattle.qs_calls.proofs.Plays.{plays_more}
 use Rattle.qs_single.specs.Resting.{IsResting}
+use Rattle.qs_single.specs.Remaining.{IsCleanSettled, Outlasts}
 use Rattle.qs_single.specs.Service.{Called, MayGet}
-use Rattle.qs_stdio.specs.Service.{Exchange, AllFit, CalledAll, Fits, LeadsAll, ask, asked, answered, reply, rounds}
+use Rattle.qs_stdio.specs.Service.{Exchange, AllFit, CalledAll, Chained, Fits, LeadsAll, OutlastsAll, ask, asked, answered, reply, rounds}
 use Rattle.qs_stdio.specs.Events.{IsUsedUp}
 use Rattle.qs_stdio.specs.Scenes.{Scene, IsFront, Ending, Exchanges, Stops, disks_in}
 use Rattle.qs_stdio.specs.Runs.{Ends, Sitting, side_of, fault_at, status_by}
@@ -37,6 +38,8 @@ pub record Served {D : Type 0} (seen : D → Seen) (session : ℕ) (writable : B
   pub fit : AllFit session (size_of (disks_in seen before)) writable exchanges
   pub moved : Moved (asked exchanges) (answered exchanges) before.flow now.flow
   pub called : CalledAll (disks_in seen before) exchanges (disks_in seen now)
+  pub outlasts : AllTell (disks_in seen before) → IsCleanSettled seen before.world →
+      OutlastsAll (disks_in seen before) exchanges (disks_in seen now) × IsCleanSettled seen now.world
   pub plays : Plays seen before.world (rounds exchanges) now.world
   pub same : SameDisks (disks_in seen before) (disks_in seen now)
   pub counted : length exchanges ≡ count
@@ -49,6 +52,7 @@ served_none seen session writable scene rests = record {
   fit = tt;
   moved = moved_none scene.flow;
   called = refl;
+  outlasts = λ told clean. (refl, clean);
   plays = refl;
   same = same_disks_refl (disks_in seen scene);
   counted = refl;
@@ -61,11 +65,11 @@ fit_more : (session size : ℕ) (writable : Bool) (xs : List Exchange) (x : Exch
 fit_more session size writable [] x fit one = (one, tt)
 fit_more session size writable (y ∷ xs) x fit one = (fit.0, fit_more session size writable xs x fit.1 one)
 
-called_more : (old mid new : List Seen) (xs : List Exchange) (x : Exchange) → CalledAll old xs mid → Called mid (ask x) x.message.body x.verdict new → x.left ≡ new →
-    CalledAll old (xs ++ x ∷ []) new
-called_more old mid new [] x calls called left =
-    (subst (λ (d : List Seen). Called old (ask x) x.message.body x.verdict d) (sym left) (subst (λ (d : List Seen). Called d (ask x) x.message.body x.verdict new) calls called), sym left)
-called_more old mid new (y ∷ xs) x calls called left = (calls.0, called_more y.left mid new xs x calls.1 called left)
+chained_more : (P : List Seen → Exchange → List Seen → Type 0) (old mid new : List Seen) (xs : List Exchange) (x : Exchange) → Chained P old xs mid → P mid x new → x.left ≡ new →
+    Chained P old (xs ++ x ∷ []) new
+chained_more P old mid new [] x chained one left =
+    (subst (λ (d : List Seen). P old x d) (sym left) (subst (λ (d : List Seen). P d x new) chained one), sym left)
+chained_more P old mid new (y ∷ xs) x chained one left = (chained.0, chained_more P y.left mid new xs x chained.1 one left)
 
 asked_more : (xs : List Exchange) (x : Exchange) → asked (xs ++ x ∷ []) ≡ asked xs ++ spelling x.message
 asked_more xs x = flat_map-append (λ y. spelling y.message) xs (x ∷ []) ∙ ap (λ (bytes : List ℕ). asked xs ++ bytes) (append-nil (spelling x.message))
@@ -108,7 +112,15 @@ served_more {D} seen session writable before mid now count served one =
           subst (λ (taken : List ℕ). Moved taken (answered (xs ++ x ∷ [])) before.flow now.flow) (sym (asked_more xs x))
           (subst (λ (given : List ℕ). Moved (asked xs ++ spelling x.message) given before.flow now.flow) (sym (answered_more xs x))
           (moved_on before.flow mid.flow now.flow (asked xs) (answered xs) (spelling x.message) (reply x) served.moved one.1.moved));
-      called = called_more (disks_in seen before) (disks_in seen mid) (disks_in seen now) xs x served.called did.called one.1.left_is;
+      called = chained_more (λ old y new. Called old (ask y) y.message.body y.verdict new) (disks_in seen before) (disks_in seen mid) (disks_in seen now) xs x
+          served.called did.called one.1.left_is;
+      outlasts = λ told clean.
+          let so_far = served.outlasts told clean in
+          let here = did.outlasts (still_tell (disks_in seen before) (disks_in seen mid) served.same told) so_far.1 in (
+            chained_more (λ old y new. Outlasts old (ask y) y.message.body y.verdict new) (disks_in seen before) (disks_in seen mid) (disks_in seen now) xs x
+                so_far.0 here.0 one.1.left_is,
+            here.1,
+          );
       plays = subst (λ (cs : List Call). Plays seen before.world cs now.world) (sym (rounds_more xs x))
           (plays_more seen before.world (rounds xs) mid.world x.calls now.world served.plays (subst (λ (cs : List Call). Plays seen mid.world cs now.world) (sym one.1.calls_are) did.plays));
       same = same_disks_trans (disks_in seen before) (disks_in seen mid) (disks_in seen now) served.same did.called.same;
@@ -191,6 +203,7 @@ module _ {D : Type 0} (seen : D → Seen) (session : ℕ) (writable : Bool) (bud
         whole = whole;
         service = calls_lead (disks_in seen before) (disks_in seen final) xs called;
         called = called;
+        outlasts = λ told clean. subst (λ (w : WorldValue D). OutlastsAll (disks_in seen before) xs (disks_of seen w)) (sym world) (served.outlasts told clean).0;
         plays = subst (λ (w : WorldValue D). Plays seen before.world (rounds xs) w) (sym world) served.plays;
         same = subst (λ (w : WorldValue D). SameDisks (disks_in seen before) (disks_of seen w)) (sym world) served.same;
         ends = ends;

@@ -6,3 +6,4 @@ pub mod Turns
 pub mod Words
 pub mod Runs
 pub mod Streams
+pub mod Surviving

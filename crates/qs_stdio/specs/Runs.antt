@@ -13,6 +13,7 @@ use Rattle.qs_stripe.specs.Table.{StripeState}
 use Rattle.qs_world.specs.Values.{WorldValue, disks_of}
 use Rattle.qs_calls.specs.Calls.{Happened, Plays}
 use Rattle.qs_calls.specs.Runs.{Begins, HasRun}
+use Rattle.qs_single.specs.Remaining.{IsCleanSettled, IsSettled}
 use Rattle.qs_single.specs.Resting.{Attaches}
 use Rattle.qs_stream.specs.declared.state.State.{State}
 use Rattle.qs_stream.specs.declared.state.State.TheVariants as state
@@ -20,7 +21,8 @@ use Rattle.qs_stream.specs.Buffers.{Buffers, new_buffers}
 use Rattle.qs_stream.specs.Flows.{Flow, Moved, Side}
 use Rattle.qs_stdio.specs.declared.words.StdioWords.{StdioWords}
 use Rattle.qs_stdio.specs.Words.{command}
-use Rattle.qs_stdio.specs.Service.{Exchange, AllFit, CalledAll, LeadsAll, asked, answered, rounds}
+use Rattle.qs_stdio.specs.Service.{Exchange, AllFit, CalledAll, LeadsAll, OutlastsAll, asked, answered, rounds}
+use Rattle.qs_stdio.specs.Surviving.{Survives}
 use Rattle.qs_stdio.specs.Scenes.{Scene, IsFront, IsWhole, Ending, disks_in}
 
 -- the side that failed, by the status of the run
@@ -63,6 +65,8 @@ pub record Sitting {D : Type 0} (seen : D → Seen) (session : ℕ) (writable : 
   -- the content goes on from request to request; the core was called for these alone
   pub service : AllTell (disks_in seen before) → LeadsAll (content (disks_in seen before)) exchanges (content (disks_in seen after))
   pub called : CalledAll (disks_in seen before) exchanges (disks_in seen after)
+  -- and so does what a crash may leave, where it leaves of each clean stripe what its blocks hold
+  pub outlasts : AllTell (disks_in seen before) → IsCleanSettled seen before.world → OutlastsAll (disks_in seen before) exchanges (disks_in seen after)
   pub plays : Plays seen before.world (rounds exchanges) after.world
   pub same : SameDisks (disks_in seen before) (disks_in seen after)
   pub ends : Ends result budget exchanges after.flow rest
@@ -108,6 +112,8 @@ pub record Holds {D : Type 0} (seen : D → Seen) (disks : List D) (read_only : 
   pub service : AllTell (map seen disks) → LeadsAll (content (map seen disks)) sits.sits.exchanges (content (map seen disks'))
   pub called : CalledAll (map seen disks) sits.sits.exchanges (map seen disks')
   pub same : SameDisks (map seen disks) (map seen disks')
+  -- where they came settled, a crash leaves nothing older than a FLUSH that is Fine
+  pub survives : AllTell (map seen disks) → IsSettled (map seen disks) → Survives (map seen disks) sits.sits.exchanges (map seen disks')
 
 -- the disks are tested, and requests are served over them, at most 2^32; memory may be refused before
 abbrev pub Serves : {D : Type 0} → (D → Seen) → Bool → List D → Side → Side → Status → List D → Side → Side → Type 0

@@ -14,6 +14,7 @@ use Rattle.qs_part.specs.declared.event.Note.{Note}
 use Rattle.qs_part.specs.declared.event.Outcome.TheVariants.{Answered, Made}
 use Rattle.qs_calls.specs.Calls.{Call, Happened}
 use Rattle.qs_calls.specs.Goings.{RunsOut}
+use Rattle.qs_single.specs.Remaining.{Outlasts}
 use Rattle.qs_single.specs.Resting.{IsBody}
 use Rattle.qs_single.specs.Service.{Called, Leads, MayGet}
 
@@ -54,10 +55,17 @@ abbrev pub LeadsAll : List ℕ → List Exchange → List ℕ → Type 0
 LeadsAll old [] new = new ≡ old
 LeadsAll old (x ∷ xs) new = Leads old (ask x) x.message.body x.verdict (content x.left) × LeadsAll (content x.left) xs new
 
--- each request made of the disks what it may, from those that the one before left
+-- each request leads so from the disks that the one before left to those that it left itself
+abbrev pub Chained : (List Seen → Exchange → List Seen → Type 0) → List Seen → List Exchange → List Seen → Type 0
+Chained P old [] new = new ≡ old
+Chained P old (x ∷ xs) new = P old x x.left × Chained P x.left xs new
+
+-- what it may make of the disks, and what a crash may leave behind it
 abbrev pub CalledAll : List Seen → List Exchange → List Seen → Type 0
-CalledAll old [] new = new ≡ old
-CalledAll old (x ∷ xs) new = Called old (ask x) x.message.body x.verdict x.left × CalledAll x.left xs new
+CalledAll old xs new = Chained (λ before x after. Called before (ask x) x.message.body x.verdict after) old xs new
+
+abbrev pub OutlastsAll : List Seen → List Exchange → List Seen → Type 0
+OutlastsAll old xs new = Chained (λ before x after. Outlasts before (ask x) x.message.body x.verdict after) old xs new
 
 -- the bytes of the requests, and those of their replies
 abbrev pub asked : List Exchange → List ℕ

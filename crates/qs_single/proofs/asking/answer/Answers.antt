@@ -3,7 +3,8 @@ use Rattle.std.proofs.Common.{subst}
 use Rattle.qs_part.specs.declared.event.Actor.TheVariants.{Request as ARequest}
 use Rattle.qs_part.specs.declared.event.Event.TheVariants.{Step}
 use Rattle.qs_calls.specs.Goings.{RunsOut}
-use Rattle.qs_single.proofs.Answering.{exchanged, never_gone, never_other, never_stuck}
+use Rattle.qs_single.proofs.Answering.{never_gone, never_other, never_stuck}
+use Rattle.qs_single.proofs.Exchanging.{exchanged}
 use Rattle.qs_single.proofs.asking.answer.Goals as goal
 
 pub unreachable-requires : goal.unreachable-requires
