@@ -5,6 +5,7 @@
 mod block_store;
 mod calls;
 mod clock;
+mod crash;
 mod disk;
 mod mem_clock;
 mod mem_disk;
@@ -16,6 +17,7 @@ mod store_log;
 mod stream;
 
 pub use clock::Clock;
+pub use crash::{CrashChoice, Picks};
 pub use disk::Disk;
 pub use mem_clock::MemClock;
 pub use mem_disk::MemDisk;
