@@ -27,7 +27,7 @@ kept-push align (c ∷ blocks) bytes b piece whole same =
     let first : List ℕ → List KeptStore → List KeptStore = λ xs ys. (record { block = c; bytes = xs }) ∷ ys in
     rw (take-append-le, drop-append-le align bytes piece enough) (ap (first (take align bytes)) (kept-push align blocks (drop align bytes) b piece rest same))
 
-contents-push : (c b : ℕ) (stores : List KeptStore) (piece : List ℕ) → contents_of c (stores ++ (record { block = b; bytes = piece }) ∷ [])
+pub contents-push : (c b : ℕ) (stores : List KeptStore) (piece : List ℕ) → contents_of c (stores ++ (record { block = b; bytes = piece }) ∷ [])
     ≡ contents_of c stores ++ contents_of c ((record { block = b; bytes = piece }) ∷ [])
 contents-push c b stores piece =
     let more : List KeptStore = (record { block = b; bytes = piece }) ∷ [] in

@@ -1,2 +1,3 @@
 mod HeldBlocks
 mod Journals
+mod Replays

@@ -1,7 +1,7 @@
 -- Disks in memory that keep each store since the last sync, so that a crash can be played.
-use Rattle.std.specs.Prelude.{◌≡◌, ℕ, ◌==◌, true, List, [], ◌∷◌, Some, length, map, filter, take, drop, nat_le}
+use Rattle.std.specs.Prelude.{◌≡◌, ℕ, ◌==◌, ◌<◌, true, List, [], ◌∷◌, Some, length, map, filter, take, drop, nat_le, slice_index_or}
 use Rattle.qs_outside.specs.declared.rigged_disk.Plans.{Plans}
-use Rattle.qs_outside.specs.Blocks.{Fixed, Seen}
+use Rattle.qs_outside.specs.Blocks.{Fixed, IsBlock, Seen}
 use Rattle.qs_outside.specs.Held.{Held, block_of, quiet_seen}
 
 -- a store that is kept
@@ -52,8 +52,21 @@ pub record KeptStores : Type 0 where
   pub room : ℕ
   pub stores : List KeptStore
 
--- two sets of blocks are of one disk, and its stores are of whole blocks
-pub record IsOneDisk (now synced : Held) (align : ℕ) : Type 0 where
+-- one store of a list, which there is
+abbrev pub store_at : List KeptStore → ℕ → KeptStore
+store_at stores j = slice_index_or stores j (record { block = 0; bytes = [] })
+
+-- a store is of a whole block of a disk
+pub record IsStoreOf (disk : Held) (store : KeptStore) : Type 0 where
+  pub block : IsBlock (quiet_seen disk) store.block
+  pub whole : length store.bytes ≡ disk.align
+
+abbrev pub AreStoresOf : Held → List KeptStore → Type 0
+AreStoresOf disk stores = (j : ℕ) → j < length stores → IsStoreOf disk (store_at stores j)
+
+-- two sets of blocks are of one disk, and its stores are of whole blocks of it
+pub record IsOneDisk (now synced : Held) (align : ℕ) (kept : List KeptStore) : Type 0 where
   pub fixed : Fixed (quiet_seen synced) (quiet_seen now)
   pub room : length synced.bytes ≡ length now.bytes
   pub align_is : align ≡ now.align
+  pub stores : AreStoresOf synced kept

@@ -1,4 +1,5 @@
 pub mod Blocks
+pub mod Crashes
 pub mod Faults
 pub mod Held
 pub mod Journal

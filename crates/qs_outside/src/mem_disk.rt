@@ -1,5 +1,6 @@
 ghost use Rattle.std.specs.Prelude.{◌≡◌, ◌≢◌, ◌↔◌, ◌⊎◌, ◌<◌, ◌≤◌, ◌∷◌, ◌++◌, [], false, length, IfOk, IsErr, IsSome, IsTrue, OnOk, OnErr, Some, None, Contains};
 ghost use Rattle.qs_outside.specs.Blocks.{Fixed, IsBlock, MayLeave, Stored, StoredOrNot};
+ghost use Rattle.qs_outside.specs.Crashes.{Crashes};
 ghost use Rattle.qs_outside.specs.Faults.{HasCause};
 ghost use Rattle.qs_outside.specs.Held.{IsZeros, block_of};
 ghost use Rattle.qs_outside.specs.Journal.{journal_seen};
@@ -7,6 +8,7 @@ ghost use Rattle.qs_outside.specs.Rigged.{AsPlanned, counted_if, no_plans, plann
 ghost use Rattle.qs_outside.specs.Streams.{next_count};
 
 use crate::block_store::BlockStore;
+use crate::crash::CrashChoice;
 use crate::disk::Disk;
 use crate::rigged_disk::{Fail, Plans, RiggedDisk};
 use crate::store_log::StoreLog;
@@ -34,7 +36,7 @@ impl Model for MemDisk {
 
     ghost view = { λ d. record { now = d.now; synced = d.synced; stores = d.log.stores; room = d.log.room; faults = d.faults; planned = d.planned } };
 
-    ghost invariant = { λ d. IsOneDisk d.now d.synced d.log.align };
+    ghost invariant = { λ d. IsOneDisk d.now d.synced d.log.align d.log.stores };
 }
 
 impl MemDisk {
@@ -101,6 +103,7 @@ impl MemDisk {
 
     fn keep(&mut self, b: u64, bytes: &[u8])
         requires room { length self.old.stores < self.old.room }
+        requires block { IsBlock (journal_seen self.old) b }
         requires whole { length bytes.now ≡ self.old.now.align }
         ensures { self.new ≡ record self.old { stores = self.old.stores ++ (record { block = b; bytes = bytes.now }) ∷ [] } }
     {
@@ -247,5 +250,19 @@ impl RiggedDisk for MemDisk {
         ensures { self.new ≡ record self.old { planned = planned_too fail self.old.planned } }
     {
         self.planned = self.planned.with(fail);
+    }
+
+    fn crash(&mut self, choice: &CrashChoice)
+        ensures crashes { Crashes choice.now (journal_seen self.old) (journal_seen self.new) }
+
+        // All the room for stores is free again.
+        ensures emptied { self.new.stores ≡ [] }
+        ensures settled { self.new.synced ≡ self.new.now }
+        ensures room { self.new.room ≡ self.old.room }
+    {
+        self.log.replay(choice, &mut self.synced);
+        self.now.copy_from(&self.synced);
+        self.log.clear();
+        self.planned = Plans::NONE;
     }
 }

@@ -1,6 +1,8 @@
 ghost use Rattle.std.specs.Prelude.{◌≡◌, Some};
+ghost use Rattle.qs_outside.specs.Crashes.{Crashes};
 ghost use Rattle.qs_outside.specs.Rigged.{planned_too, plans_of};
 
+use crate::crash::CrashChoice;
 use crate::disk::Disk;
 
 /// A call of a disk that is planned to fail, once.
@@ -54,7 +56,7 @@ impl Plans {
     }
 }
 
-/// A disk whose failures can be planned, for tests and for replaying a script.
+/// A disk whose failures and crashes can be planned, for tests and for replaying a script.
 ///
 /// It tells its plans (`planned`) and whether it is full (`full`). A load, store or sync spends the
 /// plan of its own kind.
@@ -63,4 +65,9 @@ pub trait RiggedDisk: Disk {
     /// the two failures of a store are one kind. Nothing else changes.
     fn plan(&mut self, fail: Fail)
         ensures { Self.seen self.new ≡ record (Self.seen self.old) { planned = Some (planned_too fail (plans_of (Self.seen self.old).planned)) } };
+
+    /// The power fails: each block holds the content that is chosen of those that a crash may leave, and
+    /// that alone may be left by another one. No failure is planned any more.
+    fn crash(&mut self, choice: &CrashChoice)
+        ensures { Crashes choice.now (Self.seen self.old) (Self.seen self.new) };
 }

@@ -164,3 +164,59 @@ fn a_later_plan_of_a_store_replaces_the_earlier(rt: HostRuntime) -> Result<(), F
     assert_eq!(rt; store_to(&mut disk, 3, &[8, 8]), Ok(()));
     Ok(())
 }
+
+fn crash_of<D: RiggedDisk>(disk: &mut D, choice: &CrashChoice)
+    ensures { Fixed (D.seen disk.old) (D.seen disk.new) }
+{
+    disk.crash(choice)
+}
+
+#[test]
+fn a_crash_leaves_the_chosen_contents(rt: HostRuntime) -> Result<(), Failure> {
+    let none: [(u64, u64); 0] = [];
+    for (rest, pairs, third, fourth) in [
+        (0, none.as_slice(), 0, 0),
+        (1, none.as_slice(), 1, 7),
+        (2, none.as_slice(), 2, 7),
+        (u64::MAX, none.as_slice(), 2, 7),
+        (0, [(3, 1)].as_slice(), 1, 0),
+        (2, [(3, 1), (3, 0), (19, 1), (999, 1)].as_slice(), 0, 7),
+        (0, [(4, 5), (3, 5)].as_slice(), 2, 7),
+    ] {
+        let mut disk = MemDisk::new(rt.alloc(), 0, 2, 256, 3)?;
+        let mut into = [0u8; 2];
+        assert_eq!(rt; store_to(&mut disk, 3, &[1, 1]), Ok(()));
+        assert_eq!(rt; store_to(&mut disk, 4, &[7, 7]), Ok(()));
+        assert_eq!(rt; store_to(&mut disk, 3, &[2, 2]), Ok(()));
+        assert_eq!(rt; store_to(&mut disk, 3, &[3, 3]), Err(Failed));
+        plan_of(&mut disk, Fail::Load);
+        let picks = Picks(pairs.to_vec(rt.alloc())?);
+        crash_of(&mut disk, &CrashChoice { rest, picks });
+        for (b, want) in [(3, third), (4, fourth), (5, 0)] {
+            assert_eq!(rt; load_from(&mut disk, b, &mut into), Ok(()));
+            assert_eq!(rt; into, [want, want]);
+        }
+        let choice = CrashChoice {
+            rest: 9,
+            picks: Picks(none.to_vec(rt.alloc())?),
+        };
+        crash_of(&mut disk, &choice);
+        assert_eq!(rt; load_from(&mut disk, 3, &mut into), Ok(()));
+        assert_eq!(rt; into, [third, third]);
+        assert_eq!(rt; store_to(&mut disk, 3, &[8, 8]), Ok(()));
+    }
+    Ok(())
+}
+
+#[test]
+fn a_refused_store_may_come_back_by_a_crash(rt: HostRuntime) -> Result<(), Failure> {
+    let mut disk = MemDisk::new(rt.alloc(), 0, 2, 256, 3)?;
+    let mut into = [0u8; 2];
+    plan_of(&mut disk, Fail::StoreOld);
+    assert_eq!(rt; store_to(&mut disk, 3, &[7, 7]), Err(Failed));
+    let picks = Picks([(3, 1)].to_vec(rt.alloc())?);
+    crash_of(&mut disk, &CrashChoice { rest: 0, picks });
+    assert_eq!(rt; load_from(&mut disk, 3, &mut into), Ok(()));
+    assert_eq!(rt; into, [7, 7]);
+    Ok(())
+}

@@ -153,6 +153,14 @@ impl Holds {
         }
     }
 
+    /// Nothing is held any more.
+    pub fn clear(&mut self)
+        ensures { (k : ℕ) (side : End) → holds_of self.new k side ≡ None }
+    {
+        self.places.fill(Ends::NONE);
+        self.top = 0;
+    }
+
     /// The block that place `k` holds at this end.
     pub fn at(&self, k: u8, side: Side) -> Option<u64>
         ensures { result ≡ holds_of self.now k side }

@@ -1,12 +1,13 @@
 ghost use Rattle.std.specs.Prelude.{◌≡◌, length, MatchResult};
 ghost use Rattle.qs_outside.specs.Blocks.{IsBlock};
+ghost use Rattle.qs_outside.specs.Crashes.{Crashes};
 ghost use Rattle.qs_outside.specs.Rigged.{planned_too, plans_of};
 ghost use Rattle.qs_stripe.specs.Table.{Fits, IsContent, IsSettled, IsStored, IsUnsettled, IsWhole, MayBeStored, Opened, Reads, Refuses, Syncs, Writes, answers, geometry, value_of};
 
 use crate::geometry::Geometry;
 use crate::holds::Holds;
 use qs_bytes::Bytes;
-use qs_outside::{Disk, Fail, Failed, RiggedDisk};
+use qs_outside::{CrashChoice, Disk, Fail, Failed, RiggedDisk};
 use qs_part::part::Part;
 use qs_part::stripe::{Side, StripeOp, StripeReply};
 use std::alloc::Global;
@@ -179,6 +180,17 @@ impl<D: RiggedDisk + Drop> Stripe<D> {
         } }
     {
         self.disk.plan(fail);
+    }
+
+    /// The disk crashes: each block holds what is chosen of what a crash may leave. No block is held any more, and
+    /// the stripe is clean, since another crash leaves just what each block holds.
+    pub fn crash(&mut self, choice: &CrashChoice)
+        ensures disk { Crashes choice.now (D.Disk.seen self.old.disk) (D.Disk.seen self.new.disk) }
+        ensures opened { Opened (value_of D.Disk.seen self.new) }
+    {
+        self.disk.crash(choice);
+        self.holds.clear();
+        self.clean = true;
     }
 }
 

@@ -1,5 +1,5 @@
 use super::*;
-use qs_outside::MemDisk;
+use qs_outside::{CrashChoice, MemDisk, Picks};
 use std::alloc::AllocError;
 use std::process::Abort;
 use std::test::Fail as Failure;
@@ -13,6 +13,7 @@ enum Ask {
     Free(u64, u8),
     Sync,
     Plan(Fail),
+    Crash(u64),
 }
 
 /// An answer, with the first byte of a block that was read.
@@ -28,6 +29,7 @@ enum Told {
     Clean,
     Synced,
     Planned,
+    Crashed,
 }
 
 fn block(alloc: Global, byte: u8) -> Result<Bytes, AllocError> {
@@ -85,6 +87,11 @@ fn answer(
         Ask::Plan(fail) => {
             stripe.plan(fail);
             return Ok(Told::Planned);
+        }
+        Ask::Crash(rest) => {
+            let picks = Picks([(4, 1)].to_vec(alloc)?);
+            stripe.crash(&CrashChoice { rest, picks });
+            return Ok(Told::Crashed);
         }
     };
     Ok(told_of(step_of(rt, stripe, op)))
@@ -178,6 +185,33 @@ fn a_sync_calls_the_disk_where_a_store_reached_it(rt: HostRuntime) -> Result<(),
         (Ask::Store(3, 1, 8), Told::Fault),
         (Ask::Sync, Told::Synced),
         (Ask::Sync, Told::Clean),
+    ];
+    run(&rt, rt.alloc(), &mut stripe, &script)?;
+    Ok(())
+}
+
+#[test]
+fn a_crash_frees_what_is_held_and_leaves_what_is_chosen(rt: HostRuntime) -> Result<(), Failure> {
+    let disk = MemDisk::new(rt.alloc(), 0, 2, 256, 8)?;
+    let Ok(mut stripe) = Stripe::new(rt.alloc(), disk) else {
+        return Err(Failure::new("no memory"));
+    };
+    let script = [
+        (Ask::Hold(3, 1, Side::Head), Told::Filled(0)),
+        (Ask::Store(4, 2, 7), Told::Done),
+        (Ask::Store(4, 2, 8), Told::Done),
+        (Ask::Store(5, 2, 9), Told::Done),
+        (Ask::Plan(Fail::Load), Told::Planned),
+        (Ask::Crash(0), Told::Crashed),
+        (Ask::Load(4, 0), Told::Filled(7)),
+        (Ask::Load(5, 0), Told::Filled(0)),
+        (Ask::Free(3, 1), Told::NotHeld),
+        (Ask::Hold(3, 2, Side::Head), Told::Filled(0)),
+        (Ask::Sync, Told::Clean),
+        (Ask::Store(4, 2, 8), Told::Done),
+        (Ask::Sync, Told::Synced),
+        (Ask::Crash(0), Told::Crashed),
+        (Ask::Load(4, 0), Told::Filled(8)),
     ];
     run(&rt, rt.alloc(), &mut stripe, &script)?;
     Ok(())
