@@ -5,7 +5,8 @@ use Rattle.qs_outside.specs.Blocks.{Seen}
 use Rattle.qs_part.specs.declared.event.Event.{Event}
 use Rattle.qs_part.specs.declared.event.Outcome.{Outcome}
 use Rattle.qs_part.specs.declared.event.Outcome.TheVariants.{Attached, NoExport, Crowded, Left, Made, Moved, Answered, NotNext, Memory}
-use Rattle.qs_model.specs.Acts.{Element, Planned as PlannedStep}
+use Rattle.qs_part.specs.declared.graph.GraphOp.{GraphOp}
+use Rattle.qs_model.specs.Acts.{Element, Exported as ExportedStep, Planned as PlannedStep, Crashed as CrashedStep}
 use Rattle.qs_model.specs.Events.{outcome_of}
 use Rattle.qs_model.specs.Guards.{May}
 use Rattle.qs_model.specs.Steps.{after, happens, Runs}
@@ -14,7 +15,7 @@ use Rattle.qs_world.specs.Events.{Does, HasCause, IsAsPlanned, Steps, StepsTo}
 use Rattle.qs_world.specs.Stands.{Stands}
 use Rattle.qs_world.specs.Values.{WorldValue}
 use Rattle.qs_request.specs.declared.shape.Shape.{Shape}
-use Rattle.qs_calls.specs.Calls.{AreCalls, Call, Happened, Rigged, Makes, MakesStep, Plays, Walks, full_at}
+use Rattle.qs_calls.specs.Calls.{AreCalls, Call, Happened, Rigged, PowerFailed, ExportMade, MakesExport, Makes, MakesStep, Plays, Walks, full_at}
 
 pub runs_more : (A : ℕ) (w : World) (es fs : List Element) → Runs A w es → Runs A (after A w es) fs → Runs A w (es ++ fs)
 runs_more A w [] fs run more = more
@@ -52,19 +53,30 @@ plays_of seen old event (Answered verdict note) new next room steps cause =
 made_by : {D : Type 0} (seen : D → Seen) (w : WorldValue D) (c : Call) (v : WorldValue D) → Makes seen w c v → (e : Element) × MakesStep seen w c e v
 made_by seen w (Happened event outcome) v makes = (makes.0.element, (makes.0, refl, makes.1))
 made_by seen w (Rigged stripe fail) v makes = (PlannedStep stripe fail, (makes, refl))
+made_by seen w (PowerFailed choice left) v makes = (CrashedStep left, (makes.0, makes.1, refl))
+made_by seen w (ExportMade op place) v makes = (ExportedStep op place, (makes, refl))
 
 pub step_does : {D : Type 0} (seen : D → Seen) (w : WorldValue D) (c : Call) (e : Element) (v : WorldValue D) → MakesStep seen w c e v → Does seen w e v
 step_does {D} seen w (Happened event outcome) e v made = subst (λ (x : Element). Does seen w x v) (sym made.1) made.0.does
 step_does {D} seen w (Rigged stripe fail) e v made = subst (λ (x : Element). Does seen w x v) (sym made.1) made.0.does
+step_does {D} seen w (PowerFailed choice left) e v made =
+    subst (λ (x : Element). Does seen w x v) (sym (made.2 ∙ ap CrashedStep made.1)) made.0.does
+step_does {D} seen w (ExportMade op place) e v made =
+    subst (λ (x : Element). Does seen w x v)
+    (sym (made.1 ∙ ap (ExportedStep op) made.0.place_is ∙ ap (λ (o : GraphOp). ExportedStep o made.0.exports.place) made.0.op_is)) made.0.exports.does
 
 -- a planned store leaves what its plan says
 pub step_planned : {D : Type 0} (seen : D → Seen) (w : WorldValue D) (c : Call) (e : Element) (v : WorldValue D) → MakesStep seen w c e v → IsAsPlanned seen w e
 step_planned {D} seen w (Happened event outcome) e v made = subst (λ (x : Element). IsAsPlanned seen w x) (sym made.1) made.0.as_planned
 step_planned {D} seen w (Rigged stripe fail) e v made = subst (λ (x : Element). IsAsPlanned seen w x) (sym made.1) tt
+step_planned {D} seen w (PowerFailed choice left) e v made = subst (λ (x : Element). IsAsPlanned seen w x) (sym made.2) tt
+step_planned {D} seen w (ExportMade op place) e v made = subst (λ (x : Element). IsAsPlanned seen w x) (sym made.1) tt
 
 pub step_shape : {D : Type 0} (seen : D → Seen) (w : WorldValue D) (c : Call) (e : Element) (v : WorldValue D) → MakesStep seen w c e v → v.shape ≡ w.shape
 step_shape seen w (Happened event outcome) e v made = made.0.shape_kept
 step_shape {D} seen w (Rigged stripe fail) e v made = ap (λ (x : WorldValue D). x.shape) made.0.rest
+step_shape {D} seen w (PowerFailed choice left) e v made = ap (λ (x : WorldValue D). x.shape) made.0.rest
+step_shape {D} seen w (ExportMade op place) e v made = ap (λ (x : WorldValue D). x.shape) made.0.exports.same
 
 -- the state of the model that the core stands for behind a call
 pub step_stands : {D : Type 0} (seen : D → Seen) (A : ℕ) (w : WorldValue D) (c : Call) (e : Element) (v : WorldValue D) (m : World) → w.shape.align ≡ A → Stands seen w m →
@@ -80,6 +92,8 @@ step_one {D} seen A w (Happened event outcome) e v cs es align made are =
     subst (λ (x : Element). AreCalls A (Happened event outcome ∷ cs) (x ∷ es)) (sym made.1)
     (made.0.answers_event, subst (λ (a : ℕ). outcome_of a made.0.element ≡ Some outcome) align made.0.outcome_is, are)
 step_one seen A w (Rigged stripe fail) e v cs es align made are = (made.1, are)
+step_one seen A w (PowerFailed choice left) e v cs es align made are = (made.2, are)
+step_one seen A w (ExportMade op place) e v cs es align made are = (made.1, are)
 
 -- a run of the model whose steps are these calls
 pub record Leads {D : Type 0} (seen : D → Seen) (A : ℕ) (w : WorldValue D) (m : World) (calls : List Call) (v : WorldValue D) : Type 0 where

@@ -11,6 +11,7 @@ use Rattle.qs_model.specs.Steps.{happens}
 use Rattle.qs_model.proofs.Headline.{besides, headline}
 use Rattle.qs_model.specs.Worlds.{Opening as OpenedOver}
 use Rattle.qs_verdicts.proofs.Judged.{judged}
+use Rattle.qs_durable.proofs.Durable.{durable}
 use Rattle.qs_part.specs.declared.graph.GraphOp.TheVariants.{ExportAdd}
 use Rattle.qs_request.specs.declared.shape.Shape.{Shape}
 use Rattle.qs_world.specs.Events.{Does}
@@ -65,5 +66,6 @@ has_run {D} seen disks read_only start w calls begins plays =
       headline = headline A o steps some (s.may, on.run);
       besides = besides A o steps some (s.may, on.run);
       judged = judged A o steps some (s.may, on.run);
+      durable = λ tells settled. durable A o steps some tells settled (s.may, on.run);
       stands = on.stands;
     }

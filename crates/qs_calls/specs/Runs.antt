@@ -1,5 +1,5 @@
 -- A core over disks with one export, and the run of the model that its calls are.
-use Rattle.std.specs.Prelude.{◌≡◌, ℕ, Bool, true, not, List, ◌∷◌, map, codes, Option, Some, None}
+use Rattle.std.specs.Prelude.{◌≡◌, ℕ, Bool, true, not, List, ◌∷◌, map, codes, Option, Some, None, IsTrue}
 use Rattle.qs_status.specs.declared.status.OpenBad.{OpenBad}
 use Rattle.qs_status.specs.declared.status.Status.{Status}
 use Rattle.qs_status.specs.declared.status.Status.TheVariants as status
@@ -13,7 +13,8 @@ use Rattle.qs_model.specs.Worlds.{World}
 use Rattle.qs_part.specs.declared.graph.GraphOp.{GraphOp}
 use Rattle.qs_part.specs.declared.graph.GraphOp.TheVariants.{ExportAdd}
 use Rattle.qs_verdicts.specs.Judged.{Judged}
-use Rattle.qs_world.specs.Openings.{Exports, IsOpened, opening_over}
+use Rattle.qs_durable.specs.Laws.{Durable, IsHandedInSettled}
+use Rattle.qs_world.specs.Openings.{Exports, IsOpened, opening_over, tells_of}
 use Rattle.qs_world.specs.Stands.{Stands}
 use Rattle.qs_world.specs.Values.{WorldValue}
 use Rattle.qs_calls.specs.Calls.{AreCalls, Call, Walks}
@@ -32,7 +33,8 @@ exported disks read_only place = happens (align_of disks) (opened disks read_onl
 
 -- A run of the model from its opening state: the export is made, and then each step is a call's, in order, as the core
 -- went through them; before each the disks told this of being full. The headline holds of it, and so do the other laws
--- of runs; the core stands for where it leads.
+-- of runs; where the disks tell their content and were handed in settled, a crash leaves nothing older than an acknowledged
+-- flush. The core stands for where it leads.
 pub record HasRun {D : Type 0} (seen : D → Seen) (disks : List Seen) (read_only : Bool) (start : WorldValue D) (calls : List Call) (w : WorldValue D) : Type 0 where
   pub place : ℕ
   pub elements : List Element
@@ -43,6 +45,8 @@ pub record HasRun {D : Type 0} (seen : D → Seen) (disks : List Seen) (read_onl
   pub headline : Headline (align_of disks) (opened disks read_only) (Exported (export read_only) place ∷ elements)
   pub besides : Besides (align_of disks) (opened disks read_only) (Exported (export read_only) place ∷ elements)
   pub judged : Judged (align_of disks) (opened disks read_only) (Exported (export read_only) place ∷ elements)
+  pub durable : IsTrue (tells_of disks) → IsHandedInSettled (opening_over disks (codes "file0") read_only) →
+      Durable (align_of disks) (opened disks read_only) (Exported (export read_only) place ∷ elements)
   pub stands : Stands seen w (after (align_of disks) (opened disks read_only) (Exported (export read_only) place ∷ elements))
 
 -- A core over the disks, with the file node `file0` and the export `disk`.
