@@ -21,7 +21,7 @@ use Rattle.qs_world.specs.Events.{IsCaused, calls_stripe, stripe_by}
 use Rattle.qs_world.specs.Images.{stripe_at}
 use Rattle.qs_world.specs.Values.{WorldValue, disks_of, stripes_of}
 use Rattle.qs_world.proofs.SameDisks.{disk_at}
-use Rattle.qs_calls.specs.Calls.{Call, Happened, Rigged, MakesStep, Walks}
+use Rattle.qs_calls.specs.Calls.{Call, Happened, Rigged, PowerFailed, ExportMade, MakesStep, Walks}
 use Rattle.qs_calls.specs.Goings.{GoesOn}
 
 -- all of these calls are events
@@ -29,6 +29,8 @@ abbrev pub AreEvents : List Call → Type 0
 AreEvents [] = Unit {0}
 AreEvents (Happened event outcome ∷ cs) = AreEvents cs
 AreEvents (Rigged stripe fail ∷ cs) = ⊥
+AreEvents (PowerFailed choice left ∷ cs) = ⊥
+AreEvents (ExportMade op place ∷ cs) = ⊥
 
 pub run_events : (made : Event) (front : List Call) (last : Outcome) → All (GoesOn made) front → AreEvents (front ++ Happened made last ∷ [])
 run_events made [] last on = tt
@@ -64,6 +66,8 @@ walk_disks {D} seen w [] [] [] w' are walks = subst (λ (x : WorldValue D). Same
 walk_disks seen w (Happened event outcome ∷ cs) (e ∷ es) (full ∷ fulls) w' are walks =
     same_then (disks_of seen w) (disks_of seen walks.1) (disks_of seen w') walks.2.0.2.disks (walk_disks seen walks.1 cs es fulls w' are walks.2.1)
 walk_disks seen w (Rigged stripe fail ∷ cs) es fulls w' are walks = absurd are
+walk_disks seen w (PowerFailed choice left ∷ cs) es fulls w' are walks = absurd are
+walk_disks seen w (ExportMade op place ∷ cs) es fulls w' are walks = absurd are
 walk_disks seen w [] (e ∷ es) fulls w' are walks = absurd walks
 walk_disks seen w [] [] (full ∷ fulls) w' are walks = absurd walks
 walk_disks seen w (Happened event outcome ∷ cs) [] fulls w' are walks = absurd walks
@@ -75,6 +79,8 @@ walk_shape {D} seen w [] [] [] w' are walks = ap (λ (x : WorldValue D). x.shape
 walk_shape seen w (Happened event outcome ∷ cs) (e ∷ es) (full ∷ fulls) w' are walks =
     walk_shape seen walks.1 cs es fulls w' are walks.2.1 ∙ walks.2.0.0.shape_kept
 walk_shape seen w (Rigged stripe fail ∷ cs) es fulls w' are walks = absurd are
+walk_shape seen w (PowerFailed choice left ∷ cs) es fulls w' are walks = absurd are
+walk_shape seen w (ExportMade op place ∷ cs) es fulls w' are walks = absurd are
 walk_shape seen w [] (e ∷ es) fulls w' are walks = absurd walks
 walk_shape seen w [] [] (full ∷ fulls) w' are walks = absurd walks
 walk_shape seen w (Happened event outcome ∷ cs) [] fulls w' are walks = absurd walks
@@ -135,6 +141,8 @@ risen {D} seen A w (Happened event outcome ∷ cs) (x ∷ xs) (full ∷ fulls) w
     rose_before (disk (disks_of seen w) j).faults (disk (disks_of seen walks.1) j).faults (disk (disks_of seen w') j).faults (walks.2.0.2.disks.later j)
     (risen seen A walks.1 cs xs fulls w' (ap (λ (s : _). s.align) shape ∙ align) are walks.2.1 gs e (comes.0, rest) j fails)
 risen seen A w (Rigged stripe fail ∷ cs) es fulls w' align are walks front e comes j fails = absurd are
+risen seen A w (PowerFailed choice left ∷ cs) es fulls w' align are walks front e comes j fails = absurd are
+risen seen A w (ExportMade op place ∷ cs) es fulls w' align are walks front e comes j fails = absurd are
 risen seen A w [] [] [] w' align are walks [] e comes j fails = absurd (nil_cons e comes.0 comes.1)
 risen seen A w [] [] [] w' align are walks (g ∷ gs) e comes j fails = absurd (nil_cons g (gs ++ e ∷ comes.0) comes.1)
 risen seen A w [] [] (full ∷ fulls) w' align are walks front e comes j fails = absurd walks
@@ -189,6 +197,8 @@ walk_off seen A w (Happened event outcome ∷ cs) (e ∷ es) (full ∷ fulls) w'
     ap (outcome_of A) made.1 ∙ sym (ap (λ (a : ℕ). outcome_of a made.0.element) align) ∙ made.0.outcome_is in
     walk_off seen A walks.1 cs es fulls w' (ap (λ (s : _). s.align) made.0.shape_kept ∙ align) are walks.2.1 quiet.1 ∙ made.2.rest (quiet.0 outcome told)
 walk_off seen A w (Rigged stripe fail ∷ cs) es fulls w' align are walks quiet = absurd are
+walk_off seen A w (PowerFailed choice left ∷ cs) es fulls w' align are walks quiet = absurd are
+walk_off seen A w (ExportMade op place ∷ cs) es fulls w' align are walks quiet = absurd are
 walk_off seen A w [] (e ∷ es) fulls w' align are walks quiet = absurd walks
 walk_off seen A w [] [] (full ∷ fulls) w' align are walks quiet = absurd walks
 walk_off seen A w (Happened event outcome ∷ cs) [] fulls w' align are walks quiet = absurd walks
