@@ -52,6 +52,13 @@ impl Graph {
         })
     }
 
+    /// Whether the file may only be read.
+    pub fn is_read_only(&self) -> bool
+        ensures { result ≡ self.now.read_only }
+    {
+        self.read_only
+    }
+
     /// Makes the graph what [`Graph::new`] made. It takes no memory.
     pub fn reset(&mut self)
         ensures { self.new ≡ fresh self.old.size self.old.file self.old.read_only }

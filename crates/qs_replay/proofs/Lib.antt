@@ -9,3 +9,4 @@ pub mod Running
 pub mod Known
 pub mod Lives
 pub mod ZeroDisks
+pub mod Cutting

@@ -42,7 +42,7 @@ stopped_event seen old l stop.Memory new made mid lost is same out next form onc
 pub stopped_cut : {D : Type 0} (seen : D → Seen) (old : Desk D) (l : Line) (new : Desk D) (calls : List Call) (made : Event) (mid : Names) (lost : Bool) →
     IsEventOf old.table l lost made mid → AreFirst l made calls → Plays seen old.world calls new.world → new.out ≡ old.out →
     Stopped seen old l stop.Memory new
-stopped_cut seen old l new calls made mid lost is first plays out = (calls, (inr (made, mid, lost, (is, first)), plays, out))
+stopped_cut seen old l new calls made mid lost is first plays out = (calls, (inr (inl (made, mid, lost, (is, first))), plays, out))
 
 -- what a function that ends at a `?` answers
 pub stops : {D : Type 0} (seen : D → Seen) (old : Desk D) (l : Line) (lost : Bool) (s : Stop) (r : Result Unit Stop) (new : Desk D) →
@@ -77,6 +77,7 @@ asks_event t t' (line.End s) lost n session ask body is gives = absurd is
 asks_event t t' (line.Step a now) lost n session ask body is gives = absurd is
 asks_event t t' (line.Run a now) lost n session ask body is gives = absurd is
 asks_event t t' (line.Fail j k) lost n session ask body is gives = absurd is
+asks_event t t' (line.Crash choice) lost n session ask body is gives = absurd is
 
 -- the cookie that a session asks with was used
 by_used : (t a : Names) (n cookie : ℕ) (s session : List ℕ) (ask : Ask) → s ≡ session → ask.cookie ≡ cookie → Gives t session n a → IsUsed a n ask.cookie → WasUsed t s cookie
@@ -97,6 +98,7 @@ asks_again t a (line.End s) lost n session ask body is gives used = absurd is
 asks_again t a (line.Step w now) lost n session ask body is gives used = absurd is
 asks_again t a (line.Run w now) lost n session ask body is gives used = absurd is
 asks_again t a (line.Fail j k) lost n session ask body is gives used = absurd is
+asks_again t a (line.Crash choice) lost n session ask body is gives used = absurd is
 
 -- one call is among the first of a line that asks
 pub asks_first : (l : Line) (lost : Bool) (session : List ℕ) (ask : Ask) (body : Option (List ℕ)) (made : Event) (o : Outcome) → IsAsked l lost session ask body →
@@ -112,6 +114,7 @@ asks_first (line.End s) lost session ask body made o is = absurd is
 asks_first (line.Step a now) lost session ask body made o is = absurd is
 asks_first (line.Run a now) lost session ask body made o is = absurd is
 asks_first (line.Fail j k) lost session ask body made o is = absurd is
+asks_first (line.Crash choice) lost session ask body made o is = absurd is
 
 compare_cases : (n m : ℕ) → (n < m) ⊎ ((n ≡ m) ⊎ (m < n))
 compare_cases zero zero = inr (inl refl)
@@ -164,6 +167,7 @@ asks_once t a (line.End s) lost n session ask body is gives fresh again = absurd
 asks_once t a (line.Step w now) lost n session ask body is gives fresh again = absurd is
 asks_once t a (line.Run w now) lost n session ask body is gives fresh again = absurd is
 asks_once t a (line.Fail j k) lost n session ask body is gives fresh again = absurd is
+asks_once t a (line.Crash choice) lost n session ask body is gives fresh again = absurd is
 
 -- a line that asks was done
 pub asks_played : {D : Type 0} (seen : D → Seen) (old : Desk D) (l : Line) (lost : Bool) (new : Desk D) (n r : ℕ) (mid : Names) (session : List ℕ) (ask : Ask)
@@ -262,6 +266,7 @@ asks_played seen old (line.End s) lost new n r mid session ask body is gives fre
 asks_played seen old (line.Step a now) lost new n r mid session ask body is gives fresh plays table out = absurd is
 asks_played seen old (line.Run a now) lost new n r mid session ask body is gives fresh plays table out = absurd is
 asks_played seen old (line.Fail j k) lost new n r mid session ask body is gives fresh plays table out = absurd is
+asks_played seen old (line.Crash choice) lost new n r mid session ask body is gives fresh plays table out = absurd is
 
 -- a run couldn't begin
 pub stopped_run : {D : Type 0} (seen : D → Seen) (old : Desk D) (a : ScriptActor) (now : ℕ) (s : Stop) (new : Desk D) (actor : Actor) (mid : Names) →

@@ -25,7 +25,9 @@ use Rattle.qs_world.specs.Values.{WorldValue}
 use Rattle.qs_replay.specs.declared.stop.Stop.{Stop}
 use Rattle.qs_replay.specs.declared.stop.Stop.TheVariants as stop
 use Rattle.qs_replay.specs.declared.desk.Desk.{Desk}
-use Rattle.qs_calls.specs.Calls.{Call, Happened, Rigged, Plays}
+use Rattle.qs_outside.specs.declared.crash.CrashChoice.{CrashChoice}
+use Rattle.qs_part.specs.declared.graph.GraphOp.{GraphOp}
+use Rattle.qs_calls.specs.Calls.{Call, Happened, Rigged, PowerFailed, ExportMade, Plays}
 use Rattle.qs_calls.specs.Goings.{GoesOn, RunsOut}
 use Rattle.qs_replay.specs.Tables.{Gives, IsKnown, IsUsed, Names, adds, settled}
 
@@ -84,6 +86,7 @@ IsEventOf t (line.Step actor now) lost made t' = (a : Actor) × (IsActor t actor
 IsEventOf t (line.Run actor now) lost made t' = (a : Actor) × (IsActor t actor a t' × (made ≡ event.Step a now))
 IsEventOf t line.Nothing lost made t' = ⊥
 IsEventOf t (line.Fail j fail) lost made t' = ⊥
+IsEventOf t (line.Crash choice) lost made t' = ⊥
 
 -- what became of a session
 abbrev pub news_of : Outcome → SessionNews
@@ -158,10 +161,19 @@ pub record Rests (t : Names) (given calls : List Call) (text : List ℕ) (t' : N
   pub text_is : text ≡ []
   pub same : t' ≡ t
 
--- what a line does: one that says nothing does nothing, one that plans a failure plans it, and the others make events
+-- the power failed, which left these blocks, and the export was made anew; nothing is printed, and the names stay
+pub record Crashes (t : Names) (choice : CrashChoice) (calls : List Call) (text : List ℕ) (t' : Names) : Type 0 where
+  pub left : ℕ → List ℕ
+  pub op : GraphOp
+  pub place : ℕ
+  pub rests : Rests t (PowerFailed choice left ∷ ExportMade op place ∷ []) calls text t'
+
+-- what a line does: one that says nothing does nothing, one that plans a failure plans it, one that crashes makes the export anew,
+-- and the others make events
 abbrev pub Does : Names → Line → Bool → List Call → List ℕ → Names → Type 0
 Does t line.Nothing lost calls text t' = Rests t [] calls text t'
 Does t (line.Fail j fail) lost calls text t' = Rests t (Rigged j fail ∷ []) calls text t'
+Does t (line.Crash choice) lost calls text t' = Crashes t choice calls text t'
 Does t other lost calls text t' = Acts t other lost calls text t'
 
 -- a whole line was done: its calls, and what it prints
@@ -213,9 +225,14 @@ abbrev pub AreFirst : Line → Event → List Call → Type 0
 AreFirst (line.Run actor now) made calls = All (GoesOn made) calls ⊎ ((o : Outcome) × RunsOut made calls o)
 AreFirst other made calls = (o : Outcome) × (calls ≡ Happened made o ∷ [])
 
+-- a crash, before the export was made anew
+abbrev pub IsCrash : Line → List Call → Type 0
+IsCrash (line.Crash choice) calls = (left : ℕ → List ℕ) × (calls ≡ PowerFailed choice left ∷ [])
+IsCrash other calls = ⊥
+
 -- none, or these
 abbrev pub IsCut : Names → Line → List Call → Type 0
-IsCut t l calls = (calls ≡ []) ⊎ ((made : Event) × (mid : Names) × (lost : Bool) × (IsEventOf t l lost made mid × AreFirst l made calls))
+IsCut t l calls = (calls ≡ []) ⊎ ((made : Event) × (mid : Names) × (lost : Bool) × (IsEventOf t l lost made mid × AreFirst l made calls)) ⊎ IsCrash l calls
 
 -- Why a line wasn't done, or not to its end: then nothing of it was printed, and but for refused memory nothing happened.
 abbrev pub Stopped : {D : Type 0} → (D → Seen) → Desk D → Line → Stop → Desk D → Type 0

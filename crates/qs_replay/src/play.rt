@@ -6,7 +6,7 @@ ghost use Rattle.qs_replay.specs.Effects.{IsAsked, IsPlanned, PlaysLine, news_of
 use crate::desk::{Desk, actor_for, happen, lost_bytes, room_for, run_all, run_lines, step_lines};
 use crate::stop::Stop;
 use qs_bytes::{Ask, Bytes, Kind, Name};
-use qs_outside::{Disk, Fail, RiggedDisk};
+use qs_outside::{CrashChoice, Disk, Fail, RiggedDisk};
 use qs_part::event::{Event, Outcome};
 use qs_script::{Line, ScriptActor, SessionName, SessionNews, put_session};
 
@@ -204,6 +204,21 @@ impl<D: RiggedDisk + Drop> Desk<D> {
         Ok(())
     }
 
+    /// `crash N [B=N]...`
+    fn crash(&mut self, choice: &CrashChoice) -> Result<(), Stop>
+        ensures { PlaysLine D.Disk.seen self.old (line.Crash choice.now) false result self.new }
+    {
+        let Some(export) = Name::of(b"disk") else {
+            unreachable!();
+        };
+        self.world.crash(choice);
+        let writable = !self.world.is_read_only();
+        match self.world.export_disk(export, writable) {
+            Ok(()) => Ok(()),
+            Err(_) => Err(Stop::Memory),
+        }
+    }
+
     /// One line is done.
     pub fn play(&mut self, line: Line) -> Result<(), Stop>
         requires { IsPlanned line }
@@ -243,6 +258,7 @@ impl<D: RiggedDisk + Drop> Desk<D> {
             Line::Step { actor, now } => self.step(&actor, now),
             Line::Run { actor, now } => self.run(&actor, now),
             Line::Fail { stripe, kind } => self.plan(stripe, kind),
+            Line::Crash(choice) => self.crash(&choice),
         }
     }
 }

@@ -30,7 +30,7 @@ pub enum Turn {
     WriteFault,
 }
 
-/// A text that isn't read as a line: it spells none, or a WRITE whose bytes found no memory.
+/// A text that isn't read as a line: it spells none, or a WRITE or a crash for which memory was refused.
 fn play_fault<D: RiggedDisk + Drop>(desk: &mut Desk<D>, fault: &LineFault) -> Result<(), Stop>
     ensures { (text : List ℕ) → IsLineFault (Reads text) fault.now → PlaysText D.Disk.seen desk.old text result desk.new }
 {
@@ -43,6 +43,7 @@ fn play_fault<D: RiggedDisk + Drop>(desk: &mut Desk<D>, fault: &LineFault) -> Re
             length,
             fua,
         } => desk.write_lost(*session, *cookie, *offset, *length, *fua),
+        LineFault::NoPicks => Err(Stop::Memory),
     }
 }
 

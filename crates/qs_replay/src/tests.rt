@@ -90,6 +90,61 @@ A.2 started\nB.2 not-yet 2\nA.2 = 0 00\nB.2 = 0\nA left\nA detached\nA attached 
     Ok(())
 }
 
+/// Two writes of one block, with a flush behind them where `flush` says so, a crash, and a read.
+fn crashed(alloc: Global, flush: &[u8], crash: &[u8]) -> Result<(Status, Vec<u8>), Memory> {
+    let mut text = Vec::from_slice(alloc, b"session A disk\nwrite A 1 0 11*512\nrun A.1\n")?;
+    text.extend_from_slice(b"write A 2 0 22*512\nrun A.2\n")?;
+    text.extend_from_slice(flush)?;
+    text.extend_from_slice(crash)?;
+    text.extend_from_slice(b"session A disk\nread A 4 0 1\nrun A.4\n")?;
+    script(alloc, text.as_slice())
+}
+
+#[test]
+fn a_crash_leaves_what_is_chosen_and_what_was_flushed(rt: HostRuntime) -> Result<(), Fail> {
+    let flush = b"flush A 3\nrun A.3\n";
+    for (flush, crash, last) in [
+        (b"".as_slice(), b"crash 0\n".as_slice(), b"A.4 = 0 00\n"),
+        (b"", b"crash 1\n", b"A.4 = 0 11\n"),
+        (b"", b"crash 2\n", b"A.4 = 0 22\n"),
+        (b"", b"crash 9\n", b"A.4 = 0 22\n"),
+        (b"", b"crash 9 0=1 7=0\n", b"A.4 = 0 11\n"),
+        (flush.as_slice(), b"crash 0\n", b"A.4 = 0 22\n"),
+    ] {
+        let (status, out) = crashed(rt.alloc(), flush, crash)?;
+        assert_eq!(rt; status, Status::Done);
+        assert!(rt; out.as_slice().ends_with(last));
+    }
+    Ok(())
+}
+
+#[test]
+fn a_crash_ends_sessions_and_requests(rt: HostRuntime) -> Result<(), Fail> {
+    for (text, status, printed) in [
+        // A padded write that holds its first block: nothing of it is left.
+        (
+            b"session A disk\nwrite A 1 510 11*4\nstep A.1\nstep A.1\nstep A.1\nstep A.1\nstep A.1\n\
+crash 0\nsession A disk\nread A 2 508 4\nrun A.2\nstep A.1\n"
+                .as_slice(),
+            Status::NotNext(12),
+            b"A attached 4096 rw\nA.1 enter 0\nA.1 route 0 4096\nA.1 listed 0\nA.1 started\n\
+A.1 held 0\nA attached 4096 rw\nA.2 = 0 00000000\n"
+                .as_slice(),
+        ),
+        // A cookie stays used.
+        (
+            b"session A disk\nread A 1 0 1\ncrash 0\nsession A disk\nread A 1 0 1\n",
+            Status::BadLine(5),
+            b"A attached 4096 rw\nA attached 4096 rw\n",
+        ),
+    ] {
+        let (came, out) = script(rt.alloc(), text)?;
+        assert_eq!(rt; came, status);
+        assert_eq!(rt; out.as_slice(), printed);
+    }
+    Ok(())
+}
+
 #[test]
 fn requests_without_data(rt: HostRuntime) -> Result<(), Fail> {
     for (text, printed) in [

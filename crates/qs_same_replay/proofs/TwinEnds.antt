@@ -73,6 +73,7 @@ used_never t t1 (line.End s) lost calls printed does again = again
 used_never t t1 (line.Step a now) lost calls printed does again = again
 used_never t t1 (line.Run a now) lost calls printed does again = again
 used_never t t1 (line.Fail j k) lost calls printed does again = again
+used_never t t1 (line.Crash choice) lost calls printed does again = again
 
 -- so a line that was done isn't bad
 pub bad_never : {D : Type 0} (seen : D → Seen) (w v : WorldValue D) (t t1 : Names) (text : List ℕ) (calls : List Call) (printed : List ℕ) → IsText text →
@@ -103,6 +104,7 @@ driven_never t t1 (line.Zero s c offset long fua) lost calls printed does unmade
 driven_never t t1 (line.Trim s c offset long) lost calls printed does unmade = unmade
 driven_never t t1 (line.Flush s c) lost calls printed does unmade = unmade
 driven_never t t1 (line.Fail j k) lost calls printed does unmade = unmade
+driven_never t t1 (line.Crash choice) lost calls printed does unmade = unmade
 
 -- whether a request can be made hangs on no body
 same_asked : {D : Type 0} (w : WorldValue D) (t mid mid' : Names) (s : List ℕ) (ask : Ask) (body body' : Option (List ℕ)) (made made' : Event) →
@@ -140,6 +142,7 @@ same_target w t mid mid' (line.Run a now) lost lost' made made' is at not_next =
     subst (IsNotNext w) (is.1.1 ∙ ap (λ (x : Actor). event.Step x now) (sym same.0) ∙ sym at.1.1) not_next
 same_target w t mid mid' line.Nothing lost lost' made made' is at not_next = absurd is
 same_target w t mid mid' (line.Fail j k) lost lost' made made' is at not_next = absurd is
+same_target w t mid mid' (line.Crash choice) lost lost' made made' is at not_next = absurd is
 
 -- an event that came to one of two twins can come to the other
 comes_never : {D : Type 0} (seen : D → Seen) (A : ℕ) (w : WorldValue D) (m m' : World) (made : Event) (e : Element) → Stands seen w m → Alike m m' → IsEvent made e → May A m' e →
@@ -195,6 +198,7 @@ acts_of : (t t1 mid : Names) (l : Line) (lost gone : Bool) (calls : List Call) (
     Acts t l lost calls printed t1
 acts_of t t1 mid line.Nothing lost gone calls printed made does is = absurd is
 acts_of t t1 mid (line.Fail j k) lost gone calls printed made does is = absurd is
+acts_of t t1 mid (line.Crash choice) lost gone calls printed made does is = absurd is
 acts_of t t1 mid l lost gone calls printed made does is = does
 
 -- its first call

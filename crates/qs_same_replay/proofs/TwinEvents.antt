@@ -109,3 +109,4 @@ notes_one (line.Zero s c offset long fua) made o t a b p q = adds_one made o t a
 notes_one (line.Trim s c offset long) made o t a b p q = adds_one made o t a b p q
 notes_one (line.Flush s c) made o t a b p q = adds_one made o t a b p q
 notes_one (line.Fail j k) made o t a b p q = adds_one made o t a b p q
+notes_one (line.Crash choice) made o t a b p q = adds_one made o t a b p q

@@ -18,7 +18,11 @@ use Rattle.qs_model.specs.Requests.{form_error}
 use Rattle.qs_model.specs.Steps.{happens}
 use Rattle.qs_model.specs.Worlds.{World}
 use Rattle.qs_world.specs.Values.{WorldValue}
-use Rattle.qs_calls.specs.Calls.{Call, Happened, Rigged}
+use Rattle.qs_outside.specs.declared.crash.CrashChoice.{CrashChoice}
+use Rattle.qs_model.specs.Acts.{Element, Crashed}
+use Rattle.qs_determined.specs.Determined.{Cuts, IsInput}
+use Rattle.qs_same_replay.specs.Same.{IsGiven}
+use Rattle.qs_calls.specs.Calls.{Call, Happened, Rigged, PowerFailed, ExportMade}
 use Rattle.qs_replay.specs.Effects.{Acts, AskedBy, Does, IsRoom, Notes, bytes_or, flush_ask, read_ask, text_of, trim_ask, write_ask, zero_ask}
 use Rattle.qs_calls.specs.Goings.{GoesOn, RunsOut, goes_on}
 use Rattle.qs_replay.specs.Scripts.{AllDone, DoesText}
@@ -144,6 +148,14 @@ module _ (A : ℕ) where
       (twin_event m m' n n' does.made also.made does.outcome also.outcome calls calls'
       (tame_as does.made _ made_is (λ bad. absurd (true≢false (sym bad ∙ good)))) twins event_is calls_are calls_too one two)
 
+  -- a step that is calm is no crash
+  no_crash : (m : World) (choice : CrashChoice) (left : ℕ → List ℕ) → CalmStep A m (PowerFailed choice left) → ⊥
+  no_crash m choice left step = by step.element step.comes.is step.given
+    where
+      by : (e : Element) → IsInput (Cuts choice left) e → IsGiven e → ⊥
+      by (Crashed blocks) is given = given
+      by e is given = is
+
   -- one line
   twin_line : (m m' n n' : World) (t : Names) (l : Line) (lost lost' : Bool) (calls calls' : List Call) (printed printed' : List ℕ) (t1 t1' : Names) →
       Twins m m' → Does t l lost calls printed t1 → Does t l lost' calls' printed' t1' → Calmly A m calls n → Calmly A m' calls' n' →
@@ -161,6 +173,9 @@ module _ (A : ℕ) where
     twins = (twin_one m m' n n' (Rigged j fail) (Rigged j fail) twins (given_calls m n calls (Rigged j fail ∷ []) does.calls_are one)
         (given_calls m' n' calls' (Rigged j fail ∷ []) also.calls_are two) refl tt).1;
   }
+  twin_line m m' n n' t (line.Crash choice) lost lost' calls calls' printed printed' t1 t1' twins does also one two =
+      absurd (no_crash m choice does.left
+      (given_calls m n calls (PowerFailed choice does.left ∷ ExportMade does.op does.place ∷ []) does.rests.calls_are one).0)
   twin_line m m' n n' t (line.Session s e) lost lost' calls calls' printed printed' t1 t1' twins does also one two =
       let same = gives_one t does.mid also.mid s does.event_is.0 also.event_is.0 does.event_is.1.0 also.event_is.1.0 in
       let event_is : also.made ≡ does.made = also.event_is.1.1 ∙ ap (λ (k : ℕ). event.Attach k e) same.0 ∙ sym does.event_is.1.1 in

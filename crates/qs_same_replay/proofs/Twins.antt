@@ -5,16 +5,21 @@ use Rattle.qs_bytes.specs.declared.ask.Ask.{Ask}
 use Rattle.qs_part.specs.declared.event.Event.{Event}
 use Rattle.qs_part.specs.declared.event.Event.TheVariants as event
 use Rattle.qs_part.specs.declared.event.Outcome.{Outcome}
-use Rattle.qs_model.specs.Acts.{Element, Asked, Crashed}
-use Rattle.qs_determined.specs.Determined.{Alike, Input, Happens, Fails, IsGivenAlike, IsInput}
-use Rattle.qs_determined.proofs.Steps.{Comes, one_outcome}
+use Rattle.qs_part.specs.declared.graph.GraphOp.{GraphOp}
+use Rattle.qs_part.specs.declared.graph.GraphReply.TheVariants.{Added}
+use Rattle.qs_graph.specs.Table.{GraphValue, May as GraphMay}
+use Rattle.qs_outside.specs.declared.crash.CrashChoice.{CrashChoice}
+use Rattle.qs_model.specs.Guards.{May}
+use Rattle.qs_model.specs.Acts.{Element, Asked, Crashed, Exported}
+use Rattle.qs_determined.specs.Determined.{Alike, Input, Happens, Fails, Cuts, Makes, IsGivenAlike, IsInput}
+use Rattle.qs_determined.proofs.Steps.{Comes, added_one, one_outcome}
 use Rattle.qs_model.specs.Events.{Brings, IsEvent, outcome_of}
 use Rattle.qs_model.specs.Laws.{NeverOdd}
 use Rattle.qs_model.specs.Requests.{Client, form_error, wants_body}
 use Rattle.qs_model.specs.Steps.{Runs, after, happens}
 use Rattle.qs_model.specs.Worlds.{World}
 use Rattle.qs_model.proofs.Basics.{either}
-use Rattle.qs_calls.specs.Calls.{AreCalls, Call, Happened, Rigged}
+use Rattle.qs_calls.specs.Calls.{AreCalls, Call, Happened, Rigged, PowerFailed, ExportMade}
 use Rattle.qs_same_replay.specs.Same.{IsGiven}
 use Rattle.qs_same_replay.proofs.Calm.{AreUndisturbed}
 
@@ -22,11 +27,14 @@ use Rattle.qs_same_replay.proofs.Calm.{AreUndisturbed}
 abbrev pub input_of : Call → Input
 input_of (Happened event outcome) = Happens event
 input_of (Rigged stripe fail) = Fails stripe fail
+input_of (PowerFailed choice left) = Cuts choice left
+input_of (ExportMade op place) = Makes op
 
--- a call's outcome is its step's
+-- a call's outcome is its step's, and so is the place of an export
 abbrev pub HasOutcome : ℕ → Call → Element → Type 0
 HasOutcome A (Happened event outcome) e = outcome_of A e ≡ Some outcome
-HasOutcome A (Rigged stripe fail) e = Unit {0}
+HasOutcome A (ExportMade op place) e = e ≡ Exported op place
+HasOutcome A _ e = Unit {0}
 
 -- the step of a call that nothing outside disturbed
 pub record CalmStep (A : ℕ) (m : World) (c : Call) : Type 0 where
@@ -64,6 +72,24 @@ calmly A m (Rigged stripe fail ∷ cs) (e ∷ es) are run calm never = (
     element = e;
     comes = record { may = run.0; is = subst (IsInput (Fails stripe fail)) (sym are.0) (refl, refl); undisturbed = calm.0; plain = never [] e (es, refl) };
     outcome_is = tt;
+    given = calm.1;
+  },
+  calmly A (happens A m e) cs es are.1 run.1 calm.2 (never_later e es never),
+)
+calmly A m (PowerFailed choice left ∷ cs) (e ∷ es) are run calm never = (
+  record {
+    element = e;
+    comes = record { may = run.0; is = subst (IsInput (Cuts choice left)) (sym are.0) (λ b. refl); undisturbed = calm.0; plain = never [] e (es, refl) };
+    outcome_is = tt;
+    given = calm.1;
+  },
+  calmly A (happens A m e) cs es are.1 run.1 calm.2 (never_later e es never),
+)
+calmly A m (ExportMade op place ∷ cs) (e ∷ es) are run calm never = (
+  record {
+    element = e;
+    comes = record { may = run.0; is = subst (IsInput (Makes op)) (sym are.0) refl; undisturbed = calm.0; plain = never [] e (es, refl) };
+    outcome_is = are.0;
     given = calm.1;
   },
   calmly A (happens A m e) cs es are.1 run.1 calm.2 (never_later e es never),
@@ -113,7 +139,7 @@ twin_call A m m' c c' t one two same tame =
     let comes : Comes A m' (input_of c) two.element = subst (λ (i : Input). Comes A m' i two.element) same two.comes in
     let both = one_outcome A m m' (input_of c) one.element two.element t.tells t.alike
     (given_alike (input_of c) one.element two.element tame one.comes.is comes.is one.given two.given) one.comes comes in (
-      call_one c c' one.element two.element same one.outcome_is two.outcome_is both.0,
+      call_one c c' one.element two.element same one.outcome_is two.outcome_is both.0 one.comes.may two.comes.may,
       record { alike = both.1; tells = still (input_of c) one.element one.comes.is },
     )
   where
@@ -124,13 +150,34 @@ twin_call A m m' c c' t one two same tame =
     one_told : (x y : Outcome) → Some x ≡ Some y → x ≡ y
     one_told x y e = cc
 
-    call_one : (c c' : Call) (e d : Element) → input_of c' ≡ input_of c → HasOutcome A c e → HasOutcome A c' d → outcome_of A d ≡ outcome_of A e → c' ≡ c
-    call_one (Happened made x) (Happened made' y) e d same told told_too is =
+    call_one : (c c' : Call) (e d : Element) → input_of c' ≡ input_of c → HasOutcome A c e → HasOutcome A c' d → outcome_of A d ≡ outcome_of A e →
+        May A m e → May A m' d → c' ≡ c
+    call_one (Happened made x) (Happened made' y) e d same told told_too is may may_too =
         let event_is : made' ≡ made = cc in
         ap (λ (i : Event). Happened i y) event_is ∙ ap (Happened made) (one_told y x (sym told_too ∙ is ∙ told))
-    call_one (Rigged j fail) (Rigged i kind) e d same told told_too is =
+    call_one (Rigged j fail) (Rigged i kind) e d same told told_too is may may_too =
         let stripe : i ≡ j = cc in
         let fail_is : kind ≡ fail = cc in
         ap (λ (k : ℕ). Rigged k kind) stripe ∙ ap (Rigged j) fail_is
-    call_one (Happened made x) (Rigged i kind) e d same told told_too is = absurd (cc)
-    call_one (Rigged j fail) (Happened made' y) e d same told told_too is = absurd (cc)
+    call_one (PowerFailed choice left) (PowerFailed other blocks) e d same told told_too is may may_too =
+        let choice_is : other ≡ choice = cc in
+        let left_is : blocks ≡ left = cc in
+        ap (λ (x : CrashChoice). PowerFailed x blocks) choice_is ∙ ap (PowerFailed choice) left_is
+    call_one (ExportMade op place) (ExportMade other k) e d same told told_too is may may_too =
+        let op_is : other ≡ op = cc in
+        let place_is : k ≡ place = added_one m.graph op place k (subst (May A m) told may)
+        (subst (λ (g : GraphValue). GraphMay g op (Added k)) t.alike.graph
+        (subst (λ (o : GraphOp). GraphMay m'.graph o (Added k)) op_is (subst (May A m') told_too may_too))) in
+        ap (λ (o : GraphOp). ExportMade o k) op_is ∙ ap (ExportMade op) place_is
+    call_one (Happened made x) (Rigged i kind) e d same told told_too is may may_too = absurd (cc)
+    call_one (Happened made x) (PowerFailed other blocks) e d same told told_too is may may_too = absurd (cc)
+    call_one (Happened made x) (ExportMade other k) e d same told told_too is may may_too = absurd (cc)
+    call_one (Rigged j fail) (Happened made' y) e d same told told_too is may may_too = absurd (cc)
+    call_one (Rigged j fail) (PowerFailed other blocks) e d same told told_too is may may_too = absurd (cc)
+    call_one (Rigged j fail) (ExportMade other k) e d same told told_too is may may_too = absurd (cc)
+    call_one (PowerFailed choice left) (Happened made' y) e d same told told_too is may may_too = absurd (cc)
+    call_one (PowerFailed choice left) (Rigged i kind) e d same told told_too is may may_too = absurd (cc)
+    call_one (PowerFailed choice left) (ExportMade other k) e d same told told_too is may may_too = absurd (cc)
+    call_one (ExportMade op place) (Happened made' y) e d same told told_too is may may_too = absurd (cc)
+    call_one (ExportMade op place) (Rigged i kind) e d same told told_too is may may_too = absurd (cc)
+    call_one (ExportMade op place) (PowerFailed other blocks) e d same told told_too is may may_too = absurd (cc)

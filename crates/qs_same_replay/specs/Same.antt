@@ -6,7 +6,7 @@ use Rattle.qs_outside.specs.Blocks.{Seen}
 use Rattle.qs_bytes.specs.Geometry.{stripe_of}
 use Rattle.qs_determined.specs.Determined.{IsRowPlanned}
 use Rattle.qs_image.specs.Image.{AllTell, align_of, block_now, size_of}
-use Rattle.qs_model.specs.Acts.{Act, StoreFails, Element, Asked, Did}
+use Rattle.qs_model.specs.Acts.{Act, StoreFails, Element, Asked, Did, Crashed}
 use Rattle.qs_model.specs.Requests.{Client, Stage, form_error}
 use Rattle.qs_model.specs.Steps.{happens}
 use Rattle.qs_model.specs.Worlds.{World}
@@ -14,9 +14,11 @@ use Rattle.qs_world.specs.Openings.{planned_of}
 use Rattle.qs_calls.specs.Runs.{exported}
 use Rattle.qs_replay.specs.Runs.{IsReplayed}
 
--- a request that is made was given its buffers, unless its form alone refuses it
+-- A request that is made was given its buffers, unless its form alone refuses it; and no crash comes, since what it leaves hangs
+-- on what the disks kept of their stores.
 abbrev pub IsGiven : Element → Type 0
 IsGiven (Asked r c) = form_error c.ask ≡ false → c.buffered ≡ true
+IsGiven (Crashed left) = ⊥
 IsGiven _ = Unit {0}
 
 -- A row in which the disk failed: that was planned, and the disk of a store told that it isn't full.
@@ -29,7 +31,7 @@ abbrev pub IsByPlan : ℕ → World → (ℕ → Option Bool) → Element → Ty
 IsByPlan A w full (Did r q act) = IsRowByPlan A w full q.client act
 IsByPlan A w full _ = Unit {0}
 
--- No disk failed in these steps but by a plan, and no request was refused its buffers. Before each step the disks told
+-- No disk failed in these steps but by a plan, no request was refused its buffers, and no crash came. Before each step the disks told
 -- this of being full.
 abbrev pub AreCalm : ℕ → World → List Element → List (ℕ → Option Bool) → Type 0
 AreCalm A w [] [] = Unit {0}

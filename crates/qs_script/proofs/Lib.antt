@@ -3,4 +3,5 @@ pub mod Digits
 pub mod Splitting
 pub mod Reading
 pub mod DataWords
+pub mod Picking
 pub mod OneLine

@@ -8,16 +8,18 @@ use Rattle.hex.proofs.HexLemmas.{decode_of-ok}
 use Rattle.qs_outside.specs.declared.rigged_disk.Fail.{Fail}
 use Rattle.qs_outside.specs.declared.rigged_disk.Fail.TheVariants as fail
 use Rattle.qs_bytes.specs.Payloads.{max_payload}
+use Rattle.qs_outside.specs.declared.crash.CrashChoice.{CrashChoice}
 use Rattle.qs_script.specs.Finds.{HasNo}
 use Rattle.qs_script.specs.Lines.{Asks, AsksLength, Drives, IsQuiet, Reads, WordsSpell, words_of}
 use Rattle.qs_script.specs.SessionNames.{IsSessionName}
-use Rattle.qs_script.specs.Spelled.{Repeats, SpellsActor, SpellsData, SpellsNumber, fail_word, greatest, greatest_length, nothing, repeated, pairs}
+use Rattle.qs_script.specs.Spelled.{Repeats, SpellsActor, SpellsData, SpellsNumber, SpellsPick, SpellPicks, fail_word, greatest, greatest_length, nothing, repeated, pairs}
 use Rattle.qs_script.specs.declared.actor.ScriptActor.{ScriptActor}
 use Rattle.qs_script.specs.declared.actor.ScriptActor.TheVariants as actor
 use Rattle.qs_script.specs.declared.line.Line.{Line}
 use Rattle.qs_script.specs.declared.line.Line.TheVariants as line
 use Rattle.qs_script.proofs.DataWords.{starred, pair_is_two, no_star, spelled_star}
 use Rattle.qs_script.proofs.Digits.{spelled_value}
+use Rattle.qs_script.proofs.Picking.{no_equals}
 use Rattle.qs_script.proofs.Reading.{one_fua}
 use Rattle.qs_script.proofs.Splitting.{name_no_dot}
 
@@ -30,15 +32,15 @@ no_dot_in word s digits name e =
     let inside : length s < length word = omega (arith, ap length e, length-append s (46 ∷ digits)) in
     name_no_dot word name (length s) inside (ap (λ (w : List ℕ). get_or w (length s) 0) e ∙ get_or-append_seam s 46 digits 0)
 
--- the first dot parts a word
-one_front : (s t d f : List ℕ) → HasNo 46 s → HasNo 46 t → s ++ 46 ∷ d ≡ t ++ 46 ∷ f → (s ≡ t) × (d ≡ f)
-one_front [] [] d f bare bare' e = (refl, cc)
-one_front [] (y ∷ t) d f bare bare' e = absurd (bare' 0 (omega arith) (sym (ap (λ (w : List ℕ). get_or w 0 0) e)))
-one_front (x ∷ s) [] d f bare bare' e = absurd (bare 0 (omega arith) (ap (λ (w : List ℕ). get_or w 0 0) e))
-one_front (x ∷ s) (y ∷ t) d f bare bare' e =
-    let inner : s ++ 46 ∷ d ≡ t ++ 46 ∷ f = cc in
+-- the first byte of a kind parts a word
+one_front : (byte : ℕ) (s t d f : List ℕ) → HasNo byte s → HasNo byte t → s ++ byte ∷ d ≡ t ++ byte ∷ f → (s ≡ t) × (d ≡ f)
+one_front byte [] [] d f bare bare' e = (refl, cc)
+one_front byte [] (y ∷ t) d f bare bare' e = absurd (bare' 0 (omega arith) (sym (ap (λ (w : List ℕ). get_or w 0 0) e)))
+one_front byte (x ∷ s) [] d f bare bare' e = absurd (bare 0 (omega arith) (ap (λ (w : List ℕ). get_or w 0 0) e))
+one_front byte (x ∷ s) (y ∷ t) d f bare bare' e =
+    let inner : s ++ byte ∷ d ≡ t ++ byte ∷ f = cc in
     let first : x ≡ y = cc in
-    let rest = one_front s t d f (λ k inside. bare (suc k) (omega arith)) (λ k inside. bare' (suc k) (omega arith)) inner in
+    let rest = one_front byte s t d f (λ k inside. bare (suc k) (omega arith)) (λ k inside. bare' (suc k) (omega arith)) inner in
     let rest_is = rest.0 in
     (cc, rest.1)
 
@@ -47,7 +49,7 @@ one_actor word (actor.Session s) (actor.Session t) x y = ap actor.Session (sym x
 one_actor word (actor.Session s) (actor.Request t d) x y = absurd (no_dot_in word t y.0 (subst IsSessionName (sym x.0) x.1) y.1.0)
 one_actor word (actor.Request s c) (actor.Session t) x y = absurd (no_dot_in word s x.0 (subst IsSessionName (sym y.0) y.1) x.1.0)
 one_actor word (actor.Request s c) (actor.Request t d) x y =
-    let parts = one_front s t x.0 y.0 (name_no_dot s x.1.1) (name_no_dot t y.1.1) (sym x.1.0 ∙ y.1.0) in
+    let parts = one_front 46 s t x.0 y.0 (name_no_dot s x.1.1) (name_no_dot t y.1.1) (sym x.1.0 ∙ y.1.0) in
     let front = parts.0 in
     let number = one_number greatest x.0 c d (omega arith) x.1.2 (subst (λ (w : List ℕ). SpellsNumber greatest w d) (sym parts.1) y.1.2) in
     cc
@@ -185,6 +187,40 @@ one_flush words s s' c c' x y =
     let number = one_number greatest x.0 c c' (omega arith) x.1.2 (subst (λ (w : List ℕ). SpellsNumber greatest w c') (sym digits) y.1.2) in
     cc
 
+-- the pairs of a word, by its sign `=`
+one_pick : (word : List ℕ) (a b : ℕ × ℕ) → SpellsPick word a → SpellsPick word b → a ≡ b
+one_pick word a b x y =
+    let parts = one_front 61 x.block y.block x.place y.place (no_equals x.block a.0 x.block_is) (no_equals y.block b.0 y.block_is) (sym x.whole ∙ y.whole) in
+    let spells : ℕ → List ℕ → Type 0 = λ n w. SpellsNumber greatest w n in
+    let block = one_number greatest x.block a.0 b.0 (omega arith) x.block_is (subst (spells b.0) (sym parts.0) y.block_is) in
+    let place = one_number greatest x.place a.1 b.1 (omega arith) x.place_is (subst (spells b.1) (sym parts.1) y.place_is) in
+    let with_place : ℕ → ℕ × ℕ = λ n. (b.0, n) in
+    let with_block : ℕ → ℕ × ℕ = λ n. (n, a.1) in
+    ap with_block block ∙ ap with_place place
+
+one_picks : (words : List (List ℕ)) (a b : List (ℕ × ℕ)) → SpellPicks words a → SpellPicks words b → a ≡ b
+one_picks [] [] [] x y = refl
+one_picks [] [] (q ∷ qs) x y = absurd y
+one_picks [] (p ∷ ps) b x y = absurd x
+one_picks (word ∷ words) [] b x y = absurd x
+one_picks (word ∷ words) (p ∷ ps) [] x y = absurd y
+one_picks (word ∷ words) (p ∷ ps) (q ∷ qs) x y =
+    let first = one_pick word p q x.0 y.0 in
+    let rest = one_picks words ps qs x.1 y.1 in
+    cc
+
+one_crash : (words : List (List ℕ)) (a b : CrashChoice) → WordsSpell words (line.Crash a) → WordsSpell words (line.Crash b) → a ≡ b
+one_crash words a b x y =
+    let e = x.1.1.0 in
+    let e' = y.1.1.0 in
+    let digits : x.0 ≡ y.0 = cc in
+    let pairs : x.1.0 ≡ y.1.0 = cc in
+    let rest = one_number greatest x.0 a.rest b.rest (omega arith) x.1.1.1 (subst (λ (w : List ℕ). SpellsNumber greatest w b.rest) (sym digits) y.1.1.1) in
+    let picks = one_picks x.1.0 a.picks b.picks x.1.1.2 (subst (λ (ws : List (List ℕ)). SpellPicks ws b.picks) (sym pairs) y.1.1.2) in
+    let with_rest : ℕ → CrashChoice = λ n. record { rest = n; picks = a.picks } in
+    let with_picks : List (ℕ × ℕ) → CrashChoice = λ ps. record { rest = b.rest; picks = ps } in
+    ap with_rest rest ∙ ap with_picks picks
+
 -- the first letters of a line's first word
 first_of : List (List ℕ) → ℕ
 first_of words = get_or (get_or words 0 []) 0 0
@@ -204,6 +240,7 @@ initial (line.Flush s c) = 102
 initial (line.Step who now) = 115
 initial (line.Run who now) = 114
 initial (line.Fail stripe kind) = 102
+initial (line.Crash choice) = 99
 
 second : Line → ℕ
 second line.Nothing = 0
@@ -217,6 +254,7 @@ second (line.Flush s c) = 108
 second (line.Step who now) = 116
 second (line.Run who now) = 117
 second (line.Fail stripe kind) = 97
+second (line.Crash choice) = 114
 
 letters : (words : List (List ℕ)) (l : Line) → WordsSpell words l → (first_of words ≡ initial l) × (second_of words ≡ second l)
 unfolding initial first_of second second_of
@@ -237,6 +275,7 @@ letters words (line.Run who now) is = elim is.rest [
   | inr timed ↦ (ap first_of timed.1.0, ap second_of timed.1.0)
 ]
 letters words (line.Fail stripe kind) is = (ap first_of is.1.0, ap second_of is.1.0)
+letters words (line.Crash choice) is = (ap first_of is.1.1.0, ap second_of is.1.1.0)
 
 one_session_line : (words : List (List ℕ)) (s e : List ℕ) → WordsSpell words (line.Session s e) →
     (b : Line) → initial b ≡ 115 → second b ≡ 101 → WordsSpell words b → line.Session s e ≡ b
@@ -253,6 +292,7 @@ one_session_line words s e is (line.Flush s' c') i j is' = absurd (omega (arith,
 one_session_line words s e is (line.Step who' now') i j is' = absurd (omega (arith, i, j))
 one_session_line words s e is (line.Run who' now') i j is' = absurd (omega (arith, i, j))
 one_session_line words s e is (line.Fail stripe' kind') i j is' = absurd (omega (arith, i, j))
+one_session_line words s e is (line.Crash choice') i j is' = absurd (omega (arith, i, j))
 
 one_end_line : (words : List (List ℕ)) (s : List ℕ) → WordsSpell words (line.End s) →
     (b : Line) → initial b ≡ 101 → second b ≡ 110 → WordsSpell words b → line.End s ≡ b
@@ -269,6 +309,7 @@ one_end_line words s is (line.Flush s' c') i j is' = absurd (omega (arith, i, j)
 one_end_line words s is (line.Step who' now') i j is' = absurd (omega (arith, i, j))
 one_end_line words s is (line.Run who' now') i j is' = absurd (omega (arith, i, j))
 one_end_line words s is (line.Fail stripe' kind') i j is' = absurd (omega (arith, i, j))
+one_end_line words s is (line.Crash choice') i j is' = absurd (omega (arith, i, j))
 
 one_read_line : (words : List (List ℕ)) (s : List ℕ) (c o n : ℕ) → WordsSpell words (line.Read s c o n) →
     (b : Line) → initial b ≡ 114 → second b ≡ 101 → WordsSpell words b → line.Read s c o n ≡ b
@@ -285,6 +326,7 @@ one_read_line words s c o n is (line.Flush s' c') i j is' = absurd (omega (arith
 one_read_line words s c o n is (line.Step who' now') i j is' = absurd (omega (arith, i, j))
 one_read_line words s c o n is (line.Run who' now') i j is' = absurd (omega (arith, i, j))
 one_read_line words s c o n is (line.Fail stripe' kind') i j is' = absurd (omega (arith, i, j))
+one_read_line words s c o n is (line.Crash choice') i j is' = absurd (omega (arith, i, j))
 
 one_write_line : (words : List (List ℕ)) (s : List ℕ) (c o : ℕ) (bytes : List ℕ) (fua : Bool) → WordsSpell words (line.Write s c o bytes fua) →
     (b : Line) → initial b ≡ 119 → second b ≡ 114 → WordsSpell words b → line.Write s c o bytes fua ≡ b
@@ -303,6 +345,7 @@ one_write_line words s c o bytes fua is (line.Flush s' c') i j is' = absurd (ome
 one_write_line words s c o bytes fua is (line.Step who' now') i j is' = absurd (omega (arith, i, j))
 one_write_line words s c o bytes fua is (line.Run who' now') i j is' = absurd (omega (arith, i, j))
 one_write_line words s c o bytes fua is (line.Fail stripe' kind') i j is' = absurd (omega (arith, i, j))
+one_write_line words s c o bytes fua is (line.Crash choice') i j is' = absurd (omega (arith, i, j))
 
 one_zero_line : (words : List (List ℕ)) (s : List ℕ) (c o n : ℕ) (fua : Bool) → WordsSpell words (line.Zero s c o n fua) →
     (b : Line) → initial b ≡ 122 → second b ≡ 101 → WordsSpell words b → line.Zero s c o n fua ≡ b
@@ -319,6 +362,7 @@ one_zero_line words s c o n fua is (line.Flush s' c') i j is' = absurd (omega (a
 one_zero_line words s c o n fua is (line.Step who' now') i j is' = absurd (omega (arith, i, j))
 one_zero_line words s c o n fua is (line.Run who' now') i j is' = absurd (omega (arith, i, j))
 one_zero_line words s c o n fua is (line.Fail stripe' kind') i j is' = absurd (omega (arith, i, j))
+one_zero_line words s c o n fua is (line.Crash choice') i j is' = absurd (omega (arith, i, j))
 
 one_trim_line : (words : List (List ℕ)) (s : List ℕ) (c o n : ℕ) → WordsSpell words (line.Trim s c o n) →
     (b : Line) → initial b ≡ 116 → second b ≡ 114 → WordsSpell words b → line.Trim s c o n ≡ b
@@ -335,6 +379,7 @@ one_trim_line words s c o n is (line.Flush s' c') i j is' = absurd (omega (arith
 one_trim_line words s c o n is (line.Step who' now') i j is' = absurd (omega (arith, i, j))
 one_trim_line words s c o n is (line.Run who' now') i j is' = absurd (omega (arith, i, j))
 one_trim_line words s c o n is (line.Fail stripe' kind') i j is' = absurd (omega (arith, i, j))
+one_trim_line words s c o n is (line.Crash choice') i j is' = absurd (omega (arith, i, j))
 
 one_flush_line : (words : List (List ℕ)) (s : List ℕ) (c : ℕ) → WordsSpell words (line.Flush s c) →
     (b : Line) → initial b ≡ 102 → second b ≡ 108 → WordsSpell words b → line.Flush s c ≡ b
@@ -350,6 +395,7 @@ one_flush_line words s c is (line.Flush s' c') i j is' = one_flush words s s' c 
 one_flush_line words s c is (line.Step who' now') i j is' = absurd (omega (arith, i, j))
 one_flush_line words s c is (line.Run who' now') i j is' = absurd (omega (arith, i, j))
 one_flush_line words s c is (line.Fail stripe' kind') i j is' = absurd (omega (arith, i, j))
+one_flush_line words s c is (line.Crash choice') i j is' = absurd (omega (arith, i, j))
 
 one_step_line : (words : List (List ℕ)) (who : ScriptActor) (now : ℕ) → WordsSpell words (line.Step who now) →
     (b : Line) → initial b ≡ 115 → second b ≡ 116 → WordsSpell words b → line.Step who now ≡ b
@@ -366,6 +412,7 @@ one_step_line words who now is (line.Step who' now') i j is' =
     driven_same line.Step (one_drive (codes "step") words who who' now now' is is')
 one_step_line words who now is (line.Run who' now') i j is' = absurd (omega (arith, i, j))
 one_step_line words who now is (line.Fail stripe' kind') i j is' = absurd (omega (arith, i, j))
+one_step_line words who now is (line.Crash choice') i j is' = absurd (omega (arith, i, j))
 
 one_run_line : (words : List (List ℕ)) (who : ScriptActor) (now : ℕ) → WordsSpell words (line.Run who now) →
     (b : Line) → initial b ≡ 114 → second b ≡ 117 → WordsSpell words b → line.Run who now ≡ b
@@ -382,6 +429,7 @@ one_run_line words who now is (line.Step who' now') i j is' = absurd (omega (ari
 one_run_line words who now is (line.Run who' now') i j is' =
     driven_same line.Run (one_drive (codes "run") words who who' now now' is is')
 one_run_line words who now is (line.Fail stripe' kind') i j is' = absurd (omega (arith, i, j))
+one_run_line words who now is (line.Crash choice') i j is' = absurd (omega (arith, i, j))
 
 one_fail_line : (words : List (List ℕ)) (stripe : ℕ) (kind : Fail) → WordsSpell words (line.Fail stripe kind) →
     (b : Line) → initial b ≡ 102 → second b ≡ 97 → WordsSpell words b → line.Fail stripe kind ≡ b
@@ -397,6 +445,23 @@ one_fail_line words stripe kind is (line.Flush s' c') i j is' = absurd (omega (a
 one_fail_line words stripe kind is (line.Step who' now') i j is' = absurd (omega (arith, i, j))
 one_fail_line words stripe kind is (line.Run who' now') i j is' = absurd (omega (arith, i, j))
 one_fail_line words stripe kind is (line.Fail stripe' kind') i j is' = one_fail words stripe stripe' kind kind' is is'
+one_fail_line words stripe kind is (line.Crash choice') i j is' = absurd (omega (arith, i, j))
+
+one_crash_line : (words : List (List ℕ)) (choice : CrashChoice) → WordsSpell words (line.Crash choice) →
+    (b : Line) → initial b ≡ 99 → second b ≡ 114 → WordsSpell words b → line.Crash choice ≡ b
+unfolding initial second
+one_crash_line words choice is line.Nothing i j is' = absurd is'
+one_crash_line words choice is (line.Session s' e') i j is' = absurd (omega (arith, i, j))
+one_crash_line words choice is (line.End s') i j is' = absurd (omega (arith, i, j))
+one_crash_line words choice is (line.Read s' c' o' n') i j is' = absurd (omega (arith, i, j))
+one_crash_line words choice is (line.Write s' c' o' bytes' fua') i j is' = absurd (omega (arith, i, j))
+one_crash_line words choice is (line.Zero s' c' o' n' fua') i j is' = absurd (omega (arith, i, j))
+one_crash_line words choice is (line.Trim s' c' o' n') i j is' = absurd (omega (arith, i, j))
+one_crash_line words choice is (line.Flush s' c') i j is' = absurd (omega (arith, i, j))
+one_crash_line words choice is (line.Step who' now') i j is' = absurd (omega (arith, i, j))
+one_crash_line words choice is (line.Run who' now') i j is' = absurd (omega (arith, i, j))
+one_crash_line words choice is (line.Fail stripe' kind') i j is' = absurd (omega (arith, i, j))
+one_crash_line words choice is (line.Crash choice') i j is' = ap line.Crash (one_crash words choice choice' is is')
 
 one_of_words : (words : List (List ℕ)) (a b : Line) → WordsSpell words a → WordsSpell words b → a ≡ b
 unfolding initial second
@@ -441,6 +506,10 @@ one_of_words words (line.Fail stripe kind) b x y =
     let a_is = letters words (line.Fail stripe kind) x in
     let b_is = letters words b y in
     one_fail_line words stripe kind x b (sym b_is.0 ∙ a_is.0) (sym b_is.1 ∙ a_is.1) y
+one_of_words words (line.Crash choice) b x y =
+    let a_is = letters words (line.Crash choice) x in
+    let b_is = letters words b y in
+    one_crash_line words choice x b (sym b_is.0 ∙ a_is.0) (sym b_is.1 ∙ a_is.1) y
 
 -- a comment begins with its sign
 quiet_first : (text : List ℕ) → IsQuiet text → first_of (words_of text) ≤ 35
@@ -469,6 +538,7 @@ initial_above words (line.Flush s c) is = omega arith
 initial_above words (line.Step who now) is = omega arith
 initial_above words (line.Run who now) is = omega arith
 initial_above words (line.Fail stripe kind) is = omega arith
+initial_above words (line.Crash choice) is = omega arith
 
 quiet_spells : (text : List ℕ) (l : Line) → IsQuiet text → WordsSpell (words_of text) l → ⊥
 quiet_spells text l quiet is =
@@ -490,6 +560,7 @@ quiet_reads text (line.Flush s c) quiet is = absurd (quiet_spells text (line.Flu
 quiet_reads text (line.Step who now) quiet is = absurd (quiet_spells text (line.Step who now) quiet is)
 quiet_reads text (line.Run who now) quiet is = absurd (quiet_spells text (line.Run who now) quiet is)
 quiet_reads text (line.Fail stripe kind) quiet is = absurd (quiet_spells text (line.Fail stripe kind) quiet is)
+quiet_reads text (line.Crash choice) quiet is = absurd (quiet_spells text (line.Crash choice) quiet is)
 
 spoken_reads : (text : List ℕ) (a b : Line) → WordsSpell (words_of text) a → Reads text b → a ≡ b
 spoken_reads text a line.Nothing x y = absurd (quiet_spells text a y x)
@@ -503,6 +574,7 @@ spoken_reads text a (line.Flush s c) x y = one_of_words (words_of text) a (line.
 spoken_reads text a (line.Step who now) x y = one_of_words (words_of text) a (line.Step who now) x y
 spoken_reads text a (line.Run who now) x y = one_of_words (words_of text) a (line.Run who now) x y
 spoken_reads text a (line.Fail stripe kind) x y = one_of_words (words_of text) a (line.Fail stripe kind) x y
+spoken_reads text a (line.Crash choice) x y = one_of_words (words_of text) a (line.Crash choice) x y
 
 -- one text spells one line
 pub one_line : (text : List ℕ) (a b : Line) → Reads text a → Reads text b → a ≡ b
@@ -517,3 +589,4 @@ one_line text (line.Flush s c) b x y = spoken_reads text (line.Flush s c) b x y
 one_line text (line.Step who now) b x y = spoken_reads text (line.Step who now) b x y
 one_line text (line.Run who now) b x y = spoken_reads text (line.Run who now) b x y
 one_line text (line.Fail stripe kind) b x y = spoken_reads text (line.Fail stripe kind) b x y
+one_line text (line.Crash choice) b x y = spoken_reads text (line.Crash choice) b x y

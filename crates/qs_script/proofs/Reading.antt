@@ -4,6 +4,7 @@ use Rattle.std.specs.Prelude.{◌==◌, if◌then◌else◌, Option, Some, None,
 use Rattle.qs_script.specs.declared.line.LineFault.{LineFault}
 use Rattle.qs_script.specs.declared.line.LineFault.TheVariants as fault
 use Rattle.std.specs.Option.{ok_or}
+use Rattle.qs_outside.specs.declared.crash.CrashChoice.{CrashChoice}
 use Rattle.qs_script.specs.SessionNames.{IsSessionName}
 use Rattle.qs_script.specs.Lines.{Asks, Drives, IsLineFault, IsPlace, IsQuiet, Place, Reads, WordsSpell, fua_words, words_of}
 use Rattle.qs_script.specs.Spelled.{SpellsActor, SpellsData, SpellsNumber, fail_word, greatest, greatest_length}
@@ -33,23 +34,25 @@ driven words v who now is = elim is.rest [
 asked : (words : List (List ℕ)) (v : Verb) (s : List ℕ) (c o : ℕ) (last : List ℕ) (fua : Bool) → Asks (verb_word v) words s c o last fua → Begins words
 asked words v s c o last fua is = begun_by words v (s ∷ is.cookie_word ∷ is.offset_word ∷ last ∷ fua_words fua) is.whole
 
-pub begins : (words : List (List ℕ)) (read : Line) → WordsSpell words read → Begins words
-begins words line.Nothing is = absurd is
-begins words (line.Session s e) is = begun_by words verb.Session (s ∷ e ∷ []) is.0
-begins words (line.End s) is = begun_by words verb.End (s ∷ []) is.0
-begins words (line.Read s c offset count) is = asked words verb.Read s c offset is.0 false is.1.0
-begins words (line.Write s c offset bytes fua) is = asked words verb.Write s c offset is.0 fua is.1.0
-begins words (line.Zero s c offset count fua) is = asked words verb.Zero s c offset is.0 fua is.1.0
-begins words (line.Trim s c offset count) is = asked words verb.Trim s c offset is.0 false is.1.0
-begins words (line.Flush s c) is = begun_by words verb.Flush (s ∷ is.0 ∷ []) is.1.0
-begins words (line.Step who now) is = driven words verb.Step who now is
-begins words (line.Run who now) is = driven words verb.Run who now is
-begins words (line.Fail stripe kind) is = begun_by words verb.Fail (is.0 ∷ fail_word kind ∷ []) is.1.0
+pub begins : (words : List (List ℕ)) (read : Line) → ((rest : List (List ℕ)) → words ≡ codes "crash" ∷ rest → ⊥) → WordsSpell words read → Begins words
+begins words line.Nothing other is = absurd is
+begins words (line.Session s e) other is = begun_by words verb.Session (s ∷ e ∷ []) is.0
+begins words (line.End s) other is = begun_by words verb.End (s ∷ []) is.0
+begins words (line.Read s c offset count) other is = asked words verb.Read s c offset is.0 false is.1.0
+begins words (line.Write s c offset bytes fua) other is = asked words verb.Write s c offset is.0 fua is.1.0
+begins words (line.Zero s c offset count fua) other is = asked words verb.Zero s c offset is.0 fua is.1.0
+begins words (line.Trim s c offset count) other is = asked words verb.Trim s c offset is.0 false is.1.0
+begins words (line.Flush s c) other is = begun_by words verb.Flush (s ∷ is.0 ∷ []) is.1.0
+begins words (line.Step who now) other is = driven words verb.Step who now is
+begins words (line.Run who now) other is = driven words verb.Run who now is
+begins words (line.Fail stripe kind) other is = begun_by words verb.Fail (is.0 ∷ fail_word kind ∷ []) is.1.0
+begins words (line.Crash choice) other is = absurd (other (is.0 ∷ is.1.0) is.1.1.0)
 
--- a line whose first word is no verb is out of form
-pub no_verb : (first : List ℕ) (rest : List (List ℕ)) → ((v : Verb) → first ≡ verb_word v → ⊥) → (read : Line) → WordsSpell (first ∷ rest) read → ⊥
-no_verb first rest bad read is =
-    let begun = begins (first ∷ rest) read is in
+-- a line whose first word is no verb, nor `crash`, is out of form
+pub no_verb : (first : List ℕ) (rest : List (List ℕ)) → (first ≡ codes "crash" → ⊥) → ((v : Verb) → first ≡ verb_word v → ⊥) →
+    (read : Line) → WordsSpell (first ∷ rest) read → ⊥
+no_verb first rest other bad read is =
+    let begun = begins (first ∷ rest) read (λ others e. other (cc)) is in
     let whole = begun.whole in
     bad begun.verb_is (cc)
 
@@ -70,6 +73,28 @@ drives_at v first word digits who now e is spells = record {
   rest = inr (digits, (ap (λ (w : List ℕ). w ∷ word ∷ digits ∷ []) e, spells));
 }
 
+-- a verb isn't `crash`, by the first letter
+letter : List ℕ → ℕ
+letter word = get_or word 0 0
+
+pub not_crash : (v : Verb) → verb_word v ≡ codes "crash" → ⊥
+unfolding letter
+not_crash verb.Session e = absurd (omega (arith, ap letter e))
+not_crash verb.End e = absurd (omega (arith, ap letter e))
+not_crash verb.Read e = absurd (omega (arith, ap letter e))
+not_crash verb.Write e = absurd (omega (arith, ap letter e))
+not_crash verb.Zero e = absurd (omega (arith, ap letter e))
+not_crash verb.Trim e = absurd (omega (arith, ap letter e))
+not_crash verb.Flush e = absurd (omega (arith, ap letter e))
+not_crash verb.Step e = absurd (omega (arith, ap letter e))
+not_crash verb.Run e = absurd (omega (arith, ap letter e))
+not_crash verb.Fail e = absurd (omega (arith, ap letter e))
+
+-- words that begin otherwise spell no crash
+no_crash : {first : List ℕ} {rest : List (List ℕ)} {choice : CrashChoice} → (first ≡ codes "crash" → ⊥) →
+    WordsSpell (first ∷ rest) (line.Crash choice) → ⊥
+no_crash other is = let whole = is.1.1.0 in other (cc)
+
 -- a line that isn't quiet is read by its words
 pub by_words : (text : List ℕ) (read : Line) → (IsQuiet text → ⊥) → Reads text read → WordsSpell (words_of text) read
 by_words text line.Nothing loud is = absurd (loud is)
@@ -83,6 +108,7 @@ by_words text (line.Flush s c) loud is = is
 by_words text (line.Step who now) loud is = is
 by_words text (line.Run who now) loud is = is
 by_words text (line.Fail stripe kind) loud is = is
+by_words text (line.Crash choice) loud is = is
 
 pub of_words : (text : List ℕ) (read : Line) → WordsSpell (words_of text) read → Reads text read
 of_words text line.Nothing is = absurd is
@@ -96,6 +122,7 @@ of_words text (line.Flush s c) is = is
 of_words text (line.Step who now) is = is
 of_words text (line.Run who now) is = is
 of_words text (line.Fail stripe kind) is = is
+of_words text (line.Crash choice) is = is
 
 -- a text whose words spell no line is out of form
 pub out_of : (text : List ℕ) (words : List (List ℕ)) (read : Line) → words_of text ≡ words → (IsQuiet text → ⊥) →
@@ -136,7 +163,7 @@ told {s} {cookie} {offset} {s'} {c} {o} is =
     }
 
 -- five words and more that spell a line are a request's
-pub placed : (v s cookie offset last : List ℕ) (more : List (List ℕ)) (read : Line) → WordsSpell (v ∷ s ∷ cookie ∷ offset ∷ last ∷ more) read →
+pub placed : (v : Verb) (s cookie offset last : List ℕ) (more : List (List ℕ)) (read : Line) → WordsSpell (verb_word v ∷ s ∷ cookie ∷ offset ∷ last ∷ more) read →
     (place : Place) × IsPlace s cookie offset place
 placed v s cookie offset last more line.Nothing is = absurd is
 placed v s cookie offset last more (line.Session a e) is = let whole = is.0 in absurd (cc)
@@ -149,21 +176,23 @@ placed v s cookie offset last more (line.Flush a c) is = let whole = is.1.0 in a
 placed v s cookie offset last more (line.Step who now) is = absurd (not_driven is)
 placed v s cookie offset last more (line.Run who now) is = absurd (not_driven is)
 placed v s cookie offset last more (line.Fail stripe kind) is = let whole = is.1.0 in absurd (cc)
+placed v s cookie offset last more (line.Crash choice) is = absurd (no_crash (not_crash v) is)
 
 -- behind five words of a line stands `fua`, or nothing
-pub ended : (v s cookie offset last : List ℕ) (more : List (List ℕ)) (read : Line) → WordsSpell (v ∷ s ∷ cookie ∷ offset ∷ last ∷ more) read →
+pub ended : (v s cookie offset last : List ℕ) (more : List (List ℕ)) → (v ≡ codes "crash" → ⊥) → (read : Line) → WordsSpell (v ∷ s ∷ cookie ∷ offset ∷ last ∷ more) read →
     (fua : Bool) × (more ≡ fua_words fua)
-ended v s cookie offset last more line.Nothing is = absurd is
-ended v s cookie offset last more (line.Session a e) is = let whole = is.0 in absurd (cc)
-ended v s cookie offset last more (line.End a) is = let whole = is.0 in absurd (cc)
-ended v s cookie offset last more (line.Read a c o count) is = (false, (told is.1.0).ends)
-ended v s cookie offset last more (line.Write a c o bytes fua) is = (fua, (told is.1.0).ends)
-ended v s cookie offset last more (line.Zero a c o count fua) is = (fua, (told is.1.0).ends)
-ended v s cookie offset last more (line.Trim a c o count) is = (false, (told is.1.0).ends)
-ended v s cookie offset last more (line.Flush a c) is = let whole = is.1.0 in absurd (cc)
-ended v s cookie offset last more (line.Step who now) is = absurd (not_driven is)
-ended v s cookie offset last more (line.Run who now) is = absurd (not_driven is)
-ended v s cookie offset last more (line.Fail stripe kind) is = let whole = is.1.0 in absurd (cc)
+ended v s cookie offset last more other line.Nothing is = absurd is
+ended v s cookie offset last more other (line.Session a e) is = let whole = is.0 in absurd (cc)
+ended v s cookie offset last more other (line.End a) is = let whole = is.0 in absurd (cc)
+ended v s cookie offset last more other (line.Read a c o count) is = (false, (told is.1.0).ends)
+ended v s cookie offset last more other (line.Write a c o bytes fua) is = (fua, (told is.1.0).ends)
+ended v s cookie offset last more other (line.Zero a c o count fua) is = (fua, (told is.1.0).ends)
+ended v s cookie offset last more other (line.Trim a c o count) is = (false, (told is.1.0).ends)
+ended v s cookie offset last more other (line.Flush a c) is = let whole = is.1.0 in absurd (cc)
+ended v s cookie offset last more other (line.Step who now) is = absurd (not_driven is)
+ended v s cookie offset last more other (line.Run who now) is = absurd (not_driven is)
+ended v s cookie offset last more other (line.Fail stripe kind) is = let whole = is.1.0 in absurd (cc)
+ended v s cookie offset last more other (line.Crash choice) is = absurd (no_crash other is)
 
 -- the first and the third letter of a verb tell it
 verb_by : ℕ → Verb
@@ -222,6 +251,7 @@ written s cookie offset last more (line.Flush a c) is = let whole = is.1.0 in ab
 written s cookie offset last more (line.Step who now) is = absurd (not_driven is)
 written s cookie offset last more (line.Run who now) is = absurd (not_driven is)
 written s cookie offset last more (line.Fail stripe kind) is = let whole = is.1.0 in absurd (cc)
+written s cookie offset last more (line.Crash choice) is = absurd (no_crash (not_crash verb.Write) is)
 
 -- the kinds of requests but WRITE, and which of them may have the flag FUA
 pub is_sized : Verb → Bool → Bool
@@ -261,6 +291,7 @@ sized v s cookie offset last fua (line.Flush a c) other is = let whole = is.1.0 
 sized v s cookie offset last fua (line.Step who now) other is = absurd (not_driven is)
 sized v s cookie offset last fua (line.Run who now) other is = absurd (not_driven is)
 sized v s cookie offset last fua (line.Fail stripe kind) other is = let whole = is.1.0 in absurd (cc)
+sized v s cookie offset last fua (line.Crash choice) other is = absurd (no_crash (not_crash v) is)
 
 -- what the words spell, the text spells
 pub ok_of : (text : List ℕ) (words : List (List ℕ)) (result : Result Line LineFault) → words_of text ≡ words →
@@ -279,6 +310,9 @@ fault_of text words (Err (fault.NoBody s c offset size fua)) e loud is =
     let write : Line = line.Write s c offset is.0 fua in
     let spells : List (List ℕ) → Type 0 = λ ws. WordsSpell ws write in
     (is.0, (of_words text write (subst spells (sym e) is.1.0), is.1.1))
+fault_of text words (Err fault.NoPicks) e loud is =
+    let spells : List (List ℕ) → Type 0 = λ ws. WordsSpell ws (line.Crash is.0) in
+    (is.0, of_words text (line.Crash is.0) (subst spells (sym e) is.1))
 
 -- words that spell no line are out of form
 pub none_fault : (words : List (List ℕ)) (read : Option Line) → (IsNone read → (line : Line) → WordsSpell words line → ⊥) →

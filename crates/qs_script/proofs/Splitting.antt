@@ -101,15 +101,15 @@ name_no_dot (x ∷ xs) is = λ k. elim k as (λ (k : ℕ). k < length (x ∷ xs)
   | suc j ↦ λ inside dot. let small = is.2 j 0 (omega arith) in omega arith
 ]
 
--- the first dot behind a session's name is right behind it
-pub dot_at : (word s digits : List ℕ) (at : ℕ) → IsFirst 46 word at → HasNo 46 s → word ≡ s ++ 46 ∷ digits → at ≡ length s
-dot_at word s digits at is absent whole =
+-- the first sign behind a word that lacks it is right behind it
+pub sign_at : (sign : ℕ) (word s rest : List ℕ) (at : ℕ) → IsFirst sign word at → HasNo sign s → word ≡ s ++ sign ∷ rest → at ≡ length s
+sign_at sign word s rest at is absent whole =
     let not_before : at < length s → ⊥ =
-    λ h. absent at h (sym (get_or-append s (46 ∷ digits) 0 at h) ∙ ap (λ (w : List ℕ). get_or w at 0) (sym whole) ∙ is.here) in
-    let not_behind : length s < at → ⊥ = λ h. is.before (length s) h (ap (λ (w : List ℕ). get_or w (length s) 0) whole ∙ get_or-append_seam s 46 digits 0) in
+    λ h. absent at h (sym (get_or-append s (sign ∷ rest) 0 at h) ∙ ap (λ (w : List ℕ). get_or w at 0) (sym whole) ∙ is.here) in
+    let not_behind : length s < at → ⊥ = λ h. is.before (length s) h (ap (λ (w : List ℕ). get_or w (length s) 0) whole ∙ get_or-append_seam s sign rest 0) in
     omega arith
 
-drop_behind : (s : List ℕ) (byte : ℕ) (digits : List ℕ) → drop (suc (length s)) (s ++ byte ∷ digits) ≡ digits
+pub drop_behind : (s : List ℕ) (byte : ℕ) (digits : List ℕ) → drop (suc (length s)) (s ++ byte ∷ digits) ≡ digits
 drop_behind [] byte digits = refl
 drop_behind (x ∷ xs) byte digits = drop_behind xs byte digits
 
@@ -125,7 +125,7 @@ pub dotted : (word : List ℕ) (at : ℕ) → IsFirst 46 word at → (who : Scri
     IsSessionName (take at word) × ((n : ℕ) × SpellsNumber greatest (drop (suc at) word) n)
 dotted word at first (actor.Session s) is = absurd (name_no_dot word (subst IsSessionName (sym is.0) is.1) at first.inside first.here)
 dotted word at first (actor.Request s c) is =
-    let at_is : at ≡ length s = dot_at word s is.0 at first (name_no_dot s is.1.1) is.1.0 in
+    let at_is : at ≡ length s = sign_at 46 word s is.0 at first (name_no_dot s is.1.1) is.1.0 in
     let front : take at word ≡ s =
     ap (λ (n : ℕ). take n word) at_is ∙ ap (λ (w : List ℕ). take (length s) w) is.1.0 ∙ take-append_seam s (46 ∷ is.0) in
     let back : drop (suc at) word ≡ is.0 =

@@ -3,8 +3,9 @@ use Rattle.std.specs.Prelude.{◌≡◌, ℕ, ◌≤◌, ◌⊎◌, ◌==◌, Bo
 use Rattle.std.specs.List.{slice_split}
 use Rattle.std.specs.Borrow.{Bor}
 use Rattle.qs_bytes.specs.Names.{IsName}
+use Rattle.qs_outside.specs.declared.crash.CrashChoice.{CrashChoice}
 use Rattle.qs_script.specs.SessionNames.{IsSessionName}
-use Rattle.qs_script.specs.Spelled.{SpellsNumber, SpellsActor, SpellsData, fail_word, greatest, greatest_length}
+use Rattle.qs_script.specs.Spelled.{SpellsNumber, SpellsActor, SpellsData, SpellPicks, fail_word, greatest, greatest_length}
 use Rattle.qs_script.specs.declared.actor.ScriptActor.{ScriptActor}
 use Rattle.qs_script.specs.declared.line.Line.{Line}
 use Rattle.qs_script.specs.declared.line.Line.TheVariants as line
@@ -68,13 +69,17 @@ WordsSpell words (line.Flush s c) = (digits : List ℕ) × ((words ≡ codes "fl
 WordsSpell words (line.Step actor now) = Drives (codes "step") words actor now
 WordsSpell words (line.Run actor now) = Drives (codes "run") words actor now
 WordsSpell words (line.Fail stripe kind) = (digits : List ℕ) × ((words ≡ codes "fail" ∷ digits ∷ fail_word kind ∷ []) × SpellsNumber 7 digits stripe)
+WordsSpell words (line.Crash choice) =
+    (digits : List ℕ) × ((pairs : List (List ℕ)) × ((words ≡ codes "crash" ∷ digits ∷ pairs) × SpellsNumber greatest digits choice.rest × SpellPicks pairs choice.picks))
 
 -- the text spells the line
 abbrev pub Reads : List ℕ → Line → Type 0
 Reads text line.Nothing = IsQuiet text
 Reads text other = WordsSpell (words_of text) other
 
--- why a text isn't read as a line: it spells none, or a WRITE of so many bytes, which found no memory
+-- why a text isn't read as a line: it spells none; or a WRITE of so many bytes, or a crash, which found
+-- no memory
 abbrev pub IsLineFault : (Line → Type 0) → LineFault → Type 0
 IsLineFault spells fault.OutOfForm = (read : Line) → ¬ spells read
 IsLineFault spells (fault.NoBody s c offset size fua) = (bytes : List ℕ) × (spells (line.Write s c offset bytes fua) × (length bytes ≡ size))
+IsLineFault spells fault.NoPicks = (choice : CrashChoice) × spells (line.Crash choice)

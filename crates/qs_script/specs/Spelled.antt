@@ -2,6 +2,7 @@
 use Rattle.std.specs.Prelude.{◌≡◌, ℕ, ◌<◌, ◌≤◌, EachIndex, slice_index, List, [], ◌∷◌, ◌++◌, length, replicate, codes, Ok}
 use Rattle.std.specs.Fmt.{decimal}
 use Rattle.std.specs.Int.{IsInRange}
+use Rattle.std.specs.List.{AllZip}
 use Rattle.hex.specs.Hex.{decode_of}
 use Rattle.qs_bytes.specs.Payloads.{max_payload}
 use Rattle.qs_outside.specs.declared.rigged_disk.Fail.{Fail}
@@ -11,6 +12,8 @@ use Rattle.qs_script.specs.declared.actor.ScriptActor.{ScriptActor}
 use Rattle.qs_script.specs.declared.actor.ScriptActor.TheVariants.{Session, Request}
 use Rattle.qs_script.specs.declared.data.DataFault.{DataFault}
 use Rattle.qs_script.specs.declared.data.DataFault.TheVariants.{OutOfForm, Memory}
+use Rattle.qs_script.specs.declared.picks.PicksFault.{PicksFault}
+use Rattle.qs_script.specs.declared.picks.PicksFault.TheVariants as picks
 
 -- decimal digits, the first of which is `0` only where it is alone
 pub record IsPlain (word : List ℕ) : Type 0 where
@@ -53,6 +56,23 @@ pub data SpellsData (word bytes : List ℕ) : Type 0 where
 abbrev pub IsDataFault : (List ℕ → Type 0) → DataFault → Type 0
 IsDataFault spells OutOfForm = (bytes : List ℕ) → ¬ spells bytes
 IsDataFault spells (Memory size) = (bytes : List ℕ) × (spells bytes × (length bytes ≡ size))
+
+-- `B=N`: a block, and the place of its content among those that a crash may leave
+pub record SpellsPick (word : List ℕ) (pick : ℕ × ℕ) : Type 0 where
+  pub block : List ℕ
+  pub place : List ℕ
+  pub whole : word ≡ block ++ 61 ∷ place
+  pub block_is : SpellsNumber greatest block pick.0
+  pub place_is : SpellsNumber greatest place pick.1
+
+-- words that each spell such a pair
+abbrev pub SpellPicks : List (List ℕ) → List (ℕ × ℕ) → Type 0
+SpellPicks words picks = AllZip SpellsPick words picks
+
+-- why words give no pairs: they spell none, or they found no memory
+abbrev pub IsPicksFault : (List (ℕ × ℕ) → Type 0) → PicksFault → Type 0
+IsPicksFault spells picks.OutOfForm = (pairs : List (ℕ × ℕ)) → ¬ spells pairs
+IsPicksFault spells picks.Memory = (pairs : List (ℕ × ℕ)) × spells pairs
 
 -- the failures that can be planned
 abbrev pub fail_word : Fail → List ℕ

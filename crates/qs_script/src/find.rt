@@ -1,5 +1,6 @@
-ghost use Rattle.std.specs.Prelude.{MatchOption};
+ghost use Rattle.std.specs.Prelude.{◌≡◌, ◌∷◌, MatchOption};
 ghost use Rattle.qs_script.specs.Finds.{HasNo, IsFirst};
+ghost use Rattle.qs_script.specs.Lines.{words_left, words_of};
 
 /// The place of the first byte that is this one.
 pub fn first_of(bytes: &[u8], wanted: u8) -> Option<usize>
@@ -11,4 +12,14 @@ pub fn first_of(bytes: &[u8], wanted: u8) -> Option<usize>
         }
     }
     None
+}
+
+/// The first word of a text, and what follows the space behind it, if there is one.
+pub fn cut_word(text: &[u8]) -> (&[u8], Option<&[u8]>)
+    ensures { words_of text.now ≡ result.0.now ∷ words_left result.1 }
+{
+    match first_of(text, b' ') {
+        Some(at) => (&text[..at], Some(&text[at + 1..])),
+        None => (text, None),
+    }
 }

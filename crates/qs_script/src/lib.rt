@@ -8,6 +8,7 @@ mod find;
 pub mod laws;
 mod line;
 pub mod number;
+mod picks;
 mod print;
 mod read;
 mod session_name;

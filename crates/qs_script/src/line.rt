@@ -1,7 +1,7 @@
 use crate::actor::ScriptActor;
 use crate::session_name::SessionName;
 use qs_bytes::{Bytes, Name};
-use qs_outside::Fail;
+use qs_outside::{CrashChoice, Fail};
 
 /// A line of a script. Offsets and lengths are bytes, readings are nanoseconds.
 #[derive(Debug, Drop)]
@@ -67,6 +67,8 @@ pub enum Line {
         stripe: u64,
         kind: Fail,
     },
+    /// `crash N [B=N]...`
+    Crash(CrashChoice),
 }
 
 /// Why a text isn't read as a line.
@@ -82,4 +84,6 @@ pub enum LineFault {
         length: u64,
         fua: bool,
     },
+    /// It spells a crash, for whose pairs memory was refused.
+    NoPicks,
 }

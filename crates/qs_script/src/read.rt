@@ -8,12 +8,13 @@ ghost use Rattle.qs_script.specs.declared.line.Line.{Line as ALine};
 
 use crate::actor::actor_of;
 use crate::data::{DataFault, data_of};
-use crate::find::first_of;
+use crate::find::cut_word;
 use crate::line::{Line, LineFault};
 use crate::number::number;
+use crate::picks::{PicksFault, picks_of};
 use crate::session_name::SessionName;
 use qs_bytes::Name;
-use qs_outside::Fail;
+use qs_outside::{CrashChoice, Fail};
 use std::alloc::Global;
 
 /// The greatest length of a request, in bytes.
@@ -31,6 +32,9 @@ pub fn read_line(alloc: Global, text: &[u8]) -> Result<Line, LineFault>
     let Some(rest) = rest else {
         return Err(LineFault::OutOfForm);
     };
+    if is_crash(verb) {
+        return crash_line(alloc, rest);
+    }
     let (first, rest) = cut_word(rest);
     let Some(rest) = rest else {
         return two_words(verb, first).ok_or(LineFault::OutOfForm);
@@ -60,13 +64,26 @@ fn is_quiet(text: &[u8]) -> bool
     }
 }
 
-/// The first word of a text, and what follows the space behind it, if there is one.
-fn cut_word(text: &[u8]) -> (&[u8], Option<&[u8]>)
-    ensures { words_of text.now ≡ result.0.now ∷ words_left result.1 }
+/// Whether the text is `crash`.
+fn is_crash(text: &[u8]) -> bool
+    ensures { IsTrue result ↔ (text.now ≡ codes "crash") }
 {
-    match first_of(text, b' ') {
-        Some(at) => (&text[..at], Some(&text[at + 1..])),
-        None => (text, None),
+    matches!(text, b"crash")
+}
+
+/// A crash, by the words behind `crash`: a number, and pairs of a block and a number.
+fn crash_line(alloc: Global, text: &[u8]) -> Result<Line, LineFault>
+    ensures ok { IfOk result (WordsSpell (codes "crash" ∷ words_of text.now)) }
+    ensures fault { IfErr result (IsLineFault (WordsSpell (codes "crash" ∷ words_of text.now))) }
+{
+    let (word, left) = cut_word(text);
+    let Some(rest) = number(word, u64::MAX) else {
+        return Err(LineFault::OutOfForm);
+    };
+    match picks_of(alloc, left) {
+        Ok(picks) => Ok(Line::Crash(CrashChoice { rest, picks })),
+        Err(PicksFault::OutOfForm) => Err(LineFault::OutOfForm),
+        Err(PicksFault::Memory) => Err(LineFault::NoPicks),
     }
 }
 
@@ -89,7 +106,7 @@ fn is_fua(text: &[u8]) -> bool
     matches!(text, b"fua")
 }
 
-/// The first word of a line.
+/// The first word of a line that has at most six.
 #[derive(Clone, Copy, Debug, PartialEq, Eq)]
 enum Verb {
     Session,
@@ -126,6 +143,7 @@ fn verb_of(word: &[u8]) -> Option<Verb>
 
 /// `end S`, or `step` or `run` of an actor at reading 0.
 fn two_words(verb: &[u8], word: &[u8]) -> Option<Line>
+    requires { verb.now ≢ codes "crash" }
     ensures some { IfSome result (WordsSpell (verb.now ∷ word.now ∷ [])) }
     ensures none { IsNone result → (line : ALine) → ¬ WordsSpell (verb.now ∷ word.now ∷ []) line }
 {
@@ -153,6 +171,7 @@ fn two_words(verb: &[u8], word: &[u8]) -> Option<Line>
 
 /// `session S EXPORT`, `flush S C`, `step` or `run` of an actor at a reading, or `fail STRIPE KIND`.
 fn three_words(verb: &[u8], first: &[u8], second: &[u8]) -> Option<Line>
+    requires { verb.now ≢ codes "crash" }
     ensures some { IfSome result (WordsSpell (verb.now ∷ first.now ∷ second.now ∷ [])) }
     ensures none { IsNone result → (line : ALine) → ¬ WordsSpell (verb.now ∷ first.now ∷ second.now ∷ []) line }
 {
@@ -217,6 +236,7 @@ fn request(
     last: &[u8],
     fua: bool,
 ) -> Result<Line, LineFault>
+    requires { verb.now ≢ codes "crash" }
     ensures ok { IfOk result (WordsSpell (verb.now ∷ session.now ∷ cookie.now ∷ offset.now ∷ last.now ∷ fua_words fua)) }
     ensures fault { IfErr result (IsLineFault (WordsSpell (verb.now ∷ session.now ∷ cookie.now ∷ offset.now ∷ last.now ∷ fua_words fua))) }
 {

@@ -1,6 +1,6 @@
 use super::*;
 use qs_bytes::{Bytes, Errno, Memory, Verdict};
-use qs_outside::Fail as Failing;
+use qs_outside::{CrashChoice, Fail as Failing};
 use qs_part::event::{GraphNote, Note, NoteReply, OpKind, StripeNote};
 use qs_part::graph::Route;
 use qs_part::tracker::TrackerReply;
@@ -113,6 +113,16 @@ fn tell_data(alloc: Global, out: &mut Bytes, line: &Line) -> Result<(), Memory> 
     }
 }
 
+/// Tells what a crash leaves, in other words.
+fn tell_crash(alloc: Global, out: &mut Bytes, choice: &CrashChoice) -> Result<(), Memory> {
+    tell(alloc, out, b"leaves", &[choice.rest])?;
+    for (block, place) in choice.picks.0.iter() {
+        tell(alloc, out, b" and of", &[*block])?;
+        tell(alloc, out, b"", &[*place])?;
+    }
+    Ok(())
+}
+
 /// Tells a line in other words.
 fn tell_line(alloc: Global, out: &mut Bytes, line: &Line) -> Result<(), Memory> {
     match line {
@@ -142,6 +152,7 @@ fn tell_line(alloc: Global, out: &mut Bytes, line: &Line) -> Result<(), Memory> 
             tell(alloc, out, b"stripe", &[*stripe])?;
             tell_failure(out, *kind)
         }
+        Line::Crash(choice) => tell_crash(alloc, out, choice),
     }
 }
 
@@ -151,14 +162,14 @@ fn told(alloc: Global, text: &[u8]) -> Result<Bytes, Memory> {
     match read_line(alloc, text) {
         Ok(line) => tell_line(alloc, &mut out, &line)?,
         Err(LineFault::OutOfForm) => out.append(b"out of form")?,
-        Err(LineFault::NoBody { .. }) => return Err(Memory),
+        Err(LineFault::NoBody { .. } | LineFault::NoPicks) => return Err(Memory),
     }
     Ok(out)
 }
 
 #[test]
 fn lines_are_read(rt: HostRuntime) -> Result<(), Fail> {
-    let rows: [(&[u8], &[u8]); 21] = [
+    let rows: [(&[u8], &[u8]); 25] = [
         (b"", b""),
         (b"# read A 1 0 512", b""),
         (b"session A disk", b"A at disk"),
@@ -186,6 +197,13 @@ fn lines_are_read(rt: HostRuntime) -> Result<(), Fail> {
         (b"run A.1 1000000", b"A request 1 runs 1000000"),
         (b"fail 7 store-new", b"stripe 7 StoreNew"),
         (b"fail 0 sync", b"stripe 0 Sync"),
+        (b"crash 0", b"leaves 0"),
+        (b"crash 1 5=2", b"leaves 1 and of 5 2"),
+        (b"crash 0 5=1 5=2", b"leaves 0 and of 5 1 and of 5 2"),
+        (
+            b"crash 18446744073709551615 18446744073709551615=0",
+            b"leaves 18446744073709551615 and of 18446744073709551615 0",
+        ),
     ];
     for (text, wanted) in rows {
         assert_eq!(rt; told(rt.alloc(), text)?.as_slice(), wanted);
@@ -224,7 +242,6 @@ fn what_is_out_of_form_is_refused(rt: HostRuntime) {
         b"write A 1 0 fua",
         b"fail 8 load",
         b"fail 0 store",
-        b"crash 0",
     ] {
         assert!(rt; matches!(read_line(rt.alloc(), text), Err(LineFault::OutOfForm)));
     }
@@ -245,6 +262,41 @@ fn requests_without_bytes_keep_their_form(rt: HostRuntime) {
         b"flush A 1 0 0",
     ] {
         assert!(rt; matches!(read_line(rt.alloc(), text), Err(LineFault::OutOfForm)));
+    }
+}
+
+#[test]
+fn crashes_keep_their_form(rt: HostRuntime) {
+    for text in [
+        b"crash".as_slice(),
+        b"crash ",
+        b"crash 01",
+        b"crash 18446744073709551616",
+        b"crash 1 ",
+        b"crash 1 2",
+        b"crash 1 2=",
+        b"crash 1 =2",
+        b"crash 1 02=3",
+        b"crash 1 2=03",
+        b"crash 1 2==3",
+        b"crash 1 2=3=4",
+        b"crash 1 2=18446744073709551616",
+        b"crash 1  2=3",
+        b"crash 1 2=3 ",
+        b"crash 1 2=3 4",
+        b"crash 2=3 1",
+        b"crashes 1",
+    ] {
+        assert!(rt; matches!(read_line(rt.alloc(), text), Err(LineFault::OutOfForm)));
+    }
+}
+
+/// With `--fail-alloc` the pairs of a crash find no memory, which is told.
+#[test]
+fn crashes_without_memory_are_told(rt: HostRuntime) {
+    match read_line(rt.alloc(), b"crash 1 2=3 4=5") {
+        Ok(line) => assert!(rt; matches!(&line, Line::Crash(_))),
+        Err(fault) => assert_eq!(rt; fault, LineFault::NoPicks),
     }
 }
 

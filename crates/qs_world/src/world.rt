@@ -118,6 +118,13 @@ impl<D: Disk + Drop> World<D> {
         self.core.step(event)
     }
 
+    /// Whether the file node may only be read.
+    pub fn is_read_only(&self) -> bool
+        ensures { result ≡ self.now.graph.read_only }
+    {
+        self.core.graph.is_read_only()
+    }
+
     /// Exports the file node under this id and name. Its only error is refused memory, which leaves all
     /// as it was.
     pub fn export_disk(&mut self, name: Name, writable: bool) -> Result<(), Memory>

@@ -10,7 +10,7 @@ use Rattle.qs_script.proofs.read.request.Goals as goal
 pub returns-in-None-clause-fault : goal.returns-in-None-clause-fault
 returns-in-None-clause-fault c = λ line is.
     no_verb c.args.verb.now (c.args.session.now ∷ c.args.cookie.now ∷ c.args.offset.now ∷ c.args.last.now ∷ fua_words c.args.fua)
-    (c.in-None.ensures.none refl) line is
+    c.requires (c.in-None.ensures.none refl) line is
 
 pub returns-in-Some-Write-clause-fault : goal.returns-in-Some-Write-clause-fault
 returns-in-Some-Write-clause-fault c =

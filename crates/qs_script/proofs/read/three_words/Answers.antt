@@ -8,7 +8,7 @@ use Rattle.qs_script.proofs.read.three_words.Goals as goal
 
 pub returns-in_err-verb_of-clause-none : goal.returns-in_err-verb_of-clause-none
 returns-in_err-verb_of-clause-none c = λ e line is.
-    no_verb c.args.verb.now (c.args.first.now ∷ c.args.second.now ∷ []) (c.in_err-verb_of.ensures.none refl) line is
+    no_verb c.args.verb.now (c.args.first.now ∷ c.args.second.now ∷ []) c.requires (c.in_err-verb_of.ensures.none refl) line is
 
 pub returns-in_ok-number-in-Step-clause-some : goal.returns-in_ok-number-in-Step-clause-some
 returns-in_ok-number-in-Step-clause-some c =

@@ -7,7 +7,7 @@ use Rattle.qs_script.proofs.Reading.{no_verb, drives_bare}
 use Rattle.qs_script.proofs.read.two_words.Goals as goal
 
 pub returns-in_err-verb_of-clause-none : goal.returns-in_err-verb_of-clause-none
-returns-in_err-verb_of-clause-none c = λ e line is. no_verb c.args.verb.now (c.args.word.now ∷ []) (c.in_err-verb_of.ensures.none refl) line is
+returns-in_err-verb_of-clause-none c = λ e line is. no_verb c.args.verb.now (c.args.word.now ∷ []) c.requires (c.in_err-verb_of.ensures.none refl) line is
 
 pub returns-in_ok-actor_of-in-Step-clause-some : goal.returns-in_ok-actor_of-in-Step-clause-some
 returns-in_ok-actor_of-in-Step-clause-some c =

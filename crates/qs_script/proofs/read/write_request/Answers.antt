@@ -1,7 +1,6 @@
 -- Five words or six that begin with `write` have data.
 use Rattle.std.proofs.Common.{refl}
 use Rattle.qs_script.specs.Lines.{fua_words}
-use Rattle.qs_script.specs.Verbs.{verb_word}
 use Rattle.qs_script.specs.declared.read.Verb.TheVariants as verb
 use Rattle.qs_script.proofs.Reading.{asks_of, placed, written}
 use Rattle.qs_script.proofs.read.write_request.Goals as goal
@@ -9,7 +8,7 @@ use Rattle.qs_script.proofs.read.write_request.Goals as goal
 pub returns-in_default-clause-fault : goal.returns-in_default-clause-fault
 returns-in_default-clause-fault c = λ line is.
     let place =
-    placed (verb_word verb.Write) c.args.session.now c.args.cookie.now c.args.offset.now c.args.last.now (fua_words c.args.fua) line is in
+    placed verb.Write c.args.session.now c.args.cookie.now c.args.offset.now c.args.last.now (fua_words c.args.fua) line is in
     c.in_default.ensures.none refl place.0 place.1
 
 pub returns-in-Ok-clause-ok : goal.returns-in-Ok-clause-ok

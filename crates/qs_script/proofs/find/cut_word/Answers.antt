@@ -2,7 +2,7 @@
 use Rattle.std.proofs.Common.{◌+◌, add-one}
 use Rattle.std.proofs.lemmas.List.{take_rest}
 use Rattle.qs_script.proofs.Splitting.{split_first, split_none}
-use Rattle.qs_script.proofs.read.cut_word.Goals as goal
+use Rattle.qs_script.proofs.find.cut_word.Goals as goal
 
 pub returns-in-Some : goal.returns-in-Some
 returns-in-Some c =
