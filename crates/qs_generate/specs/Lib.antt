@@ -1,0 +1,4 @@
+pub mod Drawing
+pub mod Rounds
+pub mod Lives
+pub mod Generated
