@@ -2,3 +2,4 @@ pub mod Drawing
 pub mod Rounds
 pub mod Lives
 pub mod Generated
+pub mod Sums

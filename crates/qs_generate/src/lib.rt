@@ -2,14 +2,17 @@
 #![tactic(auto)]
 
 mod draws;
+pub mod laws;
 mod live;
 mod request;
 mod run;
+mod totals;
 
 pub use draws::{Draws, RoundDraws};
 pub use live::{LiveRequest, Turn};
 pub use request::{Wanted, request_line};
 pub use run::GeneratedRun;
+pub use totals::{RunTotals, add_weighted, put_totals};
 
 #[cfg(test)]
 mod tests;

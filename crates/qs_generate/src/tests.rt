@@ -256,3 +256,31 @@ fn whole_runs_are_these(rt: HostRuntime) -> Result<(), Fail> {
     }
     Ok(())
 }
+
+#[test]
+fn bytes_are_weighted_by_their_places(rt: HostRuntime) {
+    let rows: [(u64, u64, &[u8], u64); 5] = [
+        (9, 7, &[], 9),
+        (0, 0, &[1, 2, 3], 14),
+        (5, 10, &[255], 2810),
+        (u64::MAX, 0, &[1], 0),
+        (0, 1 << 63, &[2], 2),
+    ];
+    for (sum, first, bytes, total) in rows {
+        assert_eq!(rt; add_weighted(sum, first, bytes), total);
+    }
+}
+
+#[test]
+fn totals_are_one_line(rt: HostRuntime) -> Result<(), Fail> {
+    let mut out = Bytes::of(b"A.1 = 0\n".to_vec(rt.alloc())?);
+    let totals = RunTotals {
+        errors: 0,
+        steps: 43_210,
+        sum: u64::MAX,
+    };
+    put_totals(rt.alloc(), &mut out, &totals)?;
+    let text = b"A.1 = 0\nrequests 10000 errors 0 steps 43210 sum 18446744073709551615\n";
+    assert_eq!(rt; out.as_slice(), text.as_slice());
+    Ok(())
+}
