@@ -1,6 +1,15 @@
 //! What the definitions of a made-up run say: each law is the contract of a function that does nothing.
 ghost use Rattle.std.specs.Prelude.{◌≡◌, ◌+◌, ◌++◌, List, ℕ, length};
+ghost use Rattle.qs_generate.specs.Generated.{made};
+ghost use Rattle.qs_generate.specs.Lives.{Generated};
+ghost use Rattle.qs_generate.specs.Numbering.{AsksAnew};
 ghost use Rattle.qs_generate.specs.Sums.{weighted};
+ghost use Rattle.qs_generate.specs.declared.live.LiveRequest.{LiveRequest as ALive};
+
+/// No two requests of a run have one cookie.
+pub fn new_cookies()
+    ensures { (g : Generated) (live : List ALive) → AsksAnew g.turn (made g live) }
+{}
 
 /// The sum of an image is that of its blocks, one behind the other.
 pub fn by_blocks()

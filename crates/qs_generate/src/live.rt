@@ -1,4 +1,4 @@
-ghost use Rattle.std.specs.Prelude.{◌≡◌, ◌<◌, find, nat_lt};
+ghost use Rattle.std.specs.Prelude.{◌≡◌, ◌<◌, IfSome, find, nat_lt};
 ghost use Rattle.qs_generate.specs.Lives.{actor_of, session_line as the_line};
 
 use crate::request::session_name;
@@ -50,7 +50,8 @@ pub fn session_line(session: u64) -> Line
 
 /// The first request whose cookie is above `done`.
 pub fn first_left(live: &[LiveRequest], done: u64) -> Option<LiveRequest>
-    ensures { result ≡ find (λ r. nat_lt done r.cookie) live.now }
+    ensures first { result ≡ find (λ r. nat_lt done r.cookie) live.now }
+    ensures above { IfSome result (λ r. done < r.cookie) }
 {
     live.iter().copied().find(|request| request.cookie > done)
 }

@@ -1,6 +1,8 @@
-ghost use Rattle.std.specs.Prelude.{◌≡◌, ◌<◌, ◌≤◌, find, nat_lt};
+ghost use Rattle.std.specs.Prelude.{◌≡◌, ◌+◌, ◌-◌, ◌*◌, ◌^◌, ◌<◌, ◌≤◌, IsSome, find, nat_lt};
 ghost use Rattle.qs_generate.specs.Generated.{Makes, asked, attached, begun, made, passed, ran, stepped};
+ghost use Rattle.qs_generate.specs.Nearing.{rank_of, span};
 ghost use Rattle.qs_generate.specs.declared.live.Turn.TheVariants.{Attach};
+ghost use Rattle.qs_generate.specs.declared.live.Turn.TheVariants as turn;
 
 use crate::draws::Draws;
 use crate::live::{LiveRequest, Turn, first_left, session_line};
@@ -50,13 +52,15 @@ impl GeneratedRun {
     }
 
     /// The next line, where these requests are live, in order of making; `None` behind the last. Where
-    /// memory is refused for the bytes of a WRITE, that is told, and the run goes on as with it.
+    /// memory is refused for the bytes of a WRITE, that is told, and the run goes on as with it. With each
+    /// line the run is nearer to its end (`rank_of`).
     pub fn next_line(
         &mut self,
         alloc: Global,
         live: &[LiveRequest],
     ) -> Option<Result<Line, LineFault>>
-        ensures { Makes (made self.old live.now) result self.new }
+        ensures line { Makes (made self.old live.now) result self.new }
+        ensures ends { IsSome result → rank_of self.new.turn < rank_of self.old.turn }
     {
         match self.turn {
             Turn::Attach(session) => self.attach(session),
@@ -69,7 +73,8 @@ impl GeneratedRun {
     /// A session is made; the first round follows the last one.
     fn attach(&mut self, session: u64) -> Option<Result<Line, LineFault>>
         requires { session < 4 }
-        ensures { Makes (attached self.old session) result self.new }
+        ensures line { Makes (attached self.old session) result self.new }
+        ensures ends { rank_of self.new.turn < rank_of (Attach session) }
     {
         self.turn = if session < 3 {
             Turn::Attach(session + 1)
@@ -82,7 +87,8 @@ impl GeneratedRun {
     /// The request of a round, if there is such a round.
     fn ask(&mut self, alloc: Global, round: u64) -> Option<Result<Line, LineFault>>
         requires { round ≤ 10001 }
-        ensures { Makes (asked self.old round) result self.new }
+        ensures line { Makes (asked self.old round) result self.new }
+        ensures ends { IsSome result → rank_of self.new.turn < rank_of (turn.Ask round) }
     {
         if round > ROUNDS {
             self.turn = Turn::Ask(round);
@@ -105,7 +111,8 @@ impl GeneratedRun {
         live: &[LiveRequest],
     ) -> Option<Result<Line, LineFault>>
         requires { round ≤ 10000 }
-        ensures { Makes (stepped self.old round left live.now) result self.new }
+        ensures line { Makes (stepped self.old round left live.now) result self.new }
+        ensures ends { IsSome result → rank_of self.new.turn < rank_of (turn.Step round left) }
     {
         if left == 0 || live.is_empty() {
             return if round % PASSES == 0 {
@@ -136,7 +143,8 @@ impl GeneratedRun {
         live: &[LiveRequest],
     ) -> Option<Result<Line, LineFault>>
         requires { round ≤ 10000 }
-        ensures { Makes (passed self.old round pass live.now (find (λ r. nat_lt done r.cookie) live.now)) result self.new }
+        ensures line { Makes (passed self.old round pass live.now (find (λ r. nat_lt done r.cookie) live.now)) result self.new }
+        ensures ends { IsSome result → rank_of self.new.turn < rank_of (turn.Run round pass done) }
     {
         match first_left(live, done) {
             Some(request) => self.run(round, pass, request),
@@ -153,8 +161,10 @@ impl GeneratedRun {
         pass: u64,
         live: &[LiveRequest],
     ) -> Option<Result<Line, LineFault>>
-        requires { round ≤ 10000 }
-        ensures { Makes (begun self.old round pass live.now) result self.new }
+        requires round { round ≤ 10000 }
+        requires pass { pass ≤ 16 }
+        ensures line { Makes (begun self.old round pass live.now) result self.new }
+        ensures ends { IsSome result → rank_of self.new.turn ≤ (10000 - round) * span + (17 - pass) * 2 ^ 64 }
     {
         match live {
             [] => self.ask(alloc, round + 1),
