@@ -14,7 +14,10 @@ use std::marker::Model;
 /// How many rounds a run has.
 const ROUNDS: u64 = 10_000;
 
-/// Behind each so manyth round the live requests are run, in as many passes.
+/// Behind each round whose number is a multiple of this the live requests are run.
+const RUN_ROUNDS: u64 = 16;
+
+/// In so many passes they are run.
 const PASSES: u64 = 16;
 
 /// A made-up run over an image, of which a seed determines all but what the core answers. Sessions A to
@@ -115,7 +118,7 @@ impl GeneratedRun {
         ensures ends { IsSome result → rank_of self.new.turn < rank_of (turn.Step round left) }
     {
         if left == 0 || live.is_empty() {
-            return if round % PASSES == 0 {
+            return if round % RUN_ROUNDS == 0 {
                 self.begin_pass(alloc, round, 1, live)
             } else {
                 self.ask(alloc, round + 1)

@@ -1,6 +1,6 @@
 use super::*;
 use qs_bytes::{Bytes, Memory};
-use qs_script::{Line, LineFault, ScriptActor};
+use qs_script::{Line, ScriptActor, SessionName};
 use std::alloc::Global;
 use std::test::Fail;
 
@@ -48,19 +48,28 @@ fn tell_body(alloc: Global, out: &mut Bytes, body: &Bytes) -> Result<(), Memory>
     }
 }
 
-/// Tells a request in other words.
-fn tell_request(alloc: Global, out: &mut Bytes, line: &Line) -> Result<(), Memory> {
+/// Tells a request in other words: its verb, its session and numbers.
+fn tell_request(
+    alloc: Global,
+    out: &mut Bytes,
+    verb: &[u8],
+    session: &SessionName,
+    numbers: &[u64],
+) -> Result<(), Memory> {
+    out.append(verb)?;
+    out.append(session.as_slice())?;
+    tell(alloc, out, numbers)
+}
+
+/// Tells a line that makes a request in other words.
+fn tell_ask(alloc: Global, out: &mut Bytes, line: &Line) -> Result<(), Memory> {
     match line {
         Line::Read {
             session,
             cookie,
             offset,
             length,
-        } => {
-            out.append(b"read ")?;
-            out.append(session.as_slice())?;
-            tell(alloc, out, &[*cookie, *offset, *length])
-        }
+        } => tell_request(alloc, out, b"read ", session, &[*cookie, *offset, *length]),
         Line::Write {
             session,
             cookie,
@@ -68,9 +77,7 @@ fn tell_request(alloc: Global, out: &mut Bytes, line: &Line) -> Result<(), Memor
             body,
             ..
         } => {
-            out.append(b"write ")?;
-            out.append(session.as_slice())?;
-            tell(alloc, out, &[*cookie, *offset])?;
+            tell_request(alloc, out, b"write ", session, &[*cookie, *offset])?;
             tell_body(alloc, out, body)
         }
         Line::Zero {
@@ -79,15 +86,9 @@ fn tell_request(alloc: Global, out: &mut Bytes, line: &Line) -> Result<(), Memor
             offset,
             length,
             ..
-        } => {
-            out.append(b"zero ")?;
-            out.append(session.as_slice())?;
-            tell(alloc, out, &[*cookie, *offset, *length])
-        }
+        } => tell_request(alloc, out, b"zero ", session, &[*cookie, *offset, *length]),
         Line::Flush { session, cookie } => {
-            out.append(b"flush ")?;
-            out.append(session.as_slice())?;
-            tell(alloc, out, &[*cookie])
+            tell_request(alloc, out, b"flush ", session, &[*cookie])
         }
         _ => Ok(()),
     }
@@ -104,7 +105,7 @@ fn tell_line(alloc: Global, out: &mut Bytes, line: &Line) -> Result<(), Memory> 
         }
         Line::Step { actor, .. } => tell_actor(alloc, out, b"step ", actor)?,
         Line::Run { actor, .. } => tell_actor(alloc, out, b"run ", actor)?,
-        line => tell_request(alloc, out, line)?,
+        line => tell_ask(alloc, out, line)?,
     }
     out.append(b"\n")
 }

@@ -164,45 +164,47 @@ fn told(alloc: Global, text: &[u8]) -> Result<Bytes, Memory> {
     Ok(out)
 }
 
+/// Lines, and what each tells.
+const LINES: [(&[u8], &[u8]); 25] = [
+    (b"", b""),
+    (b"# read A 1 0 512", b""),
+    (b"session A disk", b"A at disk"),
+    (b"end Abcdefg9", b"Abcdefg9 ends"),
+    (b"read A 2 508 4294967295", b"A reads 2 508 4294967295"),
+    (b"write A 1 510 6d6D4a", b"A writes 1 510 mmJ"),
+    (b"write A 1 7 -", b"A writes 1 7 "),
+    (b"write A 1 7 61*3", b"A writes 1 7 aaa"),
+    (b"write A 1 7 61*0", b"A writes 1 7 "),
+    (b"write A 1 7 61*3 fua", b"A writes 1 7 aaa through"),
+    (b"zero A 3 4096 4294967295", b"A zeroes 3 4096 4294967295"),
+    (b"zero A 3 0 0 fua", b"A zeroes 3 0 0 through"),
+    (b"trim A 4 510 1000", b"A trims 4 510 1000"),
+    (
+        b"trim A 4 18446744073709551615 1",
+        b"A trims 4 18446744073709551615 1",
+    ),
+    (b"flush A 5", b"A flushes 5"),
+    (b"step A.1", b"A request 1 steps 0"),
+    (b"step A", b"A steps 0"),
+    (
+        b"step A.18446744073709551615 7",
+        b"A request 18446744073709551615 steps 7",
+    ),
+    (b"run A.1 1000000", b"A request 1 runs 1000000"),
+    (b"fail 7 store-new", b"stripe 7 StoreNew"),
+    (b"fail 0 sync", b"stripe 0 Sync"),
+    (b"crash 0", b"leaves 0"),
+    (b"crash 1 5=2", b"leaves 1 and of 5 2"),
+    (b"crash 0 5=1 5=2", b"leaves 0 and of 5 1 and of 5 2"),
+    (
+        b"crash 18446744073709551615 18446744073709551615=0",
+        b"leaves 18446744073709551615 and of 18446744073709551615 0",
+    ),
+];
+
 #[test]
 fn lines_are_read(rt: HostRuntime) -> Result<(), Fail> {
-    let rows: [(&[u8], &[u8]); 25] = [
-        (b"", b""),
-        (b"# read A 1 0 512", b""),
-        (b"session A disk", b"A at disk"),
-        (b"end Abcdefg9", b"Abcdefg9 ends"),
-        (b"read A 2 508 4294967295", b"A reads 2 508 4294967295"),
-        (b"write A 1 510 6d6D4a", b"A writes 1 510 mmJ"),
-        (b"write A 1 7 -", b"A writes 1 7 "),
-        (b"write A 1 7 61*3", b"A writes 1 7 aaa"),
-        (b"write A 1 7 61*0", b"A writes 1 7 "),
-        (b"write A 1 7 61*3 fua", b"A writes 1 7 aaa through"),
-        (b"zero A 3 4096 4294967295", b"A zeroes 3 4096 4294967295"),
-        (b"zero A 3 0 0 fua", b"A zeroes 3 0 0 through"),
-        (b"trim A 4 510 1000", b"A trims 4 510 1000"),
-        (
-            b"trim A 4 18446744073709551615 1",
-            b"A trims 4 18446744073709551615 1",
-        ),
-        (b"flush A 5", b"A flushes 5"),
-        (b"step A.1", b"A request 1 steps 0"),
-        (b"step A", b"A steps 0"),
-        (
-            b"step A.18446744073709551615 7",
-            b"A request 18446744073709551615 steps 7",
-        ),
-        (b"run A.1 1000000", b"A request 1 runs 1000000"),
-        (b"fail 7 store-new", b"stripe 7 StoreNew"),
-        (b"fail 0 sync", b"stripe 0 Sync"),
-        (b"crash 0", b"leaves 0"),
-        (b"crash 1 5=2", b"leaves 1 and of 5 2"),
-        (b"crash 0 5=1 5=2", b"leaves 0 and of 5 1 and of 5 2"),
-        (
-            b"crash 18446744073709551615 18446744073709551615=0",
-            b"leaves 18446744073709551615 and of 18446744073709551615 0",
-        ),
-    ];
-    for (text, wanted) in rows {
+    for (text, wanted) in LINES {
         assert_eq!(rt; told(rt.alloc(), text)?.as_slice(), wanted);
     }
     Ok(())
