@@ -1,2 +1,3 @@
+mod BlockRuns
 mod HeldBlocks
 mod Journals

@@ -6,6 +6,7 @@ mod block_store;
 mod calls;
 mod clock;
 mod disk;
+mod failed_at;
 mod mem_clock;
 mod mem_disk;
 mod mem_sink;
@@ -17,6 +18,7 @@ mod stream;
 
 pub use clock::Clock;
 pub use disk::Disk;
+pub use failed_at::FailedAt;
 pub use mem_clock::MemClock;
 pub use mem_disk::MemDisk;
 pub use mem_sink::MemSink;
