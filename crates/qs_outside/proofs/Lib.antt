@@ -1,3 +1,3 @@
-mod BlockRuns
+pub mod BlockRuns
 mod HeldBlocks
 mod Journals
