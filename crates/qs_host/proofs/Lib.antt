@@ -1,2 +1,3 @@
 mod KnownBytes
 mod SyncHistories
+mod UntoldRuns

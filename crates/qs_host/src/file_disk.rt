@@ -7,7 +7,7 @@ use crate::file_syncs::FileSyncs;
 use crate::image::{handle_of, open_image};
 use crate::start_fault::StartFault;
 use qs_bytes::STRIPES;
-use qs_outside::{Disk, Failed};
+use qs_outside::{Disk, Failed, FailedAt};
 use std::alloc::Global;
 use std::fs::File;
 use std::io;
@@ -107,6 +107,26 @@ impl<R: Wait> Disk for FileDisk<R> {
         {
             Ok(()) => Ok(()),
             Err(reason) => Err(self.faults.note(reason)),
+        }
+    }
+
+    /// One call of the file for all blocks. Where it fails they are read one by one, so that it is told how
+    /// many could be.
+    fn load_run(&mut self, b: u64, n: u8, into: &mut [u8]) -> Result<(), FailedAt> {
+        match self.file.read_exact_at(into, b * u64::from(self.align)) {
+            Ok(()) => Ok(()),
+            Err(_) => self.load_each(b, n, into),
+        }
+    }
+
+    /// One call of the file for all blocks. Where it fails they are written one by one; blocks behind the
+    /// one at which that ends may have been written by the first call.
+    fn store_run(&mut self, b: u64, n: u8, bytes: &[u8]) -> Result<(), FailedAt> {
+        let done = self.file.write_all_at(bytes, b * u64::from(self.align));
+        self.syncs.stored(&self.rt, usize::from(self.stripe));
+        match done {
+            Ok(()) => Ok(()),
+            Err(_) => self.store_each(b, n, bytes),
         }
     }
 }

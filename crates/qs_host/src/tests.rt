@@ -1,9 +1,10 @@
 ghost use Rattle.std.specs.Prelude.{◌≡◌};
+ghost use Rattle.qs_outside.specs.Blocks.{Fixed};
 
 use crate::{
     FileKind, Reading, StartFault, SyncLog, SyncNeed, Unfit, Writing, exit_of, file_disks,
 };
-use qs_outside::{Disk, Failed, Sink, Source};
+use qs_outside::{Disk, Failed, FailedAt, Sink, Source};
 use qs_status::{OpenBad, SessionEnd, Status};
 use std::fs::{self, File, OpenOptions};
 use std::io::{self, PipeReader, Read, Write};
@@ -129,12 +130,26 @@ fn keeps_a_block<D: Disk>(disk: &mut D) -> Result<[u8; 512], Failed>
     Ok(bytes)
 }
 
+/// Writes a run of two blocks, of which the first is block 18, and reads it by a run.
+fn keeps_a_run<D: Disk>(disk: &mut D) -> Result<[u8; 1024], FailedAt>
+    requires stripe { (D.seen disk.old).stripe ≡ 1 }
+    requires align { (D.seen disk.old).align ≡ 512 }
+    requires size { (D.seen disk.old).size ≡ 16384 }
+    ensures { Fixed (D.seen disk.old) (D.seen disk.new) }
+{
+    let mut bytes = [0; 1024];
+    disk.store_run(18, 2, &[9; 1024])?;
+    disk.load_run(18, 2, &mut bytes)?;
+    Ok(bytes)
+}
+
 /// Whether the image keeps a block, through the disk of its stripe.
 fn image_keeps_a_block<D: Disk>(disks: &mut [D]) -> bool {
     let mut kept = false;
     for disk in disks.iter_mut() {
         if disk.stripe() == 1 && disk.align() == 512 && disk.length() == 16384 {
-            kept = keeps_a_block(disk) == Ok([7; 512]);
+            let run = keeps_a_run(disk) == Ok([9; 1024]);
+            kept = run && keeps_a_block(disk) == Ok([7; 512]);
         }
     }
     kept

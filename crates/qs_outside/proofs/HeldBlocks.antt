@@ -35,7 +35,7 @@ part-below xs ys i n h =
     rw e at (between_is xs i (i + n)) ∙ ap (drop i) h ∙ sym (rw e at (between_is ys i (i + n)))
 
 -- a write of one block's bytes leaves the bytes of the others
-part-other : (bytes piece : List ℕ) (r s align k : ℕ) → (s + 1 ≤ r) ⊎ (r + 1 ≤ s) → r * align + align ≤ length bytes → length piece ≡ align → k ≡ align
+pub part-other : (bytes piece : List ℕ) (r s align k : ℕ) → (s + 1 ≤ r) ⊎ (r + 1 ≤ s) → r * align + align ≤ length bytes → length piece ≡ align → k ≡ align
     → part (put_mid (r * align) k bytes piece) (s * align) align ≡ part bytes (s * align) align
 part-other bytes piece r s align k (inl below) room whole e =
     let apart : (s + 1) * align ≤ r * align = mul-le-mul_right align below in
@@ -44,7 +44,7 @@ part-other bytes piece r s align k (inr above) room whole e =
     let apart : (r + 1) * align ≤ s * align = mul-le-mul_right align above in
     ap (take align) (drop-put_mid (r * align) k bytes piece (s * align) (omega (arith, apart)) (omega arith) (omega arith))
 
-part-same : (bytes piece : List ℕ) (at align k : ℕ) → at + align ≤ length bytes → length piece ≡ align → part (put_mid at k bytes piece) at align ≡ piece
+pub part-same : (bytes piece : List ℕ) (at align k : ℕ) → at + align ≤ length bytes → length piece ≡ align → part (put_mid at k bytes piece) at align ≡ piece
 part-same bytes piece at align k room whole =
     let e : at + align - at ≡ align = omega arith in
     rw e at (between-put_mid at k bytes piece (at + align) (omega arith) (omega arith))

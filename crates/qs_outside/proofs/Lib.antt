@@ -1,3 +1,4 @@
+pub mod BlockRuns
 mod HeldBlocks
 mod Journals
 mod Replays

@@ -1,5 +1,5 @@
 -- What a disk means: one of eight that hold an image in turn, sixteen blocks at a time.
-use Rattle.std.specs.Prelude.{◌≡◌, ◌≢◌, ℕ, ◌+◌, ◌*◌, ◌/◌, ◌%◌, ◌≤◌, ◌⊎◌, Bool, false, List, Option, None, Some, Contains}
+use Rattle.std.specs.Prelude.{◌≡◌, ◌≢◌, ℕ, ◌+◌, ◌*◌, ◌≤◌, ◌⊎◌, Bool, false, List, Option, None, Some, Contains}
 use Rattle.std.specs.List.{AllByRecursion}
 use Rattle.qs_bytes.specs.Geometry.{stripe_of}
 use Rattle.qs_outside.specs.declared.rigged_disk.Plans.{Plans}

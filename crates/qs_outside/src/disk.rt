@@ -1,8 +1,10 @@
-ghost use Rattle.std.specs.Prelude.{◌≡◌, ℕ, ◌∷◌, [], length, IsTrue, OnOk, OnErr, Contains};
+ghost use Rattle.std.specs.Prelude.{◌≡◌, ℕ, ◌*◌, ◌∷◌, [], length, IsTrue, MatchResult, OnOk, OnErr, Contains};
 ghost use Rattle.qs_outside.specs.Faults.{HasCause};
 ghost use Rattle.qs_outside.specs.Rigged.{AsPlanned, MayLoad, MayStore, MaySync};
 ghost use Rattle.qs_outside.specs.Blocks.{Seen, IsBlock, Fixed, Same, Stored, StoredOrNot, MayLeave, load_spent, store_spent, sync_spent};
+ghost use Rattle.qs_outside.specs.Runs.{InOrder, IsRun, LoadsAt, LoadsEnd, StoresAt, StoresEnd};
 
+use crate::failed_at::FailedAt;
 use crate::stream::Failed;
 
 /// One of the eight disks that hold an image: the blocks of one stripe.
@@ -66,4 +68,70 @@ pub trait Disk {
         ensures planned { (seen self.new).planned ≡ sync_spent (seen self.old).planned }
         ensures full { OnErr result ((seen self.new).full ≡ (seen self.old).full) }
         ensures cause { HasCause (seen self.old).faults (seen self.new).faults result };
+
+    /// Reads `n` blocks from `b` on, as many single loads in order would. Where one fails, those behind it
+    /// aren't read.
+    fn load_run(&mut self, b: u64, n: u8, into: &mut [u8]) -> Result<(), FailedAt>
+        requires run { IsRun (seen self.old) b n }
+        requires whole { length into.old ≡ n * (seen self.old).align }
+        ensures fixed { Fixed (seen self.old) (seen self.new) }
+        ensures loads { MatchResult result
+            (λ _. InOrder (LoadsAt (seen self.old).align b into.new) n (seen self.old) (seen self.new))
+            (λ e. LoadsEnd (seen self.old).align b n into.new e.done (seen self.old) (seen self.new)) }
+    {
+        self.load_each(b, n, into)
+    }
+
+    /// Writes `n` blocks from `b` on, as many single stores in order would. Where one fails, those behind
+    /// it aren't written.
+    fn store_run(&mut self, b: u64, n: u8, bytes: &[u8]) -> Result<(), FailedAt>
+        requires run { IsRun (seen self.old) b n }
+        requires whole { length bytes.now ≡ n * (seen self.old).align }
+        ensures fixed { Fixed (seen self.old) (seen self.new) }
+        ensures stores { MatchResult result
+            (λ _. InOrder (StoresAt (seen self.old).align b bytes.now) n (seen self.old) (seen self.new))
+            (λ e. StoresEnd (seen self.old).align b n bytes.now e.done (seen self.old) (seen self.new)) }
+    {
+        self.store_each(b, n, bytes)
+    }
+
+    /// `load_run`, by a load of each block.
+    fn load_each(&mut self, b: u64, n: u8, into: &mut [u8]) -> Result<(), FailedAt>
+        requires run { IsRun (seen self.old) b n }
+        requires whole { length into.old ≡ n * (seen self.old).align }
+        ensures fixed { Fixed (seen self.old) (seen self.new) }
+        ensures loads { MatchResult result
+            (λ _. InOrder (LoadsAt (seen self.old).align b into.new) n (seen self.old) (seen self.new))
+            (λ e. LoadsEnd (seen self.old).align b n into.new e.done (seen self.old) (seen self.new)) }
+    {
+        let align = self.align() as usize;
+        for i in 0..n {
+            let at = usize::from(i) * align;
+            match self.load(b + u64::from(i), &mut into[at..at + align]) {
+                Ok(()) => {}
+                Err(Failed) => return Err(FailedAt { done: i }),
+            }
+        }
+        Ok(())
+    }
+
+    /// `store_run`, by a store of each block.
+    fn store_each(&mut self, b: u64, n: u8, bytes: &[u8]) -> Result<(), FailedAt>
+        requires run { IsRun (seen self.old) b n }
+        requires whole { length bytes.now ≡ n * (seen self.old).align }
+        ensures fixed { Fixed (seen self.old) (seen self.new) }
+        ensures stores { MatchResult result
+            (λ _. InOrder (StoresAt (seen self.old).align b bytes.now) n (seen self.old) (seen self.new))
+            (λ e. StoresEnd (seen self.old).align b n bytes.now e.done (seen self.old) (seen self.new)) }
+    {
+        let align = self.align() as usize;
+        for i in 0..n {
+            let at = usize::from(i) * align;
+            match self.store(b + u64::from(i), &bytes[at..at + align]) {
+                Ok(()) => {}
+                Err(Failed) => return Err(FailedAt { done: i }),
+            }
+        }
+        Ok(())
+    }
 }

@@ -1,5 +1,6 @@
-ghost use Rattle.std.specs.Prelude.{◌≡◌, length};
+ghost use Rattle.std.specs.Prelude.{◌≡◌, ◌*◌, length};
 ghost use Rattle.qs_outside.specs.Blocks.{Fixed, IsBlock};
+ghost use Rattle.qs_outside.specs.Runs.{IsRun};
 
 use super::*;
 use qs_bytes::Bytes;
@@ -36,6 +37,22 @@ fn load_from<D: Disk>(disk: &mut D, b: u64, into: &mut [u8]) -> Result<(), Faile
     ensures { Fixed (D.seen disk.old) (D.seen disk.new) }
 {
     disk.load(b, into)
+}
+
+fn store_run_to<D: Disk>(disk: &mut D, b: u64, n: u8, bytes: &[u8]) -> Result<(), FailedAt>
+    requires run { IsRun (D.seen disk.old) b n }
+    requires whole { length bytes.now ≡ n * (D.seen disk.old).align }
+    ensures { Fixed (D.seen disk.old) (D.seen disk.new) }
+{
+    disk.store_run(b, n, bytes)
+}
+
+fn load_run_from<D: Disk>(disk: &mut D, b: u64, n: u8, into: &mut [u8]) -> Result<(), FailedAt>
+    requires run { IsRun (D.seen disk.old) b n }
+    requires whole { length into.old ≡ n * (D.seen disk.old).align }
+    ensures { Fixed (D.seen disk.old) (D.seen disk.new) }
+{
+    disk.load_run(b, n, into)
 }
 
 fn sync_of<D: Disk>(disk: &mut D) -> Result<(), Failed>
@@ -106,6 +123,29 @@ fn a_store_is_loaded_back(rt: HostRuntime) -> Result<(), Failure> {
     assert_eq!(rt; load_from(&mut disk, 16, &mut into), Ok(()));
     assert_eq!(rt; into, [0, 0]);
     assert_eq!(rt; sync_of(&mut disk), Ok(()));
+    Ok(())
+}
+
+#[test]
+fn a_run_ends_at_the_block_that_fails(rt: HostRuntime) -> Result<(), Failure> {
+    let mut disk = MemDisk::new(rt.alloc(), 1, 2, 256, 5)?;
+    let mut into = [0u8; 6];
+    assert_eq!(rt; store_run_to(&mut disk, 17, 3, &[1, 2, 3, 4, 5, 6]), Ok(()));
+    assert_eq!(rt; load_run_from(&mut disk, 17, 3, &mut into), Ok(()));
+    assert_eq!(rt; into, [1, 2, 3, 4, 5, 6]);
+    assert_eq!(rt;
+        store_run_to(&mut disk, 18, 3, &[7; 6]),
+        Err(FailedAt { done: 2 })
+    );
+    assert_eq!(rt; load_run_from(&mut disk, 17, 3, &mut into), Ok(()));
+    assert_eq!(rt; into, [1, 2, 7, 7, 7, 7]);
+    assert_eq!(rt; load_run_from(&mut disk, 18, 3, &mut into), Ok(()));
+    assert_eq!(rt; into, [7, 7, 7, 7, 0, 0]);
+    plan_of(&mut disk, Fail::Load);
+    assert_eq!(rt;
+        load_run_from(&mut disk, 16, 3, &mut into),
+        Err(FailedAt { done: 0 })
+    );
     Ok(())
 }
 

@@ -7,5 +7,6 @@ pub mod graph;
 pub mod group;
 pub mod limits;
 pub mod part;
+pub mod runs;
 pub mod stripe;
 pub mod tracker;

@@ -6,3 +6,5 @@ pub mod Made
 pub mod Rows
 pub mod NextSync
 pub mod Wanted
+mod WholeReads
+mod WholeWrites

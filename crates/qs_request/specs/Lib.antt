@@ -5,3 +5,4 @@ pub mod Value
 pub mod Kept
 pub mod Inside
 pub mod Operations
+pub mod WholeRuns

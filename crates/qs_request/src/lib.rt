@@ -10,11 +10,14 @@ mod moves;
 mod pads;
 mod replies;
 pub mod req;
+pub mod run_laws;
 pub mod shape;
 mod stage;
 mod stripes;
 pub mod todo;
+mod whole_run;
 
 pub use req::Req;
 pub use shape::{Blocks, Shape};
 pub use todo::{PartReply, Todo};
+pub use whole_run::WholeRun;

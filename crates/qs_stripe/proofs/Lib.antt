@@ -1,3 +1,5 @@
 mod Cleaned
 mod HoldLists
 mod HeldThrough
+mod RunChains
+mod RunSingles

@@ -1,6 +1,6 @@
 -- The blocks that requests hold: each place of a request has two places for holds, one for each end
 -- of its span.
-use Rattle.std.specs.Prelude.{◌≡◌, ◌≢◌, ℕ, ◌≤◌, ◌⊎◌, ◌==◌, if◌then◌else◌, List, Option, Some, None, slice_index_or}
+use Rattle.std.specs.Prelude.{◌≡◌, ◌≢◌, ℕ, ◌+◌, ◌<◌, ◌≤◌, ◌⊎◌, ◌==◌, if◌then◌else◌, List, Option, Some, None, slice_index_or}
 use Rattle.qs_part.specs.declared.stripe.Side.{Side}
 use Rattle.qs_part.specs.declared.stripe.Side.TheVariants.{Head, Tail}
 use Rattle.qs_stripe.specs.declared.holds.Ends.{Ends}
@@ -58,3 +58,10 @@ pub record Takes (k : ℕ) (side : Side) (b : ℕ) (old new : ℕ → Side → O
 pub record LetsGo (k b : ℕ) (old new : ℕ → Side → Option ℕ) : Type 0 where
   pub gone : (side : Side) → old k side ≡ Some b → new k side ≡ None
   pub others : (j : ℕ) (side : Side) → (j ≢ k) ⊎ (old j side ≢ Some b) → new j side ≡ old j side
+
+-- of n blocks from block b on, place j, which isn't k, holds the one behind m others, which are free for k
+pub record IsFirstHeld (hold : ℕ → Side → Option ℕ) (k b n m j : ℕ) : Type 0 where
+  pub within : m < n
+  pub before : (i : ℕ) → i < m → IsFreeFor hold k (b + i)
+  pub here : IsHeld hold j (b + m)
+  pub other : j ≢ k

@@ -1,3 +1,4 @@
 pub mod Holds
 pub mod Table
 pub mod History
+pub mod Runs

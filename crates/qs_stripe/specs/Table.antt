@@ -1,14 +1,15 @@
 -- The operations of a stripe: which answer may come, and what it leaves.
-use Rattle.std.specs.Prelude.{◌≡◌, ◌≢◌, ℕ, ◌+◌, ◌*◌, ◌≤◌, Bool, true, false, List, [], ◌∷◌, length, Option, Some, None, IsTrue, Contains}
+use Rattle.std.specs.Prelude.{◌≡◌, ◌≢◌, ℕ, ◌+◌, ◌*◌, ◌≤◌, Bool, true, false, List, [], ◌∷◌, length, Option, Some, None, IsTrue}
 use Rattle.qs_part.specs.declared.stripe.Side.{Side}
 use Rattle.qs_part.specs.declared.stripe.StripeOp.{StripeOp}
 use Rattle.qs_part.specs.declared.stripe.StripeOp.TheVariants.{Load, Hold, Store, Free, Sync}
 use Rattle.qs_part.specs.declared.stripe.StripeReply.{StripeReply}
 use Rattle.qs_part.specs.declared.stripe.StripeReply.TheVariants.{Filled, Fault, HeldBy, Taken, Done, Freed, NotHeld, Clean, Synced}
 use Rattle.qs_outside.specs.Faults.{Rose}
-use Rattle.qs_outside.specs.Blocks.{Seen, Fixed, Same, Stored, StoredOrNot, MayLeave, load_spent, store_spent, sync_spent}
+use Rattle.qs_outside.specs.Blocks.{Seen, Fixed, Same, sync_spent}
 use Rattle.qs_bytes.specs.Geometry.{stripe_of}
-use Rattle.qs_outside.specs.Rigged.{AsPlanned, MayLoad, MayStore, MaySync}
+use Rattle.qs_outside.specs.Rigged.{MaySync}
+pub use Rattle.qs_outside.specs.Runs.{Reads, IsContent, Refuses, Writes, IsStored, MayBeStored}
 use Rattle.qs_stripe.specs.declared.geometry.Geometry.{Geometry}
 use Rattle.qs_stripe.specs.declared.holds.Ends.{Ends}
 use Rattle.qs_stripe.specs.Holds.{holds_of, IsHeld, IsFree, IsFreeFor, Takes, LetsGo}
@@ -56,49 +57,6 @@ Fits g (Hold b k end buf) = IsWhole g b buf
 Fits g (Store b k buf) = IsWhole g b buf
 Fits g (Free b k) = IsBlockOf g b
 Fits g Sync = Unit {0}
-
--- the disk was read: nothing but its count of faults and the plan of a load changes
-pub record Reads (old new : Seen) : Type 0 where
-  pub fixed : Fixed old new
-  pub now : IsTrue old.tells → Same old.now new.now
-  pub past : IsTrue old.tells → Same old.past new.past
-  pub planned : new.planned ≡ load_spent old.planned
-  pub full : new.full ≡ old.full
-  pub later : old.faults ≤ new.faults
-
--- the bytes that the disk has in a block, where it tells them; no load was planned to fail, and none failed
-pub record IsContent (old new : Seen) (b : ℕ) (bytes : List ℕ) : Type 0 where
-  pub whole : length bytes ≡ old.align
-  pub now : IsTrue old.tells → bytes ≡ old.now b
-  pub works : MayLoad old
-  pub kept : new.faults ≡ old.faults
-
--- the disk refused to read, and the buffer comes back
-pub record Refuses (old new : Seen) (back : List ℕ) : Type 0 where
-  pub whole : length back ≡ old.align
-  pub rose : Rose old.faults new.faults
-
--- A block was written, or the disk refused. A crash leaves a content from before, or these bytes;
--- it may leave what the block holds now, if that was so before.
-pub record Writes (b : ℕ) (bytes : List ℕ) (old new : Seen) : Type 0 where
-  pub fixed : Fixed old new
-  pub past : IsTrue old.tells → MayLeave b bytes old.past new.past
-  pub past_now : IsTrue old.tells → Contains (old.past b) (old.now b) → Contains (new.past b) (new.now b)
-  pub planned : new.planned ≡ store_spent old.planned
-  pub later : old.faults ≤ new.faults
-
--- it was written; no store was planned to fail, and none failed
-pub record IsStored (b : ℕ) (bytes : List ℕ) (old new : Seen) : Type 0 where
-  pub now : IsTrue old.tells → Stored b bytes old.now new.now
-  pub works : MayStore old
-  pub kept : new.faults ≡ old.faults
-
--- The disk refused: its count of faults rose, and the block has the old content or the new. Where that was
--- planned, and the disk isn't full, it has what the plan says.
-pub record MayBeStored (b : ℕ) (bytes : List ℕ) (old new : Seen) : Type 0 where
-  pub now : IsTrue old.tells → StoredOrNot b bytes old.now new.now
-  pub as_planned : AsPlanned b bytes old new
-  pub rose : Rose old.faults new.faults
 
 -- The disk was synced, or refused: each block stays. Nothing but its count of faults and the plan of a sync changes where it
 -- refused.

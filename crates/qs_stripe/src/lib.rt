@@ -5,4 +5,6 @@
 pub mod geometry;
 pub mod holds;
 pub mod laws;
+mod run_holds;
+pub mod run_laws;
 pub mod stripe;

@@ -2,6 +2,7 @@ ghost use Rattle.std.specs.Prelude.{◌≡◌, length, MatchResult};
 ghost use Rattle.qs_outside.specs.Blocks.{IsBlock};
 ghost use Rattle.qs_outside.specs.Crashes.{Crashes};
 ghost use Rattle.qs_outside.specs.Rigged.{planned_too, plans_of};
+ghost use Rattle.qs_stripe.specs.Runs.{FitsCall, call_answers};
 ghost use Rattle.qs_stripe.specs.Table.{Fits, IsContent, IsSettled, IsStored, IsUnsettled, IsWhole, MayBeStored, Opened, Reads, Refuses, Syncs, Writes, answers, geometry, value_of};
 
 use crate::geometry::Geometry;
@@ -9,6 +10,7 @@ use crate::holds::Holds;
 use qs_bytes::Bytes;
 use qs_outside::{CrashChoice, Disk, Fail, Failed, RiggedDisk};
 use qs_part::part::Part;
+use qs_part::runs::{StripeAnswer, StripeCall};
 use qs_part::stripe::{Side, StripeOp, StripeReply};
 use std::alloc::Global;
 use std::marker::Model;
@@ -168,6 +170,21 @@ impl<D: Disk + Drop> Stripe<D> {
             Err(Failed) => StripeReply::Fault(None),
         }
     }
+
+    /// Does a single operation and answers it.
+    pub fn one(&mut self, op: StripeOp) -> StripeReply
+        requires { Fits (geometry (value_of D.seen self.old)) op }
+        ensures row { answers (value_of D.seen self.old) op result (value_of D.seen self.new) }
+        ensures same { geometry (value_of D.seen self.new) ≡ geometry (value_of D.seen self.old) }
+    {
+        match op {
+            StripeOp::Load { b, k, buf } => self.load(b, k, buf),
+            StripeOp::Hold { b, k, end, buf } => self.hold(b, k, end, buf),
+            StripeOp::Store { b, k, buf } => self.store(b, k, buf),
+            StripeOp::Free { b, k } => self.free(b, k),
+            StripeOp::Sync => self.sync(),
+        }
+    }
 }
 
 impl<D: RiggedDisk + Drop> Stripe<D> {
@@ -197,15 +214,15 @@ impl<D: RiggedDisk + Drop> Stripe<D> {
 impl<D: Disk + Drop> Part for Stripe<D> {
     type Fixed = Geometry;
 
-    type Op = StripeOp;
+    type Op = StripeCall;
 
-    type Reply = StripeReply;
+    type Reply = StripeAnswer;
 
     ghost fixed_of = { λ s. geometry (value_of D.seen s) };
 
-    ghost can = { Fits };
+    ghost can = { FitsCall };
 
-    ghost legal = { λ old op reply new. answers (value_of D.seen old) op reply (value_of D.seen new) };
+    ghost legal = { λ old call answer new. call_answers (value_of D.seen old) call answer (value_of D.seen new) };
 
     fn fixed(&self) -> Geometry {
         Geometry {
@@ -215,20 +232,18 @@ impl<D: Disk + Drop> Part for Stripe<D> {
         }
     }
 
-    fn fits(fixed: &Geometry, op: &StripeOp) -> bool {
-        fixed.fits(op)
+    fn fits(fixed: &Geometry, call: &StripeCall) -> bool {
+        fixed.fits_call(call)
     }
 
-    fn step(&mut self, op: StripeOp) -> StripeReply {
-        match op {
-            StripeOp::Load { b, k, buf } => self.load(b, k, buf),
-            StripeOp::Hold { b, k, end, buf } => self.hold(b, k, end, buf),
-            StripeOp::Store { b, k, buf } => self.store(b, k, buf),
-            StripeOp::Free { b, k } => self.free(b, k),
-            StripeOp::Sync => self.sync(),
+    fn step(&mut self, call: StripeCall) -> StripeAnswer {
+        match call {
+            StripeCall::One(op) => StripeAnswer::One(self.one(op)),
+            StripeCall::Run(op) => StripeAnswer::Run(self.run(op)),
         }
     }
 }
 
+mod runs;
 #[cfg(test)]
 mod tests;

@@ -61,7 +61,7 @@ impl<D: Disk + Drop> Core<D> {
             }
             Todo::Stripe(stripe, op) => {
                 let (kind, place) = stripe_kind(stripe, &op);
-                let reply = self.stripes[usize::from(stripe)].step(op);
+                let reply = self.stripes[usize::from(stripe)].one(op);
                 let note = stripe_note(kind, place, &reply);
                 follow(&mut self.requests, at, PartReply::Stripe(reply), note)
             }

@@ -1,5 +1,6 @@
 use super::*;
 use qs_outside::{CrashChoice, MemDisk, Picks};
+use qs_part::runs::{RunOp, RunReply};
 use std::alloc::AllocError;
 use std::process::Abort;
 use std::test::Fail as Failure;
@@ -12,6 +13,9 @@ enum Ask {
     Store(u64, u8, u8),
     Free(u64, u8),
     Sync,
+    /// A run of so many blocks behind a byte of the buffer.
+    LoadRun(u64, u8, u8),
+    StoreRun(u64, u8, u8, u8),
     Plan(Fail),
     Crash(u64),
 }
@@ -28,6 +32,9 @@ enum Told {
     NotHeld,
     Clean,
     Synced,
+    /// So many blocks were done before the fault, or before one that this place holds.
+    FaultAt(u8),
+    HeldAt(u8, u8),
     Planned,
     Crashed,
 }
@@ -50,6 +57,30 @@ fn told_of(reply: StripeReply) -> Told {
         StripeReply::NotHeld => Told::NotHeld,
         StripeReply::Clean => Told::Clean,
         StripeReply::Synced => Told::Synced,
+    }
+}
+
+/// A buffer of one byte and a run of `n` blocks.
+fn run_buffer(alloc: Global, n: u8, byte: u8) -> Result<Bytes, AllocError> {
+    Ok(Bytes::of(vec![in alloc; byte; 1 + 2 * usize::from(n)]?))
+}
+
+fn told_of_run(reply: RunReply) -> Told {
+    match reply {
+        RunReply::Filled(got) => match got.as_slice().last() {
+            Some(byte) => Told::Filled(*byte),
+            None => Told::Fault,
+        },
+        RunReply::Done(_) => Told::Done,
+        RunReply::Fault(done, _) => Told::FaultAt(done),
+        RunReply::HeldBy(done, j, _) => Told::HeldAt(done, j),
+    }
+}
+
+fn told_of_call(answer: StripeAnswer) -> Told {
+    match answer {
+        StripeAnswer::One(reply) => told_of(reply),
+        StripeAnswer::Run(reply) => told_of_run(reply),
     }
 }
 
@@ -84,6 +115,28 @@ fn answer(
         },
         Ask::Free(b, k) => StripeOp::Free { b, k },
         Ask::Sync => StripeOp::Sync,
+        Ask::LoadRun(b, k, n) => {
+            let buf = run_buffer(alloc, n, 0)?;
+            let run = RunOp::Load {
+                b,
+                k,
+                n,
+                at: 1,
+                buf,
+            };
+            return Ok(told_of_call(step_of(rt, stripe, StripeCall::Run(run))));
+        }
+        Ask::StoreRun(b, k, n, byte) => {
+            let buf = run_buffer(alloc, n, byte)?;
+            let run = RunOp::Store {
+                b,
+                k,
+                n,
+                at: 1,
+                buf,
+            };
+            return Ok(told_of_call(step_of(rt, stripe, StripeCall::Run(run))));
+        }
         Ask::Plan(fail) => {
             stripe.plan(fail);
             return Ok(Told::Planned);
@@ -94,7 +147,7 @@ fn answer(
             return Ok(Told::Crashed);
         }
     };
-    Ok(told_of(step_of(rt, stripe, op)))
+    Ok(told_of_call(step_of(rt, stripe, StripeCall::One(op))))
 }
 
 fn run(
@@ -214,6 +267,70 @@ fn a_crash_frees_what_is_held_and_leaves_what_is_chosen(rt: HostRuntime) -> Resu
         (Ask::Load(4, 0), Told::Filled(8)),
     ];
     run(&rt, rt.alloc(), &mut stripe, &script)?;
+    Ok(())
+}
+
+#[test]
+fn a_run_stops_at_a_foreign_hold_and_at_a_fault(rt: HostRuntime) -> Result<(), Failure> {
+    let disk = MemDisk::new(rt.alloc(), 0, 2, 256, 8)?;
+    let Ok(mut stripe) = Stripe::new(rt.alloc(), disk) else {
+        return Err(Failure::new("no memory"));
+    };
+    let script = [
+        (Ask::Hold(3, 1, Side::Head), Told::Filled(0)),
+        (Ask::StoreRun(3, 2, 2, 9), Told::HeldAt(0, 1)),
+        (Ask::Sync, Told::Clean),
+        (Ask::StoreRun(1, 2, 3, 9), Told::HeldAt(2, 1)),
+        (Ask::LoadRun(1, 2, 2), Told::Filled(9)),
+        (Ask::LoadRun(1, 2, 3), Told::Filled(0)),
+        (Ask::StoreRun(2, 1, 2, 7), Told::Done),
+        (Ask::Free(3, 1), Told::NotHeld),
+        (Ask::LoadRun(0, 2, 4), Told::Filled(7)),
+        (Ask::Plan(Fail::Load), Told::Planned),
+        (Ask::LoadRun(0, 2, 4), Told::FaultAt(0)),
+        (Ask::Hold(5, 1, Side::Tail), Told::Filled(0)),
+        (Ask::StoreRun(4, 1, 6, 8), Told::FaultAt(4)),
+        (Ask::Free(5, 1), Told::NotHeld),
+        (Ask::LoadRun(4, 2, 4), Told::Filled(8)),
+        (Ask::LoadRun(4, 2, 5), Told::Filled(0)),
+        (Ask::Sync, Told::Synced),
+    ];
+    run(&rt, rt.alloc(), &mut stripe, &script)?;
+    Ok(())
+}
+
+#[test]
+fn runs_fit_by_group_and_buffer(rt: HostRuntime) -> Result<(), Failure> {
+    let fixed = Geometry {
+        stripe: 1,
+        align: 2,
+        size: 300,
+    };
+    for (b, n, at, want) in [
+        (16, 16, 1, true),
+        (16, 16, 2, false),
+        (16, 17, 0, false),
+        (31, 1, 0, true),
+        (31, 2, 0, false),
+        (16, 0, 0, false),
+        (15, 1, 0, false),
+        (144, 6, 0, true),
+        (144, 7, 0, false),
+        (u64::MAX, 1, 0, false),
+        (16, 1, u64::MAX, false),
+    ] {
+        let buf = run_buffer(rt.alloc(), 16, 0)?;
+        assert_eq!(rt;
+            fixed.fits_run(&RunOp::Load {
+                b,
+                k: 0,
+                n,
+                at,
+                buf
+            }),
+            want
+        );
+    }
     Ok(())
 }
 

@@ -40,8 +40,8 @@ follow-requires-in-Route-clause-awaits g c = λ l e.
     c.args.self.now.graph c.step-reply-in-Route.new.self (c.requires.sound.size ∙ ap (λ (s : Shape). s.size) (sym idle.shape_is))
     c.in-Route.ensures.wants c.step-reply-in-Route.ensures.legal) e
 
-pub step-reply-requires-in-Stripe : goal.step-reply-requires-in-Stripe
-step-reply-requires-in-Stripe g c =
+pub one-reply-requires : goal.one-reply-requires
+one-reply-requires g c =
     let x : Live = c.index_mut.result.now in
     let at = element c.args.self.now.requests.items c.args.at x c.requires.inside c.index_mut.ensures.value in
     let idle = idle_at (value_of c.args.self.now) c.args.at x c.requires.sound.requests at in
@@ -64,12 +64,12 @@ follow-requires-in-Stripe-clause-awaits g c = λ l e.
     let below : c.from.result < 8 = rw c.from.ensures (stripe_below c.args.self.now.shape c.in-Stripe.stripe c.in-Stripe.op fits) in
     let inside : c.from.result < length c.args.self.now.stripes.items = omega (arith, below, c.requires.sound.count) in
     let here = stripe_here g.D.Disk.seen (value_of c.args.self.now) c.from.result c.index_mut-in-Stripe.result.now inside c.index_mut-in-Stripe.ensures.value in
-    awaits_reply c.args.self.now.requests.items c.args.at x l c.next.new.self (ByStripe c.step-reply-in-Stripe.result) c.requires.inside c.in-Stripe.ensures.gives idle.answered
-    (stripe_may x.request.value.request.client x.request.value.request.pads x.request.value.request.stage x.request.value.shape c.in-Stripe.stripe c.in-Stripe.op c.step-reply-in-Stripe.result
-    (stripe_value g.D.Disk.seen c.index_mut-in-Stripe.result.now) (stripe_value g.D.Disk.seen c.step-reply-in-Stripe.new.self)
+    awaits_reply c.args.self.now.requests.items c.args.at x l c.next.new.self (ByStripe c.one-reply.result) c.requires.inside c.in-Stripe.ensures.gives idle.answered
+    (stripe_may x.request.value.request.client x.request.value.request.pads x.request.value.request.stage x.request.value.shape c.in-Stripe.stripe c.in-Stripe.op c.one-reply.result
+    (stripe_value g.D.Disk.seen c.index_mut-in-Stripe.result.now) (stripe_value g.D.Disk.seen c.one-reply.new.self)
     (sym (ap (λ (s : Geometry). s.align) (ap geometry here)) ∙ ap (λ (s : Geometry). s.align) (c.requires.sound.stripes c.from.result below)
     ∙ ap (λ (s : Shape). s.align) (sym idle.shape_is))
-    c.in-Stripe.ensures.wants c.step-reply-in-Stripe.ensures.legal) e
+    c.in-Stripe.ensures.wants c.one-reply.ensures.row) e
 
 pub returns-in-Tracker : goal.returns-in-Tracker
 returns-in-Tracker g c = λ l e.
@@ -123,21 +123,21 @@ returns-in-Stripe g c = λ l e.
     subst (λ (y : Live). StepsRequest g.D.Disk.seen (value_of c.args.self.now) y.number c.follow-in-Stripe.result
     (record (value_of c.args.self.now) {
       requests = c.follow-in-Stripe.new.requests.items;
-      stripes = slice_set c.args.self.now.stripes.items c.from.result c.step-reply-in-Stripe.new.self;
+      stripes = slice_set c.args.self.now.stripes.items c.from.result c.one-reply.new.self;
     }))
     (one_element c.args.self.now.requests.items c.args.at x l at e)
     (stripe_steps g.D.Disk.seen (value_of c.args.self.now)
     (record (value_of c.args.self.now) {
       requests = c.follow-in-Stripe.new.requests.items;
-      stripes = slice_set c.args.self.now.stripes.items c.from.result c.step-reply-in-Stripe.new.self;
+      stripes = slice_set c.args.self.now.stripes.items c.from.result c.one-reply.new.self;
     })
-    c.args.at x c.from.result c.in-Stripe.op c.step-reply-in-Stripe.result c.index_mut-in-Stripe.result.now c.step-reply-in-Stripe.new.self c.follow-in-Stripe.result
-    c.requires.sound at wants fits below here refl c.step-reply-in-Stripe.ensures.legal c.step-reply-in-Stripe.ensures.same refl refl refl refl refl
-    (follow_tells c.args.self.now.requests.items c.args.at x c.next.new.self (ByStripe c.step-reply-in-Stripe.result)
-    (stripe_note (stripe_kind c.in-Stripe.op) (place_of c.from.result c.in-Stripe.op) c.step-reply-in-Stripe.result)
+    c.args.at x c.from.result c.in-Stripe.op c.one-reply.result c.index_mut-in-Stripe.result.now c.one-reply.new.self c.follow-in-Stripe.result
+    c.requires.sound at wants fits below here refl c.one-reply.ensures.row c.one-reply.ensures.same refl refl refl refl refl
+    (follow_tells c.args.self.now.requests.items c.args.at x c.next.new.self (ByStripe c.one-reply.result)
+    (stripe_note (stripe_kind c.in-Stripe.op) (place_of c.from.result c.in-Stripe.op) c.one-reply.result)
     c.stripe_note-note.result c.follow-in-Stripe.result c.follow-in-Stripe.new.requests.items c.requires.inside c.in-Stripe.ensures.gives
-    (c.stripe_note-note.ensures ∙ ap (λ (k : OpKind). stripe_note k c.stripe_kind-kind.result.1 c.step-reply-in-Stripe.result) c.stripe_kind-kind.ensures.kind
-    ∙ ap (λ (b : ℕ). stripe_note (stripe_kind c.in-Stripe.op) b c.step-reply-in-Stripe.result)
+    (c.stripe_note-note.ensures ∙ ap (λ (k : OpKind). stripe_note k c.stripe_kind-kind.result.1 c.one-reply.result) c.stripe_kind-kind.ensures.kind
+    ∙ ap (λ (b : ℕ). stripe_note (stripe_kind c.in-Stripe.op) b c.one-reply.result)
     (c.stripe_kind-kind.ensures.place ∙ ap (λ (z : ℕ). place_of z c.in-Stripe.op) (sym c.from.ensures))) c.follow-in-Stripe.ensures))
 
 pub returns-in-Answer : goal.returns-in-Answer
