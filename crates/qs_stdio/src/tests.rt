@@ -2,7 +2,9 @@ use crate::plain::{Request, front, plain_service};
 use crate::{StdioWords, run_stdio, serve_stream, stdio_words};
 use qs_bytes::{Bytes, Memory};
 use qs_calls::open_core;
-use qs_outside::{Fail, MemClock, MemDisk, MemSink, MemSource, QuietDisk, RiggedDisk};
+use qs_outside::{
+    CrashChoice, Disk, Fail, MemClock, MemDisk, MemSink, MemSource, Picks, QuietDisk, RiggedDisk,
+};
 use qs_status::{OpenBad, SessionEnd, Status};
 use std::alloc::Global;
 use std::test::Fail as Failure;
@@ -512,6 +514,74 @@ fn each_planned_failure_has_its_answer(rt: HostRuntime) -> Result<(), Failure> {
         let (answered, read) = told(sink.sent());
         assert_eq!(rt; answered, errors);
         assert_eq!(rt; read, bytes.as_slice());
+    }
+    Ok(())
+}
+
+/// WRITEs of blocks 0 and 1, a FLUSH, and two WRITEs of block 0.
+const FLUSHED: [Row; 5] = [
+    (0, 1, 0, 512, 0x11),
+    (0, 1, 512, 512, 0x12),
+    (0, 3, 0, 0, 0),
+    (0, 1, 0, 512, 0x22),
+    (0, 1, 0, 512, 0x33),
+];
+
+/// The disks behind a session of these requests.
+fn disks_behind(alloc: Global, rows: &[Row]) -> Result<Vec<MemDisk>, Memory> {
+    let mut disks = rigged(alloc, None)?;
+    let requests = rows_of(alloc, rows)?;
+    let mut source = MemSource::new(
+        spelled(alloc, requests.as_slice())?,
+        Vec::new(alloc),
+        Vec::new(alloc),
+    );
+    let mut sink = MemSink::new(alloc, 1 << 12, Vec::new(alloc))?;
+    let words = words_of(alloc, GOOD)?;
+    let clock = MemClock::new(0);
+    let _ = run_stdio(
+        alloc,
+        words.as_slice(),
+        &mut source,
+        &mut sink,
+        &mut disks,
+        &clock,
+    );
+    Ok(disks)
+}
+
+/// The first bytes of blocks 0 and 1 behind a crash that leaves this content of each.
+fn left_of(alloc: Global, disk: &mut MemDisk, rest: u64) -> Result<[u8; 2], Memory> {
+    let picks = Picks(Vec::new(alloc));
+    disk.crash(&CrashChoice { rest, picks });
+    let mut block = vec![in alloc; 0; 512]?;
+    let mut bytes = [0, 0];
+    for b in 0..2 {
+        let _ = disk.load(b as u64, block.as_mut_slice());
+        bytes[b] = block[0];
+    }
+    Ok(bytes)
+}
+
+/// How many of the requests are sent, which content a crash leaves of each block, the oldest first, and a
+/// byte of blocks 0 and 1.
+const LEFT: [(usize, u64, [u8; 2]); 8] = [
+    (2, 0, [0, 0]),
+    (2, 1, [0x11, 0x12]),
+    (2, 9, [0x11, 0x12]),
+    (3, 0, [0x11, 0x12]),
+    (5, 0, [0x11, 0x12]),
+    (5, 1, [0x22, 0x12]),
+    (5, 2, [0x33, 0x12]),
+    (5, 9, [0x33, 0x12]),
+];
+
+#[test]
+fn a_crash_leaves_nothing_older_than_a_flush(rt: HostRuntime) -> Result<(), Failure> {
+    let alloc = rt.alloc();
+    for (count, rest, bytes) in LEFT {
+        let mut disks = disks_behind(alloc, &FLUSHED[..count])?;
+        assert_eq!(rt; left_of(alloc, &mut disks[0], rest)?, bytes);
     }
     Ok(())
 }
