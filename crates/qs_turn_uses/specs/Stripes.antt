@@ -2,11 +2,12 @@
 use Rattle.std.specs.Prelude.{◌≡◌, ℕ, [], ◌∷◌, ◌++◌}
 use Rattle.std.specs.declared.snapshot.Snapshot.{Snapshot}
 use Rattle.qs_outside.specs.Journal.{Journal, journal_seen}
-use Rattle.qs_part.specs.declared.stripe.StripeOp.{StripeOp}
-use Rattle.qs_part.specs.declared.stripe.StripeReply.{StripeReply}
+use Rattle.qs_part.specs.declared.runs.StripeAnswer.{StripeAnswer}
+use Rattle.qs_part.specs.declared.runs.StripeCall.{StripeCall}
 use Rattle.qs_part.specs.Histories.{call}
 use Rattle.qs_stripe.specs.declared.geometry.Geometry.{Geometry}
-use Rattle.qs_stripe.specs.Table.{StripeState, StripeValue, value_of, geometry, answers}
+use Rattle.qs_stripe.specs.Runs.{call_answers}
+use Rattle.qs_stripe.specs.Table.{StripeState, StripeValue, value_of, geometry}
 use Rattle.qs_turn.specs.declared.view.View.{View}
 use Rattle.qs_turn.specs.Names.{Name, Known}
 use Rattle.qs_turn.specs.Words.{own, out, is_first, IsPassOf}
@@ -18,12 +19,12 @@ meaning s = value_of journal_seen s
 abbrev pub stripe_fixed : StripeState Journal → Geometry
 stripe_fixed s = geometry (meaning s)
 
-abbrev pub stripe_answers : StripeState Journal → StripeOp → StripeReply → StripeState Journal → Type 0
-stripe_answers s op reply t = answers (meaning s) op reply (meaning t)
+abbrev pub stripe_answers : StripeState Journal → StripeCall → StripeAnswer → StripeState Journal → Type 0
+stripe_answers s op reply t = call_answers (meaning s) op reply (meaning t)
 
 -- two calls in a row were made with a pass, for one request, and nothing else
-pub record MadeTwo (t : Name (Snapshot (StripeState Journal))) (k : Known (View (StripeState Journal) StripeOp StripeReply)) (q : ℕ) (a b : StripeOp) (r s : StripeReply)
-    (n : Known (View (StripeState Journal) StripeOp StripeReply)) : Type 0 where
+pub record MadeTwo (t : Name (Snapshot (StripeState Journal))) (k : Known (View (StripeState Journal) StripeCall StripeAnswer)) (q : ℕ) (a b : StripeCall) (r s : StripeAnswer)
+    (n : Known (View (StripeState Journal) StripeCall StripeAnswer)) : Type 0 where
   pub turn : IsPassOf t n
   pub owns : own n ≡ own k ++ call q a r ∷ call q b s ∷ []
   pub same_first : is_first n ≡ is_first k

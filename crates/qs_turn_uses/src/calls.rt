@@ -5,7 +5,7 @@ ghost use Rattle.qs_turn.specs.Words.{opening, IsPassOf, Calls};
 
 use qs_outside::Disk;
 use qs_part::part::Part;
-use qs_part::stripe::{StripeOp, StripeReply};
+use qs_part::runs::{StripeAnswer, StripeCall};
 use qs_stripe::stripe::Stripe;
 use qs_turn::turn::{Pass, Turn};
 use std::sync::Wait;
@@ -32,13 +32,14 @@ pub fn twice<P: Part, R: Wait>(
 }
 
 /// Makes a call of a stripe, whatever disk it is on.
+#[tactic(none)]
 pub fn on_stripe<D: Disk + Drop, R: Wait>(
     rt: &R,
     turn: &Turn<Stripe<D>>,
     pass: &mut Pass<Stripe<D>>,
     request: u64,
-    op: StripeOp,
-) -> StripeReply
+    op: StripeCall,
+) -> StripeAnswer
     requires turn { IsPassOf turn.now pass.old }
     requires fits { ⟦<Stripe<D> as Part>⟧.can (⟦<Stripe<D> as Part>⟧.fixed_of (opening turn.now)) op }
     ensures turn { IsPassOf turn.now pass.new }

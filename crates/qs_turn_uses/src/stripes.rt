@@ -2,7 +2,7 @@
 ghost use Rattle.std.specs.Prelude.{◌≡◌, ◌↔◌, ◌+◌, ◌++◌, true, false, [], ◌∷◌, IfOk, IsTrue, List};
 ghost use Rattle.qs_part.specs.Histories.{call, lawful, StandsFor};
 ghost use Rattle.qs_stripe.specs.History.{HeldIn};
-ghost use Rattle.qs_stripe.specs.Table.{Fits};
+ghost use Rattle.qs_stripe.specs.Runs.{FitsCall, all_singles};
 ghost use Rattle.qs_turn.specs.Orders.{Merges};
 ghost use Rattle.qs_turn.specs.Words.{opening, seen, own, out, is_first, IsPassOf};
 ghost use Rattle.qs_turn_uses.specs.Stripes.{stripe_answers, stripe_fixed, MadeTwo};
@@ -10,28 +10,28 @@ ghost use Rattle.qs_turn_uses.specs.Stripes.{stripe_answers, stripe_fixed, MadeT
 use qs_bytes::Memory;
 use qs_outside::MemDisk;
 use qs_part::part::Part;
-use qs_part::stripe::{StripeOp, StripeReply};
+use qs_part::runs::{StripeAnswer, StripeCall};
 use qs_stripe::geometry::Geometry;
-use qs_stripe::laws::held;
+use qs_stripe::run_laws::held_in_runs;
 use qs_stripe::stripe::Stripe;
 use qs_turn::turn::{Pass, Turn};
 use std::alloc::Global;
 use std::sync::Wait;
 use std::thread::{Threads, join};
 
-/// Two operations of a stripe, such as a Hold and a Store.
-pub type TwoOps = (StripeOp, StripeOp);
+/// Two calls of a stripe, such as a Hold and a run of stores.
+pub type TwoOps = (StripeCall, StripeCall);
 
-/// The replies to two operations.
-pub type TwoReplies = (StripeReply, StripeReply);
+/// The answers to two calls.
+pub type TwoReplies = (StripeAnswer, StripeAnswer);
 
-/// Whether the stripe takes both operations.
+/// Whether the stripe takes both calls.
 pub fn both_fit(stripe: &Stripe<MemDisk>, ops: &TwoOps) -> bool
-    ensures { IsTrue result ↔ (Fits (stripe_fixed stripe.now) ops.now.0 × Fits (stripe_fixed stripe.now) ops.now.1) }
+    ensures { IsTrue result ↔ (FitsCall (stripe_fixed stripe.now) ops.now.0 × FitsCall (stripe_fixed stripe.now) ops.now.1) }
 {
     let fixed = stripe.fixed();
     let (first, second) = ops;
-    fixed.fits(first) && fixed.fits(second)
+    fixed.fits_call(first) && fixed.fits_call(second)
 }
 
 /// Makes two calls in a row for one request, and gives the pass back. Calls of other threads may
@@ -44,8 +44,8 @@ pub fn call_twice<R: Wait>(
     ops: TwoOps,
 ) -> (TwoReplies, Pass<Stripe<MemDisk>>)
     requires turn { IsPassOf turn.now pass }
-    requires first { Fits (stripe_fixed (opening turn.now)) ops.0 }
-    requires second { Fits (stripe_fixed (opening turn.now)) ops.1 }
+    requires first { FitsCall (stripe_fixed (opening turn.now)) ops.0 }
+    requires second { FitsCall (stripe_fixed (opening turn.now)) ops.1 }
     ensures { MadeTwo turn.now pass request ops.0 ops.1 result.0.0 result.0.1 result.1 }
 {
     let (first, second) = ops;
@@ -66,12 +66,12 @@ pub fn two_by_two<R: Threads + Wait + Sync>(
     ours: TwoOps,
     theirs: TwoOps,
 ) -> Result<(Stripe<MemDisk>, TwoReplies, TwoReplies), Memory>
-    requires ours { Fits (stripe_fixed stripe) ours.0 × Fits (stripe_fixed stripe) ours.1 }
-    requires theirs { Fits (stripe_fixed stripe) theirs.0 × Fits (stripe_fixed stripe) theirs.1 }
+    requires ours { FitsCall (stripe_fixed stripe) ours.0 × FitsCall (stripe_fixed stripe) ours.1 }
+    requires theirs { FitsCall (stripe_fixed stripe) theirs.0 × FitsCall (stripe_fixed stripe) theirs.1 }
     ensures { IfOk result (λ r. (cs : List _)
-        × StandsFor (lawful stripe_fixed Fits stripe_answers) stripe cs r.0
+        × StandsFor (lawful stripe_fixed FitsCall stripe_answers) stripe cs r.0
         × Merges (call 1 ours.0 r.1.0 ∷ call 1 ours.1 r.1.1 ∷ []) (call 2 theirs.0 r.2.0 ∷ call 2 theirs.1 r.2.1 ∷ []) cs
-        × HeldIn cs) }
+        × HeldIn (all_singles (stripe_fixed stripe).align cs)) }
 {
     let geometry: Geometry = stripe.fixed();
     let (turn, mut pass) = Turn::new(alloc, stripe)?;
@@ -80,14 +80,14 @@ pub fn two_by_two<R: Threads + Wait + Sync>(
     let ((one, mut pass), (two, other)) = join(
         rt,
         move || -> (TwoReplies, Pass<Stripe<MemDisk>>)
-            requires { IsPassOf shared.now pass × Fits (stripe_fixed (opening shared.now)) ours.0 × Fits (stripe_fixed (opening shared.now)) ours.1 }
+            requires { IsPassOf shared.now pass × FitsCall (stripe_fixed (opening shared.now)) ours.0 × FitsCall (stripe_fixed (opening shared.now)) ours.1 }
             ensures { MadeTwo shared.entry.now pass 1 ours.0 ours.1 result.0.0 result.0.1 result.1 }
         {
             let _geometry = geometry;
             call_twice(rt, shared, pass, 1, ours)
         },
         move || -> (TwoReplies, Pass<Stripe<MemDisk>>)
-            requires { IsPassOf shared.now other × Fits (stripe_fixed (opening shared.now)) theirs.0 × Fits (stripe_fixed (opening shared.now)) theirs.1 }
+            requires { IsPassOf shared.now other × FitsCall (stripe_fixed (opening shared.now)) theirs.0 × FitsCall (stripe_fixed (opening shared.now)) theirs.1 }
             ensures { MadeTwo shared.entry.now other 2 theirs.0 theirs.1 result.0.0 result.0.1 result.1 }
         {
             let _geometry = geometry;
@@ -95,6 +95,6 @@ pub fn two_by_two<R: Threads + Wait + Sync>(
         },
     );
     turn.join(&mut pass, other);
-    held();
+    held_in_runs();
     Ok((turn.close(pass), one, two))
 }

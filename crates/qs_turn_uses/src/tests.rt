@@ -1,10 +1,11 @@
 use crate::calls::{on_stripe, twice};
-use crate::stripes::{TwoOps, both_fit, two_by_two};
+use crate::stripes::{TwoOps, TwoReplies, both_fit, two_by_two};
 use crate::tally::{Tally, count_by_four};
 use crate::threads::both;
 use qs_bytes::Bytes;
 use qs_outside::MemDisk;
 use qs_part::part::Part;
+use qs_part::runs::{RunOp, RunReply, StripeAnswer, StripeCall};
 use qs_part::stripe::{Side, StripeOp, StripeReply};
 use qs_part::tracker::{TrackerOp, TrackerReply};
 use qs_stripe::stripe::Stripe;
@@ -78,16 +79,19 @@ fn calls_in_a_row_are_answered_in_order(rt: HostRuntime) -> Result<(), Fail> {
 #[test]
 fn stripe_on_a_disk_in_memory_is_called(rt: HostRuntime) -> Result<(), Fail> {
     let stripe = stripe_in_memory(rt.alloc())?;
-    let op = StripeOp::Free { b: 0, k: 3 };
+    let op = StripeCall::One(StripeOp::Free { b: 0, k: 3 });
     let fixed = stripe.fixed();
     assert!(rt; <Stripe<MemDisk> as Part>::fits(&fixed, &op));
     let (turn, mut pass) = Turn::new(rt.alloc(), stripe)?;
     let reply = on_stripe(&rt, &turn, &mut pass, 1, op);
-    assert!(rt; matches!(reply, StripeReply::NotHeld), "{reply:?}");
+    assert!(rt;
+        matches!(reply, StripeAnswer::One(StripeReply::NotHeld)),
+        "{reply:?}"
+    );
     Ok(())
 }
 
-/// A Hold and a Store of a block of 2 bytes by the place `k`, at the head.
+/// A Hold of a block of 2 bytes by the place `k`, at the head, and a run that stores it.
 fn hold_and_store(alloc: Global, b: u64, k: u8, byte: u8) -> Result<TwoOps, AllocError> {
     let hold = StripeOp::Hold {
         b,
@@ -96,7 +100,20 @@ fn hold_and_store(alloc: Global, b: u64, k: u8, byte: u8) -> Result<TwoOps, Allo
         buf: block(alloc, 9)?,
     };
     let buf = block(alloc, byte)?;
-    Ok((hold, StripeOp::Store { b, k, buf }))
+    let store = RunOp::Store {
+        b,
+        k,
+        n: 1,
+        at: 0,
+        buf,
+    };
+    Ok((StripeCall::One(hold), StripeCall::Run(store)))
+}
+
+fn is_held_and_stored(answers: &TwoReplies) -> bool {
+    let (held, stored) = answers;
+    let held = matches!(held, StripeAnswer::One(StripeReply::Filled(_)));
+    held && matches!(stored, StripeAnswer::Run(RunReply::Done(_)))
 }
 
 /// Two threads hold and store blocks of their own.
@@ -108,18 +125,12 @@ fn two_blocks_are_stored_by_two_threads(rt: HostRuntime) -> Result<(), Fail> {
     assert!(rt; both_fit(&stripe, &ours));
     assert!(rt; both_fit(&stripe, &theirs));
     let (mut stripe, one, two) = two_by_two(&rt, rt.alloc(), stripe, ours, theirs)?;
-    assert!(rt;
-        matches!(&one, (StripeReply::Filled(_), StripeReply::Done(_))),
-        "{one:?}"
-    );
-    assert!(rt;
-        matches!(&two, (StripeReply::Filled(_), StripeReply::Done(_))),
-        "{two:?}"
-    );
+    assert!(rt; is_held_and_stored(&one), "{one:?}");
+    assert!(rt; is_held_and_stored(&two), "{two:?}");
     let buf = block(rt.alloc(), 9)?;
     let load = StripeOp::Load { b: 1, k: 0, buf };
     assert!(rt; stripe.fixed().fits(&load));
-    let reply = stripe.step(load);
+    let reply = stripe.one(load);
     assert!(rt;
         matches!(&reply, StripeReply::Filled(got) if got.as_slice() == [2, 2].as_slice()),
         "{reply:?}"
