@@ -7,6 +7,7 @@ use qs_outside::QuietDisk;
 use qs_part::group::{Dir, GroupOp, GroupReply};
 use qs_part::limits::{GREATEST, Limit, Limits};
 use qs_part::part::Part;
+use qs_part::runs::{StripeAnswer, StripeCall};
 use qs_part::stripe::{StripeOp, StripeReply};
 use qs_part::tracker::{TrackerOp, TrackerReply};
 use qs_stripe::stripe::Stripe;
@@ -137,9 +138,9 @@ fn stripe_round(stripe: &mut Stripe<QuietDisk>, work: Work, b: u64, buf: Bytes) 
         Work::Store => StripeOp::Store { b, k: 0, buf },
         _ => StripeOp::Load { b, k: 0, buf },
     };
-    match step(stripe, op) {
-        Some(StripeReply::Filled(back)) => Some(back),
-        Some(StripeReply::Done(back)) => Some(back),
+    match step(stripe, StripeCall::One(op)) {
+        Some(StripeAnswer::One(StripeReply::Filled(back))) => Some(back),
+        Some(StripeAnswer::One(StripeReply::Done(back))) => Some(back),
         _ => None,
     }
 }
