@@ -232,10 +232,10 @@ fn a_crash_leaves_the_chosen_contents(rt: HostRuntime) -> Result<(), Failure> {
         plan_of(&mut disk, Fail::Load);
         let picks = Picks(pairs.to_vec(rt.alloc())?);
         crash_of(&mut disk, &CrashChoice { rest, picks });
-        for (b, want) in [(3, third), (4, fourth), (5, 0)] {
-            assert_eq!(rt; load_from(&mut disk, b, &mut into), Ok(()));
-            assert_eq!(rt; into, [want, want]);
-        }
+        assert_eq!(rt; load_from(&mut disk, 3, &mut into), Ok(()));
+        assert_eq!(rt; into, [third, third]);
+        assert_eq!(rt; load_from(&mut disk, 4, &mut into), Ok(()));
+        assert_eq!(rt; into, [fourth, fourth]);
         let choice = CrashChoice {
             rest: 9,
             picks: Picks(none.to_vec(rt.alloc())?),
