@@ -89,7 +89,7 @@ module _ (A : ℕ) (q : Req) (run : WholeRun) (buf : List ℕ) (some : 0 < A) (i
   load-next i t below test =
       ap (λ (s : Step). record q { stage = In run.k s })
       (loaded-as A q.client (run.b + i) (take (run.at + i * A) buf) (block_of A run buf i) t test (block-piece i below)
-       ∙ ap (λ xs. cond t (ToEnd (Got xs)) (ToLoad (run.b + i + 1) xs)) (front-more i))
+      ∙ ap (λ xs. cond t (ToEnd (Got xs)) (ToLoad (run.b + i + 1) xs)) (front-more i))
 
   first-block : q ≡ at_block 0
   first-block =
@@ -147,9 +147,9 @@ module _ (A : ℕ) (q : Req) (run : WholeRun) (buf : List ℕ) (some : 0 < A) (i
       go : (n : ℕ) → n ≡ run.n → 1 ≤ n → behind_loads A run buf q n ≡ record q { stage = In run.k (next_read A q.client run buf) }
       go zero e least = absurd (omega (arith, least))
       go (suc m) e least = elim (eqb_tells ((run.b + run.n) * A) (span_of q.client).hi) [
-          | inl same ↦ all-loads m true e same.0 (λ _. same.1) (λ f. absurd (true≢false f))
-          | inr other ↦ all-loads m false e other.0 (λ f. absurd (true≢false (sym f))) (λ _. other.1)
-        ]
+        | inl same ↦ all-loads m true e same.0 (λ _. same.1) (λ f. absurd (true≢false f))
+        | inr other ↦ all-loads m false e other.0 (λ f. absurd (true≢false (sym f))) (λ _. other.1)
+      ]
 
   -- a load that the disk refuses ends the READ
   pub loads-fail : (m : ℕ) → m < run.n → (back : List ℕ)

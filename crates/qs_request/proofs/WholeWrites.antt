@@ -27,7 +27,7 @@ whole-merged A c p run i is below x small =
     get_or-take A (drop (run.at + i * A) c.body) x 0 small ∙ get_or-drop (run.at + i * A) c.body x 0
     ∙ sym (ap (λ n. get_or c.body n 0) at)
     ∙ sym (ap (λ t. cond t (body_at c y) (get_or (pad p (cond (run.b + i == edge A c Head) Head Tail)) x 0))
-        (covered c y (omega (arith, is.place)) (omega (arith, small, ends, is.inside))))
+    (covered c y (omega (arith, is.place)) (omega (arith, small, ends, is.inside))))
 
 stored-more : (A : ℕ) (c : Client) (b : ℕ) → (b == edge A c Tail) ≡ false → stored A c b ≡ ToStore (b + 1)
 unfolding stored
