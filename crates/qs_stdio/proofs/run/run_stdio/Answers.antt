@@ -19,4 +19,5 @@ returns-in-Some-clause-complete g c = λ stream left valid told command image re
     (λ e. read (read_rose c.serve_disks.result _ _ _ _ rises e)) (λ e. write (write_rose c.serve_disks.result _ _ _ _ rises e))
 
 pub returns-in-None-clause-complete : goal.returns-in-None-clause-complete
-returns-in-None-clause-complete g c = λ stream left valid told command image read write. none-some told (sym (sym c.stdio_words.ensures ∙ c.in-None.is) ∙ command)
+returns-in-None-clause-complete g c = λ stream left valid told command image read write.
+    absurd (none-some told (sym (sym c.stdio_words.ensures ∙ c.in-None.is) ∙ command))
