@@ -3,7 +3,7 @@ use crate::{StdioWords, run_stdio, serve_stream, stdio_words};
 use qs_bytes::{Bytes, Memory};
 use qs_calls::open_core;
 use qs_outside::{
-    CrashChoice, Disk, Fail, MemClock, MemDisk, MemSink, MemSource, Picks, QuietDisk, RiggedDisk,
+    CrashChoice, Fail, MemClock, MemDisk, MemSink, MemSource, Picks, QuietDisk, RiggedDisk,
 };
 use qs_status::{OpenBad, SessionEnd, Status};
 use std::alloc::Global;
@@ -527,15 +527,16 @@ const FLUSHED: [Row; 5] = [
     (0, 1, 0, 512, 0x33),
 ];
 
-/// The disks behind a session of these requests.
-fn disks_behind(alloc: Global, rows: &[Row]) -> Result<Vec<MemDisk>, Memory> {
-    let mut disks = rigged(alloc, None)?;
+/// The first rows of a stream, as many as it has.
+fn front_rows(rows: &[Row], count: usize) -> &[Row] {
+    &rows[..count.min(rows.len())]
+}
+
+/// What a session of these requests over the disks was answered.
+fn session_over(alloc: Global, disks: &mut Vec<MemDisk>, rows: &[Row]) -> Result<Vec<u8>, Memory> {
     let requests = rows_of(alloc, rows)?;
-    let mut source = MemSource::new(
-        spelled(alloc, requests.as_slice())?,
-        Vec::new(alloc),
-        Vec::new(alloc),
-    );
+    let input = spelled(alloc, requests.as_slice())?;
+    let mut source = MemSource::new(input, Vec::new(alloc), Vec::new(alloc));
     let mut sink = MemSink::new(alloc, 1 << 12, Vec::new(alloc))?;
     let words = words_of(alloc, GOOD)?;
     let clock = MemClock::new(0);
@@ -544,23 +545,27 @@ fn disks_behind(alloc: Global, rows: &[Row]) -> Result<Vec<MemDisk>, Memory> {
         words.as_slice(),
         &mut source,
         &mut sink,
-        &mut disks,
+        disks,
         &clock,
     );
-    Ok(disks)
+    Ok(Vec::from_slice(alloc, sink.sent())?)
 }
 
-/// The first bytes of blocks 0 and 1 behind a crash that leaves this content of each.
-fn left_of(alloc: Global, disk: &mut MemDisk, rest: u64) -> Result<[u8; 2], Memory> {
-    let picks = Picks(Vec::new(alloc));
-    disk.crash(&CrashChoice { rest, picks });
-    let mut block = vec![in alloc; 0; 512]?;
-    let mut bytes = [0, 0];
-    for b in 0..2 {
-        let _ = disk.load(b as u64, block.as_mut_slice());
-        bytes[b] = block[0];
+/// A crash of each disk leaves this content of each of its blocks, counted from the oldest.
+fn crash_all(alloc: Global, disks: &mut [MemDisk], rest: u64) {
+    for disk in disks {
+        let picks = Picks(Vec::new(alloc));
+        disk.crash(&CrashChoice { rest, picks });
     }
-    Ok(bytes)
+}
+
+/// The first bytes of blocks 0 and 1 behind a session and such a crash, as the next session reads them.
+fn left_of(alloc: Global, rows: &[Row], rest: u64) -> Result<[u8; 2], Memory> {
+    let mut disks = rigged(alloc, None)?;
+    let _ = session_over(alloc, &mut disks, rows)?;
+    crash_all(alloc, disks.as_mut_slice(), rest);
+    let sent = session_over(alloc, &mut disks, &[(0, 0, 0, 1024, 0)])?;
+    Ok([at(sent.as_slice(), 16), at(sent.as_slice(), 528)])
 }
 
 /// How many of the requests are sent, which content a crash leaves of each block, the oldest first, and a
@@ -580,8 +585,8 @@ const LEFT: [(usize, u64, [u8; 2]); 8] = [
 fn a_crash_leaves_nothing_older_than_a_flush(rt: HostRuntime) -> Result<(), Failure> {
     let alloc = rt.alloc();
     for (count, rest, bytes) in LEFT {
-        let mut disks = disks_behind(alloc, &FLUSHED[..count])?;
-        assert_eq!(rt; left_of(alloc, &mut disks[0], rest)?, bytes);
+        let rows = front_rows(&FLUSHED, count);
+        assert_eq!(rt; left_of(alloc, rows, rest)?, bytes);
     }
     Ok(())
 }
