@@ -9,7 +9,7 @@ ghost use Rattle.qs_request.specs.Inside.{Goes, HasBuffers, IsFree, IsGoing, IsL
 
 use crate::kinds::{brings_bytes, is_flush, is_read};
 use crate::pads::PadBuffer;
-use crate::shape::Shape;
+use crate::shape::{Blocks, Shape};
 use crate::stage::{Ending, Stage, Step};
 use crate::todo::Todo;
 use qs_bytes::{Ask, Bytes, Span, Verdict, stripe_of};
@@ -278,5 +278,24 @@ impl Machine {
             }
             stage => stage,
         };
+    }
+
+    /// The blocks that the request worked in, whatever stands in them. It is over with that.
+    pub fn take_blocks(&mut self) -> Blocks
+        ensures { self.new.answered ≡ true }
+    {
+        self.answered = true;
+        let empty = PadBuffer::empty(self.alloc);
+        let (head, tail) = mem::replace(&mut self.pads, empty).into_buffers();
+        let work = self.lend();
+        Blocks { work, head, tail }
+    }
+
+    /// The body that is left in the request. It is over with that.
+    pub fn take_body(&mut self) -> Bytes
+        ensures { self.new.answered ≡ true }
+    {
+        self.answered = true;
+        mem::replace(&mut self.body, Bytes::of(Vec::new(self.alloc)))
     }
 }

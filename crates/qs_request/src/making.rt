@@ -59,10 +59,7 @@ fn parted(alloc: Global, blocks: Option<Blocks>, align: u32) -> (Bytes, PadBuffe
 {
     match blocks {
         Some(Blocks { work, head, tail }) => (work, PadBuffer::new(head, tail, align as usize)),
-        None => {
-            let pads = PadBuffer::new(none(alloc), none(alloc), 0);
-            (none(alloc), pads)
-        }
+        None => (none(alloc), PadBuffer::empty(alloc)),
     }
 }
 

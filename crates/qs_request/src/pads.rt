@@ -4,6 +4,7 @@ ghost use Rattle.qs_request.specs.Kept.{no_pads};
 
 use qs_bytes::Bytes;
 use qs_part::stripe::Side;
+use std::alloc::Global;
 use std::marker::Model;
 use std::mem;
 
@@ -50,6 +51,15 @@ impl PadBuffer {
         }
     }
 
+    /// No pad, and room for none. It takes no memory.
+    pub fn empty(alloc: Global) -> Self
+        ensures { result ≡ no_pads 0 }
+    {
+        let head = Bytes::of(Vec::new(alloc));
+        let tail = Bytes::of(Vec::new(alloc));
+        PadBuffer::new(head, tail, 0)
+    }
+
     /// Keeps a block as the pad of this end, and gives another buffer of its length for it.
     pub fn keep(&mut self, side: Side, block: &mut Bytes)
         requires { length block.old ≡ self.old.align }
@@ -77,5 +87,13 @@ impl PadBuffer {
             Side::Tail if self.has_tail => self.tail.as_slice(),
             _ => &[],
         }
+    }
+
+    /// The two buffers, whatever stands in them.
+    pub fn into_buffers(self) -> (Bytes, Bytes)
+        ensures head { length result.0 ≡ self.align }
+        ensures tail { length result.1 ≡ self.align }
+    {
+        (self.head, self.tail)
     }
 }

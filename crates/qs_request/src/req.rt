@@ -150,4 +150,27 @@ impl Req {
     {
         self.machine.abandon();
     }
+
+    /// Gives the blocks of a request that isn't needed any more, where all three have a block's length. It is
+    /// over with that. It takes no memory.
+    pub fn take_blocks(&mut self) -> Option<Blocks>
+        ensures over { self.new.answered ≡ true }
+        ensures room { ForSome result (IsRoom self.old.shape.align) }
+    {
+        let align = self.machine.shape.align;
+        let blocks = self.machine.take_blocks();
+        if blocks.are_of(align) {
+            Some(blocks)
+        } else {
+            None
+        }
+    }
+
+    /// Gives the body that is left in a request that isn't needed any more: a WRITE's bytes, and none of a READ that
+    /// has answered with them. It is over with that. It takes no memory.
+    pub fn take_body(&mut self) -> Bytes
+        ensures { self.new.answered ≡ true }
+    {
+        self.machine.take_body()
+    }
 }

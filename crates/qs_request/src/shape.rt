@@ -1,4 +1,4 @@
-ghost use Rattle.std.specs.Prelude.{◌≡◌, ◌⊎◌, length, IfOk};
+ghost use Rattle.std.specs.Prelude.{◌≡◌, ◌⊎◌, ◌↔◌, length, IfOk, IsTrue};
 ghost use Rattle.qs_request.specs.Shapes.{IsRoom};
 
 use qs_bytes::{Bytes, Memory};
@@ -28,6 +28,14 @@ fn zeros(alloc: Global, count: usize) -> Result<Bytes, Memory>
 }
 
 impl Blocks {
+    /// Whether each of the three has so many bytes.
+    pub fn are_of(&self, align: u32) -> bool
+        ensures { IsTrue result ↔ IsRoom align self.now }
+    {
+        let size = align as usize;
+        self.work.len() == size && self.head.len() == size && self.tail.len() == size
+    }
+
     /// The blocks for requests to an image with blocks of `align` bytes. Its only error is refused
     /// memory.
     pub fn new(alloc: Global, align: u32) -> Result<Blocks, Memory>

@@ -10,6 +10,7 @@ ghost use Rattle.qs_world.specs.Sound.{IsSound};
 
 use crate::inner::Core;
 use crate::live::{Live, find_member};
+use crate::spare::Spare;
 use qs_bytes::{Ask, Bytes, Kind};
 use qs_outside::Disk;
 use qs_part::event::Outcome;
@@ -32,15 +33,19 @@ fn fitting(body: Option<Bytes>, length: u64) -> Option<Bytes>
     }
 }
 
-/// The blocks that a request works in; none where it has no length or doesn't read or store bytes, or
-/// memory is refused.
-fn blocks_for(alloc: Global, ask: &Ask, align: u32) -> Option<Blocks>
+/// The blocks that a request works in, spare ones if there are; none where it has no length or doesn't read or
+/// store bytes, or memory is refused.
+fn blocks_for(alloc: Global, spare: &mut Spare, ask: &Ask, align: u32) -> Option<Blocks>
     requires { (align ≡ 512) ⊎ (align ≡ 4096) }
     ensures { ForSome result (IsRoom align) }
 {
     let works = matches!(ask.kind, Kind::Read | Kind::Write | Kind::Zero);
     if ask.length == 0 || !works {
         return None;
+    }
+    let kept = spare.take_blocks(align);
+    if kept.is_some() {
+        return kept;
     }
     match Blocks::new(alloc, align) {
         Ok(blocks) => Some(blocks),
@@ -84,10 +89,10 @@ impl<D: Disk + Drop> Core<D> {
             Ok(()) => {}
             Err(_) => return Outcome::Memory,
         }
-        let blocks = blocks_for(self.alloc, &ask, self.shape.align);
+        let blocks = blocks_for(self.alloc, &mut self.spare, &ask, self.shape.align);
         let body = fitting(body, ask.length);
         let request = Req::new(self.alloc, session, ask, member.e, body, blocks, self.shape);
-        match Box::new(self.alloc, request) {
+        match self.spare.boxed(self.alloc, request) {
             Ok(request) => self.make(request),
             Err(_) => Outcome::Memory,
         }

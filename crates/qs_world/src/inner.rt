@@ -10,6 +10,7 @@ ghost use Rattle.qs_world.specs.Sound.{IsSound};
 
 use crate::live::{Live, Member, abandon_all, find_member, find_request, follow, has_request};
 use crate::notes::{detach_note, route_note, stripe_kind, stripe_note, tracker_kind, tracker_note};
+use crate::spare::Spare;
 use qs_bytes::{Memory, Name};
 use qs_graph::graph::Graph;
 use qs_outside::Disk;
@@ -32,6 +33,7 @@ pub struct Core<D> {
     pub graph: Graph,
     pub tracker: Tracker,
     pub stripes: Vec<Stripe<D>>,
+    pub spare: Spare,
     pub alloc: Global,
 }
 
@@ -49,6 +51,7 @@ impl<D: Disk + Drop> Core<D> {
                 let reply = self.tracker.step(op);
                 follow(
                     &mut self.requests,
+                    &mut self.spare,
                     at,
                     PartReply::Tracker(reply),
                     tracker_note(kind, reply),
@@ -57,16 +60,29 @@ impl<D: Disk + Drop> Core<D> {
             Todo::Route { e } => {
                 let reply = self.graph.step(GraphOp::Route { e });
                 let note = route_note(&reply);
-                follow(&mut self.requests, at, PartReply::Graph(reply), note)
+                follow(
+                    &mut self.requests,
+                    &mut self.spare,
+                    at,
+                    PartReply::Graph(reply),
+                    note,
+                )
             }
             Todo::Stripe(stripe, op) => {
                 let (kind, place) = stripe_kind(stripe, &op);
                 let reply = self.stripes[usize::from(stripe)].one(op);
                 let note = stripe_note(kind, place, &reply);
-                follow(&mut self.requests, at, PartReply::Stripe(reply), note)
+                follow(
+                    &mut self.requests,
+                    &mut self.spare,
+                    at,
+                    PartReply::Stripe(reply),
+                    note,
+                )
             }
             Todo::Answer(verdict) => {
-                self.requests.remove(at);
+                let live = self.requests.remove(at);
+                self.spare.keep(live.request);
                 Outcome::Answered(verdict, None)
             }
         }

@@ -6,6 +6,7 @@ ghost use Rattle.qs_request.specs.Value.{IsReady};
 ghost use Rattle.qs_request.specs.Table.{FitsPart, Wants};
 ghost use Rattle.qs_world.specs.Follows.{Awaits, Follows, Offers, IsElement, IsFree, abandoned_of, is_of, moved_to, next_of};
 
+use crate::spare::Spare;
 use qs_bytes::Verdict;
 use qs_part::event::{Note, Outcome};
 use qs_request::{PartReply, Req, Todo};
@@ -97,8 +98,14 @@ fn answer(live: &mut Live, reply: PartReply) -> Option<Verdict>
     }
 }
 
-/// Hands a part's reply to the request at an index. Where that answers it, it is taken out.
-pub fn follow(requests: &mut Vec<Live>, at: usize, reply: PartReply, note: Note) -> Outcome
+/// Hands a part's reply to the request at an index. Where that answers it, it is taken out, and its memory kept.
+pub fn follow(
+    requests: &mut Vec<Live>,
+    spare: &mut Spare,
+    at: usize,
+    reply: PartReply,
+    note: Note,
+) -> Outcome
     requires inside { at < length requests.old.items }
     requires awaits { (l : ALive) → IsElement requests.old.items at l → Awaits l reply }
     ensures { (l : ALive) → IsElement requests.old.items at l → Follows l reply note at requests.old.items result requests.new.items }
@@ -106,7 +113,8 @@ pub fn follow(requests: &mut Vec<Live>, at: usize, reply: PartReply, note: Note)
     match answer(&mut requests[at], reply) {
         None => Outcome::Moved(note),
         Some(verdict) => {
-            requests.remove(at);
+            let live = requests.remove(at);
+            spare.keep(live.request);
             Outcome::Answered(verdict, Some(note))
         }
     }

@@ -9,7 +9,8 @@ ghost use Rattle.qs_world.specs.Stands.{Stands};
 use crate::crash::crash_all;
 use crate::disks::{put_away, put_back};
 use crate::inner::Core;
-use qs_bytes::{Memory, Name};
+use crate::spare::Spare;
+use qs_bytes::{Bytes, Memory, Name};
 use qs_graph::graph::Graph;
 use qs_image::open_fault;
 use qs_outside::{CrashChoice, Disk, Fail, RiggedDisk};
@@ -86,6 +87,7 @@ impl<D: Disk + Drop> World<D> {
                     graph,
                     tracker,
                     stripes,
+                    spare: Spare::new(),
                     alloc,
                 };
                 Ok(World { core, spare })
@@ -116,6 +118,14 @@ impl<D: Disk + Drop> World<D> {
         ensures model { (m : Model_) × Stands D.seen self.new m }
     {
         self.core.step(event)
+    }
+
+    /// The bytes that the last answered WRITE brought, and none behind another request, so that the next one can use
+    /// their memory. Nothing else changes.
+    pub fn spare_body(&mut self) -> Option<Bytes>
+        ensures { self.new ≡ self.old }
+    {
+        self.core.spare.take_body()
     }
 
     /// Whether the file node may only be read.
