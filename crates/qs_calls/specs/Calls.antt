@@ -1,5 +1,5 @@
 -- What happened to the core, one call after the other.
-use Rattle.std.specs.Prelude.{◌≡◌, ℕ, Bool, true, List, [], ◌∷◌, Option, Some}
+use Rattle.std.specs.Prelude.{◌≡◌, ℕ, Bool, true, not, List, [], ◌∷◌, Option, Some, codes}
 use Rattle.qs_outside.specs.Blocks.{Seen}
 use Rattle.qs_outside.specs.declared.crash.CrashChoice.{CrashChoice}
 use Rattle.qs_outside.specs.declared.rigged_disk.Fail.{Fail}
@@ -7,6 +7,7 @@ use Rattle.qs_part.specs.declared.event.Event.{Event}
 use Rattle.qs_part.specs.declared.event.Outcome.{Outcome}
 use Rattle.qs_part.specs.declared.graph.GraphOp.{GraphOp}
 use Rattle.qs_part.specs.declared.graph.GraphOp.TheVariants.{ExportAdd}
+use Rattle.qs_graph.specs.Table.{GraphValue}
 use Rattle.qs_model.specs.Acts.{Element, Exported as ExportedStep, Planned as PlannedStep, Crashed as CrashedStep}
 use Rattle.qs_model.specs.Events.{IsEvent, outcome_of}
 use Rattle.qs_world.specs.Crashing.{Crashed, left_at}
@@ -23,12 +24,14 @@ pub data Call : Type 0 where
   PowerFailed : CrashChoice → (left : ℕ → List ℕ) → Call
   ExportMade : GraphOp → (place : ℕ) → Call
 
--- the file node was exported, under one word as id and name
+-- the export `disk` over the file node, which may be written where the file node may
+abbrev pub anew : GraphValue → GraphOp
+anew g = ExportAdd (codes "disk") (codes "disk") g.file (not g.read_only) true
+
+-- that export was made
 pub record MakesExport {D : Type 0} (seen : D → Seen) (w : WorldValue D) (op : GraphOp) (place : ℕ) (w' : WorldValue D) : Type 0 where
-  pub name : List ℕ
-  pub writable : Bool
-  pub exports : Exports seen w name writable w'
-  pub op_is : op ≡ ExportAdd name name w.graph.file writable true
+  pub exports : Exports seen w (codes "disk") (not w.graph.read_only) w'
+  pub op_is : op ≡ anew w.graph
   pub place_is : place ≡ exports.place
 
 -- What a call makes of the core: an event is a step of the model, and a fault of a disk has a raised count.

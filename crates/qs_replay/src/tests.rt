@@ -90,6 +90,96 @@ A.2 started\nB.2 not-yet 2\nA.2 = 0 00\nB.2 = 0\nA left\nA detached\nA attached 
     Ok(())
 }
 
+/// The line `step A.N` so many times.
+fn push_steps(text: &mut Vec<u8>, step: &[u8], count: u32) -> Result<(), Memory> {
+    for _ in 0..count {
+        text.extend_from_slice(step)?;
+    }
+    Ok(())
+}
+
+/// A write, a flush and a write of one block, stopped behind so many of their steps by a crash, and a read of a byte.
+fn stopped(alloc: Global, steps: u32, crash: &[u8]) -> Result<(Status, Vec<u8>), Memory> {
+    let mut text = Vec::from_slice(alloc, b"session A disk\n")?;
+    let mut left = steps;
+    for (asks, step, count) in [
+        (b"write A 1 0 11*512\n".as_slice(), b"step A.1\n".as_slice(), 6),
+        (b"flush A 2\n", b"step A.2\n", 11),
+        (b"write A 3 0 22*512\n", b"step A.3\n", 6),
+    ] {
+        text.extend_from_slice(asks)?;
+        let done = left.min(count);
+        push_steps(&mut text, step, done)?;
+        left -= done;
+    }
+    text.extend_from_slice(crash)?;
+    text.extend_from_slice(b"session A disk\nread A 4 0 1\nrun A.4\n")?;
+    script(alloc, text.as_slice())
+}
+
+#[test]
+fn a_stop_at_each_step_keeps_what_was_flushed(rt: HostRuntime) -> Result<(), Fail> {
+    let (none, first, second) = (
+        b"\nA.4 = 0 00\n".as_slice(),
+        b"\nA.4 = 0 11\n".as_slice(),
+        b"\nA.4 = 0 22\n".as_slice(),
+    );
+    for (from, to, oldest, newest) in [
+        (0, 5, none, none),
+        (5, 9, none, first),
+        (9, 22, first, first),
+        (22, 24, first, second),
+    ] {
+        for steps in from..to {
+            let (status, out) = stopped(rt.alloc(), steps, b"crash 0\n")?;
+            assert_eq!(rt; status, Status::Done);
+            assert!(rt; out.as_slice().ends_with(oldest));
+            let (status, out) = stopped(rt.alloc(), steps, b"crash 9\n")?;
+            assert_eq!(rt; status, Status::Done);
+            assert!(rt; out.as_slice().ends_with(newest));
+        }
+    }
+    Ok(())
+}
+
+/// A padded write over two blocks, stopped behind so many of its steps by a crash, and a read around it.
+fn padded(alloc: Global, steps: u32, crash: &[u8]) -> Result<(Status, Vec<u8>), Memory> {
+    let mut text = Vec::from_slice(alloc, b"session A disk\nwrite A 1 510 aaaaaaaa\n")?;
+    push_steps(&mut text, b"step A.1\n", steps)?;
+    text.extend_from_slice(crash)?;
+    text.extend_from_slice(b"session A disk\nread A 4 508 8\nrun A.4\n")?;
+    script(alloc, text.as_slice())
+}
+
+#[test]
+fn a_stop_of_a_padded_write_leaves_its_pads(rt: HostRuntime) -> Result<(), Fail> {
+    let (none, head, tail, both) = (
+        b"\nA.4 = 0 0000000000000000\n".as_slice(),
+        b"\nA.4 = 0 0000aaaa00000000\n".as_slice(),
+        b"\nA.4 = 0 00000000aaaa0000\n".as_slice(),
+        b"\nA.4 = 0 0000aaaaaaaa0000\n".as_slice(),
+    );
+    for (from, to, first, second, whole) in [
+        (0, 7, none, none, none),
+        (7, 8, head, none, head),
+        (8, 10, head, tail, both),
+    ] {
+        for steps in from..to {
+            for (crash, last) in [
+                (b"crash 0\n".as_slice(), none),
+                (b"crash 0 0=1\n", first),
+                (b"crash 0 1=1\n", second),
+                (b"crash 9\n", whole),
+            ] {
+                let (status, out) = padded(rt.alloc(), steps, crash)?;
+                assert_eq!(rt; status, Status::Done);
+                assert!(rt; out.as_slice().ends_with(last));
+            }
+        }
+    }
+    Ok(())
+}
+
 /// Two writes of one block, with a flush behind them where `flush` says so, a crash, and a read.
 fn crashed(alloc: Global, flush: &[u8], crash: &[u8]) -> Result<(Status, Vec<u8>), Memory> {
     let mut text = Vec::from_slice(alloc, b"session A disk\nwrite A 1 0 11*512\nrun A.1\n")?;

@@ -21,6 +21,7 @@ use Rattle.qs_replay.specs.Tables.{Names}
 use Rattle.qs_replay.proofs.Reaching.{splits_of}
 use Rattle.qs_calls.proofs.Runs.{Starts, starts}
 use Rattle.qs_same_replay.proofs.Calm.{undisturbed}
+use Rattle.qs_same_replay.proofs.LeftAlike.{AreLeftAlike, left_alike, left_flip, left_front}
 use Rattle.qs_same_replay.proofs.TwinFronts.{Ended, ends_one, fronts, further_never}
 use Rattle.qs_same_replay.proofs.TwinLines.{Behind, given_calls, twin_texts}
 use Rattle.qs_same_replay.proofs.TwinStarts.{place_one, twins_begin}
@@ -61,6 +62,8 @@ record Side {D : Type 0} {seen : D → Seen} {disks : List D} {left sent : Optio
   pub calm : Calmly A m one.replays.calls model
   pub stands : Stands seen one.replays.world model
   pub disks_are : disks1 ≡ map (λ s. s.disk) one.replays.world.stripes
+  pub align : one.start.shape.align ≡ A
+  pub begun : Stands seen one.start m
 
 side : {D : Type 0} {seen : D → Seen} {disks : List D} {left sent : Option (List ℕ)} {result : Status} {disks1 : List D} {left1 sent1 : Option (List ℕ)}
     (one : IsReplayed seen disks left sent result disks1 left1 sent1) (script : List ℕ) → left ≡ Some script → IsSmooth result →
@@ -95,6 +98,8 @@ side {D} {seen} {disks} {left} {sent} {result} one script told smooth calm =
           (never_later (Exported (export false) one.run.place) one.run.elements one.run.besides.never_odd);
       stands = subst (λ (w : WorldValue D). Stands seen w (after A m one.run.elements)) same one.run.stands;
       disks_are = one.disks_are ∙ ap (λ (w : WorldValue D). map (λ s. s.disk) w.stripes) same;
+      align = s.align;
+      begun = stands;
     }
 
 fewer : (budget : ℕ) (texts longer : List (List ℕ)) (x : List ℕ) (more : List (List ℕ)) → longer ≡ texts ++ x ∷ more → length longer ≤ budget → length texts < budget
@@ -104,10 +109,10 @@ fewer budget texts longer x more is few = omega (arith, few, ap length is, lengt
 front_same : {D : Type 0} {seen : D → Seen} {disks others : List D} {left sent sent' : Option (List ℕ)} {result result' : Status}
     {disks1 others1 : List D} {left1 left2 sent1 sent2 : Option (List ℕ)} (one : IsReplayed seen disks left sent result disks1 left1 sent1)
     (two : IsReplayed seen others left sent' result' others1 left2 sent2) (A : ℕ) (m m' : World) (script : List ℕ) → Twins m m' → Side one A m script → Side two A m' script →
-    (rest : List (List ℕ)) → two.replays.texts ≡ one.replays.texts ++ rest → AreSame one two
-front_same {D} {seen} {disks} {others} {left} {sent} {sent'} {result} {result'} {disks1} {others1} one two A m m' script twins a b rest is =
+    AreLeftAlike one.replays.calls two.replays.calls → (rest : List (List ℕ)) → two.replays.texts ≡ one.replays.texts ++ rest → AreSame one two
+front_same {D} {seen} {disks} {others} {left} {sent} {sent'} {result} {result'} {disks1} {others1} one two A m m' script twins a b alike rest is =
     go rest is (twin_texts A seen one.start two.start r.world q.world m m' a.model b.model no_names no_names r.texts rest r.calls q.calls r.printed q.printed r.names q.names
-    twins refl r.done (subst (λ (xs : List (List ℕ)). AllDone seen two.start no_names xs q.calls q.printed q.world q.names) is q.done) a.calm b.calm)
+    twins refl r.done (subst (λ (xs : List (List ℕ)). AllDone seen two.start no_names xs q.calls q.printed q.world q.names) is q.done) alike a.calm b.calm)
   where
     r : Replays seen (first_scene (record { bytes = left; faults = one.read_faults }) (record { bytes = sent; faults = one.write_faults }) one.start) most_lines result one.after_all
     r = one.replays
@@ -173,8 +178,8 @@ pub same_replays : {D : Type 0} {seen : D → Seen} {disks others : List D} {lef
     (two : IsReplayed seen others left sent' result' others1 left2 sent2) → AreComparable one two → AreSame one two
 same_replays {D} {seen} {disks} {others} {left} {sent} {sent'} {result} {result'} one two compared =
     elim (fronts one.replays.texts two.replays.texts front.0 front_too.0 (sym front.1 ∙ front_too.1)) [
-      | inl more ↦ front_same one two A m m' compared.script twins a b more.0 more.1
-      | inr more ↦ same_flip one two (front_same two one A m' m compared.script (twins_flip m m' twins) b a more.0 more.1)
+      | inl more ↦ front_same one two A m m' compared.script twins a b left more.0 more.1
+      | inr more ↦ same_flip one two (front_same two one A m' m compared.script (twins_flip m m' twins) b a (left_flip one.replays.calls two.replays.calls left) more.0 more.1)
     ]
   where
     A : ℕ
@@ -194,6 +199,13 @@ same_replays {D} {seen} {disks} {others} {left} {sent} {sent'} {result} {result'
 
     b : Side two A m' compared.script
     b = subst (λ (k : ℕ). Side two k m' compared.script) compared.alike.align (side two compared.script compared.told compared.smooth_too compared.calm_too)
+
+    -- each crash of both that found the same left the same
+    left : AreLeftAlike one.replays.calls two.replays.calls
+    left = left_front one.replays.calls one.replays.cut two.replays.calls two.replays.cut
+        (left_alike seen A one.start two.start one.after_all.world two.after_all.world m m' (one.replays.calls ++ one.replays.cut) (two.replays.calls ++ two.replays.cut)
+        one.run.elements two.run.elements one.run.fulls two.run.fulls a.align b.align a.begun b.begun twins.tells
+        (twins.alike.tells ∙ twins.tells) one.run.walked two.run.walked compared.cut)
 
     front : (rest : List (List ℕ)) × (lines_of compared.script ≡ one.replays.texts ++ rest)
     front = first_lines result most_lines (lines_of compared.script) one.replays.texts one.replays.world one.replays.names a.ended.reach

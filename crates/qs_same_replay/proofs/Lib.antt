@@ -1,4 +1,5 @@
 pub mod Calm
+pub mod LeftAlike
 pub mod Twins
 pub mod TwinEvents
 pub mod TwinLines

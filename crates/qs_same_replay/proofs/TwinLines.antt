@@ -18,11 +18,11 @@ use Rattle.qs_model.specs.Requests.{form_error}
 use Rattle.qs_model.specs.Steps.{happens}
 use Rattle.qs_model.specs.Worlds.{World}
 use Rattle.qs_world.specs.Values.{WorldValue}
-use Rattle.qs_outside.specs.declared.crash.CrashChoice.{CrashChoice}
-use Rattle.qs_model.specs.Acts.{Element, Crashed}
-use Rattle.qs_determined.specs.Determined.{Cuts, IsInput}
-use Rattle.qs_same_replay.specs.Same.{IsGiven}
-use Rattle.qs_calls.specs.Calls.{Call, Happened, Rigged, PowerFailed, ExportMade}
+use Rattle.qs_part.specs.declared.graph.GraphOp.{GraphOp}
+use Rattle.qs_determined.specs.Determined.{Alike, Cuts, Makes}
+use Rattle.qs_calls.specs.Calls.{Call, Happened, Rigged, PowerFailed, ExportMade, anew}
+use Rattle.qs_same_replay.proofs.Calm.{IsAnew}
+use Rattle.qs_same_replay.proofs.LeftAlike.{AreLeftAlike, left_front, left_rest}
 use Rattle.qs_replay.specs.Effects.{Acts, AskedBy, Does, IsRoom, Notes, bytes_or, flush_ask, read_ask, text_of, trim_ask, write_ask, zero_ask}
 use Rattle.qs_calls.specs.Goings.{GoesOn, RunsOut, goes_on}
 use Rattle.qs_replay.specs.Scripts.{AllDone, DoesText}
@@ -148,47 +148,60 @@ module _ (A : ℕ) where
       (twin_event m m' n n' does.made also.made does.outcome also.outcome calls calls'
       (tame_as does.made _ made_is (λ bad. absurd (true≢false (sym bad ∙ good)))) twins event_is calls_are calls_too one two)
 
-  -- a step that is calm is no crash
-  no_crash : (m : World) (choice : CrashChoice) (left : ℕ → List ℕ) → CalmStep A m (PowerFailed choice left) → ⊥
-  no_crash m choice left step = by step.element step.comes.is step.given
-    where
-      by : (e : Element) → IsInput (Cuts choice left) e → IsGiven e → ⊥
-      by (Crashed blocks) is given = given
-      by e is given = is
+  -- the export that is made anew is one
+  anew_one : (m m' : World) (op op' : GraphOp) (place place' : ℕ) → Alike m m' → CalmStep A m (ExportMade op place) → CalmStep A m' (ExportMade op' place') → op' ≡ op
+  anew_one m m' op op' place place' alike one two =
+      subst (IsAnew m') two.outcome_is two.made ∙ ap anew alike.graph ∙ sym (subst (IsAnew m) one.outcome_is one.made)
 
   -- one line
   twin_line : (m m' n n' : World) (t : Names) (l : Line) (lost lost' : Bool) (calls calls' : List Call) (printed printed' : List ℕ) (t1 t1' : Names) →
-      Twins m m' → Does t l lost calls printed t1 → Does t l lost' calls' printed' t1' → Calmly A m calls n → Calmly A m' calls' n' →
+      Twins m m' → Does t l lost calls printed t1 → Does t l lost' calls' printed' t1' → AreLeftAlike calls calls' → Calmly A m calls n → Calmly A m' calls' n' →
       Together n n' calls calls' printed printed' t1 t1'
-  twin_line m m' n n' t line.Nothing lost lost' calls calls' printed printed' t1 t1' twins does also one two = record {
+  twin_line m m' n n' t line.Nothing lost lost' calls calls' printed printed' t1 t1' twins does also alike one two = record {
     calls_are = also.calls_are ∙ sym does.calls_are;
     printed_are = also.text_is ∙ sym does.text_is;
     names_are = also.same ∙ sym does.same;
     twins = twins_end m m' n n' twins (given_calls m n calls [] does.calls_are one) (given_calls m' n' calls' [] also.calls_are two);
   }
-  twin_line m m' n n' t (line.Fail j fail) lost lost' calls calls' printed printed' t1 t1' twins does also one two = record {
+  twin_line m m' n n' t (line.Fail j fail) lost lost' calls calls' printed printed' t1 t1' twins does also alike one two = record {
     calls_are = also.calls_are ∙ sym does.calls_are;
     printed_are = also.text_is ∙ sym does.text_is;
     names_are = also.same ∙ sym does.same;
     twins = (twin_one m m' n n' (Rigged j fail) (Rigged j fail) twins (given_calls m n calls (Rigged j fail ∷ []) does.calls_are one)
         (given_calls m' n' calls' (Rigged j fail ∷ []) also.calls_are two) refl tt).1;
   }
-  twin_line m m' n n' t (line.Crash choice) lost lost' calls calls' printed printed' t1 t1' twins does also one two =
-      absurd (no_crash m choice does.left
-      (given_calls m n calls (PowerFailed choice does.left ∷ ExportMade does.op does.place ∷ []) does.rests.calls_are one).0)
-  twin_line m m' n n' t (line.Session s e) lost lost' calls calls' printed printed' t1 t1' twins does also one two =
+  twin_line m m' n n' t (line.Crash choice) lost lost' calls calls' printed printed' t1 t1' twins does also alike one two =
+      let cs : List Call = PowerFailed choice does.left ∷ ExportMade does.op does.place ∷ [] in
+      let ds : List Call = PowerFailed choice also.left ∷ ExportMade also.op also.place ∷ [] in
+      let left : AreLeftAlike cs ds = subst (λ (x : List Call). AreLeftAlike x ds) does.rests.calls_are
+      (subst (λ (x : List Call). AreLeftAlike calls x) also.rests.calls_are alike) in
+      let steps : Calmly A m cs n = given_calls m n calls cs does.rests.calls_are one in
+      let others : Calmly A m' ds n' = given_calls m' n' calls' ds also.rests.calls_are two in
+      let first = twin_call A m m' (PowerFailed choice does.left) (PowerFailed choice also.left) twins steps.0 others.0 (ap (Cuts choice) (left.0 refl)) tt in
+      let mid : World = happens A m steps.0.element in
+      let mid' : World = happens A m' others.0.element in
+      let op_is : also.op ≡ does.op = anew_one mid mid' does.op also.op does.place also.place first.1.alike steps.1.0 others.1.0 in
+      let second = twin_call A mid mid' (ExportMade does.op does.place) (ExportMade also.op also.place) first.1 steps.1.0 others.1.0 (ap Makes op_is) tt in
+      record {
+        calls_are = also.rests.calls_are ∙ ap (λ (c : Call). c ∷ ExportMade also.op also.place ∷ []) first.0
+            ∙ ap (λ (c : Call). PowerFailed choice does.left ∷ c ∷ []) second.0 ∙ sym does.rests.calls_are;
+        printed_are = also.rests.text_is ∙ sym does.rests.text_is;
+        names_are = also.rests.same ∙ sym does.rests.same;
+        twins = twins_end (happens A mid steps.1.0.element) (happens A mid' others.1.0.element) n n' second.1 steps.1.1 others.1.1;
+      }
+  twin_line m m' n n' t (line.Session s e) lost lost' calls calls' printed printed' t1 t1' twins does also alike one two =
       let same = gives_one t does.mid also.mid s does.event_is.0 also.event_is.0 does.event_is.1.0 also.event_is.1.0 in
       let event_is : also.made ≡ does.made = also.event_is.1.1 ∙ ap (λ (k : ℕ). event.Attach k e) same.0 ∙ sym does.event_is.1.1 in
       acts_one n n' t t1 t1' (line.Session s e) lost lost' calls calls' printed printed' does also event_is same.1
       (twin_event m m' n n' does.made also.made does.outcome also.outcome calls calls' (tame_as does.made _ does.event_is.1.1 tt) twins event_is
       does.calls_are also.calls_are one two)
-  twin_line m m' n n' t (line.End s) lost lost' calls calls' printed printed' t1 t1' twins does also one two =
+  twin_line m m' n n' t (line.End s) lost lost' calls calls' printed printed' t1 t1' twins does also alike one two =
       let same = gives_one t does.mid also.mid s does.event_is.0 also.event_is.0 does.event_is.1.0 also.event_is.1.0 in
       let event_is : also.made ≡ does.made = also.event_is.1.1 ∙ ap (λ (k : ℕ). event.Leave k) same.0 ∙ sym does.event_is.1.1 in
       acts_one n n' t t1 t1' (line.End s) lost lost' calls calls' printed printed' does also event_is same.1
       (twin_event m m' n n' does.made also.made does.outcome also.outcome calls calls' (tame_as does.made _ does.event_is.1.1 tt) twins event_is
       does.calls_are also.calls_are one two)
-  twin_line m m' n n' t (line.Read s c offset long) lost lost' calls calls' printed printed' t1 t1' twins does also one two =
+  twin_line m m' n n' t (line.Read s c offset long) lost lost' calls calls' printed printed' t1 t1' twins does also alike one two =
       let (k, body, (gives, room, made_is)) = does.event_is in
       let (h, other, (gives_too, room_too, made_too)) = also.event_is in
       let same = gives_one t does.mid also.mid s k h gives gives_too in
@@ -199,7 +212,7 @@ module _ (A : ℕ) where
       acts_one n n' t t1 t1' (line.Read s c offset long) lost lost' calls calls' printed printed' does also event_is same.1
       (twin_event m m' n n' does.made also.made does.outcome also.outcome calls calls' (tame_as does.made _ made_is (read_tame k c offset long body is)) twins event_is
       does.calls_are also.calls_are one two)
-  twin_line m m' n n' t (line.Write s c offset bytes fua) lost lost' calls calls' printed printed' t1 t1' twins does also one two =
+  twin_line m m' n n' t (line.Write s c offset bytes fua) lost lost' calls calls' printed printed' t1 t1' twins does also alike one two =
       let (k, (gives, made_is)) = does.event_is in
       let (h, (gives_too, made_too)) = also.event_is in
       let same = gives_one t does.mid also.mid s k h gives gives_too in
@@ -210,22 +223,22 @@ module _ (A : ℕ) where
       acts_one n n' t t1 t1' (line.Write s c offset bytes fua) lost lost' calls calls' printed printed' does also event_is same.1
       (twin_event m m' n n' does.made also.made does.outcome also.outcome calls calls' (tame_as does.made _ made_is (λ bad. absurd (true≢false (sym bad)))) twins event_is
       does.calls_are also.calls_are one two)
-  twin_line m m' n n' t (line.Zero s c offset long fua) lost lost' calls calls' printed printed' t1 t1' twins does also one two =
+  twin_line m m' n n' t (line.Zero s c offset long fua) lost lost' calls calls' printed printed' t1 t1' twins does also alike one two =
       twin_ask m m' n n' t t1 t1' (line.Zero s c offset long fua) lost lost' calls calls' printed printed' s (zero_ask c offset long fua) does also refl twins does.event_is also.event_is
       does.calls_are also.calls_are one two
-  twin_line m m' n n' t (line.Trim s c offset long) lost lost' calls calls' printed printed' t1 t1' twins does also one two =
+  twin_line m m' n n' t (line.Trim s c offset long) lost lost' calls calls' printed printed' t1 t1' twins does also alike one two =
       twin_ask m m' n n' t t1 t1' (line.Trim s c offset long) lost lost' calls calls' printed printed' s (trim_ask c offset long) does also refl twins does.event_is also.event_is
       does.calls_are also.calls_are one two
-  twin_line m m' n n' t (line.Flush s c) lost lost' calls calls' printed printed' t1 t1' twins does also one two =
+  twin_line m m' n n' t (line.Flush s c) lost lost' calls calls' printed printed' t1 t1' twins does also alike one two =
       twin_ask m m' n n' t t1 t1' (line.Flush s c) lost lost' calls calls' printed printed' s (flush_ask c) does also refl twins does.event_is also.event_is
       does.calls_are also.calls_are one two
-  twin_line m m' n n' t (line.Step who now) lost lost' calls calls' printed printed' t1 t1' twins does also one two =
+  twin_line m m' n n' t (line.Step who now) lost lost' calls calls' printed printed' t1 t1' twins does also alike one two =
       let same = actor_one t does.mid also.mid who does.event_is.0 also.event_is.0 does.event_is.1.0 also.event_is.1.0 in
       let event_is : also.made ≡ does.made = also.event_is.1.1 ∙ ap (λ (a : Actor). event.Step a now) same.0 ∙ sym does.event_is.1.1 in
       acts_one n n' t t1 t1' (line.Step who now) lost lost' calls calls' printed printed' does also event_is same.1
       (twin_event m m' n n' does.made also.made does.outcome also.outcome calls calls' (tame_as does.made _ does.event_is.1.1 tt) twins event_is
       does.calls_are also.calls_are one two)
-  twin_line m m' n n' t (line.Run who now) lost lost' calls calls' printed printed' t1 t1' twins does also one two =
+  twin_line m m' n n' t (line.Run who now) lost lost' calls calls' printed printed' t1 t1' twins does also alike one two =
       let same = actor_one t does.mid also.mid who does.event_is.0 also.event_is.0 does.event_is.1.0 also.event_is.1.0 in
       let event_is : also.made ≡ does.made = also.event_is.1.1 ∙ ap (λ (a : Actor). event.Step a now) same.0 ∙ sym does.event_is.1.1 in
       let run : RunsOut does.made calls does.outcome = does.calls_are in
@@ -242,8 +255,8 @@ module _ (A : ℕ) where
   -- the texts of the same lines, behind which one replay may have done more
   pub twin_texts : {D : Type 0} (seen : D → Seen) (w w' v v' : WorldValue D) (m m' n n' : World) (t t' : Names) (texts rest : List (List ℕ)) (calls calls' : List Call)
       (printed printed' : List ℕ) (t1 t1' : Names) → Twins m m' → t' ≡ t → AllDone seen w t texts calls printed v t1 → AllDone seen w' t' (texts ++ rest) calls' printed' v' t1' →
-      Calmly A m calls n → Calmly A m' calls' n' → Behind seen A n n' rest calls calls' printed printed' v' t1 t1'
-  twin_texts seen w w' v v' m m' n n' t t' [] rest calls calls' printed printed' t1 t1' twins names done also one two = record {
+      AreLeftAlike calls calls' → Calmly A m calls n → Calmly A m' calls' n' → Behind seen A n n' rest calls calls' printed printed' v' t1 t1'
+  twin_texts seen w w' v v' m m' n n' t t' [] rest calls calls' printed printed' t1 t1' twins names done also alike one two = record {
     later = calls';
     more = printed';
     world = w';
@@ -254,18 +267,22 @@ module _ (A : ℕ) where
     done = subst (λ (u : Names). AllDone seen w' u rest calls' printed' v' t1') (names ∙ sym done.names) also;
     calm = two;
   }
-  twin_texts seen w w' v v' m m' n n' t t' (text ∷ texts) rest calls calls' printed printed' t1 t1' twins names done also one two =
+  twin_texts seen w w' v v' m m' n n' t t' (text ∷ texts) rest calls calls' printed printed' t1 t1' twins names done also alike one two =
       let (mid, (front, back)) = calm_parts A m n done.first done.later (given_calls m n calls (done.first ++ done.later) done.calls_are one) in
       let (mid', (front_too, back_too)) = calm_parts A m' n' also.first also.later (given_calls m' n' calls' (also.first ++ also.later) also.calls_are two) in
       let d : DoesText seen w' t text also.first also.words also.world also.names =
       subst (λ (u : Names). DoesText seen w' u text also.first also.words also.world also.names) names also.does in
       let same : d.line ≡ done.does.line = one_line text d.line done.does.line d.reads done.does.reads in
+      let left : AreLeftAlike (done.first ++ done.later) (also.first ++ also.later) =
+      subst (λ (x : List Call). AreLeftAlike x (also.first ++ also.later)) done.calls_are (subst (λ (x : List Call). AreLeftAlike calls x) also.calls_are alike) in
       let head : Together mid mid' done.first also.first done.words also.words done.names also.names =
       twin_line m m' mid mid' t done.does.line done.does.lost d.lost done.first also.first done.words also.words done.names also.names twins done.does.is.does
-      (subst (λ (l : Line). Does t l d.lost also.first also.words also.names) same d.is.does) front front_too in
+      (subst (λ (l : Line). Does t l d.lost also.first also.words also.names) same d.is.does)
+      (left_front done.first done.later also.first also.later left) front front_too in
       let tail : Behind seen A n n' rest done.later also.later done.more also.more v' t1 t1' =
       twin_texts seen done.world also.world v v' mid mid' n n' done.names also.names texts rest done.later also.later done.more also.more t1 t1' head.twins head.names_are
-      done.rest also.rest back back_too in
+      done.rest also.rest (left_rest done.first done.later also.later (subst (λ (x : List Call). AreLeftAlike (done.first ++ done.later) (x ++ also.later)) head.calls_are left))
+      back back_too in
       record {
         later = tail.later;
         more = tail.more;

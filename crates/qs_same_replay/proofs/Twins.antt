@@ -21,7 +21,7 @@ use Rattle.qs_model.specs.Worlds.{World}
 use Rattle.qs_model.proofs.Basics.{either}
 use Rattle.qs_calls.specs.Calls.{AreCalls, Call, Happened, Rigged, PowerFailed, ExportMade}
 use Rattle.qs_same_replay.specs.Same.{IsGiven}
-use Rattle.qs_same_replay.proofs.Calm.{AreUndisturbed}
+use Rattle.qs_same_replay.proofs.Calm.{AreUndisturbed, IsAnew}
 
 -- what comes from outside
 abbrev pub input_of : Call → Input
@@ -42,6 +42,7 @@ pub record CalmStep (A : ℕ) (m : World) (c : Call) : Type 0 where
   pub comes : Comes A m (input_of c) element
   pub outcome_is : HasOutcome A c element
   pub given : IsGiven element
+  pub made : IsAnew m element
 
 -- such calls one after the other, and the state that they lead to
 abbrev pub Calmly : ℕ → World → List Call → World → Type 0
@@ -64,8 +65,9 @@ calmly A m (Happened event outcome ∷ cs) (e ∷ es) are run calm never = (
     comes = record { may = run.0; is = are.0; undisturbed = calm.0; plain = never [] e (es, refl) };
     outcome_is = are.1;
     given = calm.1;
+    made = calm.2;
   },
-  calmly A (happens A m e) cs es are.2 run.1 calm.2 (never_later e es never),
+  calmly A (happens A m e) cs es are.2 run.1 calm.3 (never_later e es never),
 )
 calmly A m (Rigged stripe fail ∷ cs) (e ∷ es) are run calm never = (
   record {
@@ -73,8 +75,9 @@ calmly A m (Rigged stripe fail ∷ cs) (e ∷ es) are run calm never = (
     comes = record { may = run.0; is = subst (IsInput (Fails stripe fail)) (sym are.0) (refl, refl); undisturbed = calm.0; plain = never [] e (es, refl) };
     outcome_is = tt;
     given = calm.1;
+    made = calm.2;
   },
-  calmly A (happens A m e) cs es are.1 run.1 calm.2 (never_later e es never),
+  calmly A (happens A m e) cs es are.1 run.1 calm.3 (never_later e es never),
 )
 calmly A m (PowerFailed choice left ∷ cs) (e ∷ es) are run calm never = (
   record {
@@ -82,8 +85,9 @@ calmly A m (PowerFailed choice left ∷ cs) (e ∷ es) are run calm never = (
     comes = record { may = run.0; is = subst (IsInput (Cuts choice left)) (sym are.0) (λ b. refl); undisturbed = calm.0; plain = never [] e (es, refl) };
     outcome_is = tt;
     given = calm.1;
+    made = calm.2;
   },
-  calmly A (happens A m e) cs es are.1 run.1 calm.2 (never_later e es never),
+  calmly A (happens A m e) cs es are.1 run.1 calm.3 (never_later e es never),
 )
 calmly A m (ExportMade op place ∷ cs) (e ∷ es) are run calm never = (
   record {
@@ -91,8 +95,9 @@ calmly A m (ExportMade op place ∷ cs) (e ∷ es) are run calm never = (
     comes = record { may = run.0; is = subst (IsInput (Makes op)) (sym are.0) refl; undisturbed = calm.0; plain = never [] e (es, refl) };
     outcome_is = are.0;
     given = calm.1;
+    made = calm.2;
   },
-  calmly A (happens A m e) cs es are.1 run.1 calm.2 (never_later e es never),
+  calmly A (happens A m e) cs es are.1 run.1 calm.3 (never_later e es never),
 )
 
 -- calls one behind the other

@@ -14,11 +14,9 @@ use Rattle.qs_world.specs.Openings.{planned_of}
 use Rattle.qs_calls.specs.Runs.{exported}
 use Rattle.qs_replay.specs.Runs.{IsReplayed}
 
--- A request that is made was given its buffers, unless its form alone refuses it; and no crash comes, since what it leaves hangs
--- on what the disks kept of their stores.
+-- a request that is made was given its buffers, unless its form alone refuses it
 abbrev pub IsGiven : Element → Type 0
 IsGiven (Asked r c) = form_error c.ask ≡ false → c.buffered ≡ true
-IsGiven (Crashed left) = ⊥
 IsGiven _ = Unit {0}
 
 -- A row in which the disk failed: that was planned, and the disk of a store told that it isn't full.
@@ -31,12 +29,22 @@ abbrev pub IsByPlan : ℕ → World → (ℕ → Option Bool) → Element → Ty
 IsByPlan A w full (Did r q act) = IsRowByPlan A w full q.client act
 IsByPlan A w full _ = Unit {0}
 
--- No disk failed in these steps but by a plan, no request was refused its buffers, and no crash came. Before each step the disks told
--- this of being full.
+-- No disk failed in these steps but by a plan, and no request was refused its buffers. Before each step the disks told this of being
+-- full.
 abbrev pub AreCalm : ℕ → World → List Element → List (ℕ → Option Bool) → Type 0
 AreCalm A w [] [] = Unit {0}
 AreCalm A w (e ∷ es) (full ∷ fulls) = IsByPlan A w full e × IsGiven e × AreCalm A (happens A w e) es fulls
 AreCalm A w es fulls = ⊥
+
+-- two crashes found the same of each block: what they might leave of it
+abbrev pub IsCutAlike : World → Element → World → Element → Type 0
+IsCutAlike w (Crashed left) v (Crashed other) = (b : ℕ) → v.image.past b ≡ w.image.past b
+IsCutAlike w e v d = Unit {0}
+
+-- so did each two crashes that stand at one place of two runs
+abbrev pub AreCutAlike : ℕ → World → List Element → World → List Element → Type 0
+AreCutAlike A w (e ∷ es) v (d ∷ ds) = IsCutAlike w e v d × AreCutAlike A (happens A w e) es (happens A v d) ds
+AreCutAlike A w es v ds = Unit {0}
 
 -- the input and the output didn't fail, and no memory was refused
 abbrev pub IsSmooth : Status → Type 0
@@ -65,6 +73,8 @@ pub record AreComparable {D : Type 0} {seen : D → Seen} {disks others : List D
   pub smooth_too : IsSmooth result'
   pub calm : AreCalm (align_of (map seen disks)) (exported (map seen disks) false one.run.place) one.run.elements one.run.fulls
   pub calm_too : AreCalm (align_of (map seen others)) (exported (map seen others) false two.run.place) two.run.elements two.run.fulls
+  pub cut : AreCutAlike (align_of (map seen disks)) (exported (map seen disks) false one.run.place) one.run.elements
+      (exported (map seen others) false two.run.place) two.run.elements
 
 -- They did the same: the status, the lines, the calls with their outcomes, what was printed, and the content of the disks.
 pub record AreSame {D : Type 0} {seen : D → Seen} {disks others : List D} {left sent sent' : Option (List ℕ)} {result result' : Status}
@@ -76,7 +86,8 @@ pub record AreSame {D : Type 0} {seen : D → Seen} {disks others : List D} {lef
   pub printed : two.replays.printed ≡ one.replays.printed
   pub now : (b : ℕ) → block_now (map seen others1) b ≡ block_now (map seen disks1) b
 
--- A replay is a function of its script, the disks' shape and their opening content: no other one did anything else.
+-- A replay is a function of its script, the disks' shape, their opening content, and what each crash found of what it might leave: no
+-- other one did anything else.
 abbrev pub IsFunction : {D : Type 0} {seen : D → Seen} {disks : List D} {left sent : Option (List ℕ)} {result : Status} {disks1 : List D} {left1 sent1 : Option (List ℕ)} →
     IsReplayed seen disks left sent result disks1 left1 sent1 → Type 0
 IsFunction {D} {seen} {disks} {left} {sent} {result} {disks1} {left1} {sent1} one =

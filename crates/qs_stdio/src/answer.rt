@@ -90,3 +90,13 @@ pub fn keep_buffer(spare: &mut Vec<u8>, verdict: Verdict) {
         _ => {}
     }
 }
+
+/// Keeps the memory of a WRITE's data that was answered, where it is longer than what is kept.
+pub fn keep_body<D: Disk + Drop>(spare: &mut Vec<u8>, world: &mut World<D>)
+    ensures { world.new ≡ world.old }
+{
+    match world.spare_body() {
+        Some(body) if body.len() > spare.len() => *spare = body.into_vec(),
+        _ => {}
+    }
+}

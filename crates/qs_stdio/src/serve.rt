@@ -7,7 +7,7 @@ ghost use Rattle.qs_stdio.specs.Scenes.{scene};
 ghost use Rattle.qs_stream.specs.Flows.{side};
 ghost use Rattle.qs_stdio.specs.Turns.{AnswersBare, AwaitsRoom, Finishes, ServesMessage, between, body_in};
 
-use crate::answer::{keep_buffer, read_buffer, respond};
+use crate::answer::{keep_body, keep_buffer, read_buffer, respond};
 use crate::session::{Came, Session, room_for};
 use qs_bytes::{Ask, Bytes};
 use qs_nbd_transmission::{Room, awaits_data};
@@ -66,6 +66,7 @@ impl Session {
             return Ok(Progress::Ends(Status::Memory));
         };
         keep_buffer(&mut self.spare, verdict);
+        keep_body(&mut self.spare, world);
         Ok(Progress::Goes)
     }
 

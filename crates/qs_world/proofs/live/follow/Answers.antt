@@ -15,5 +15,5 @@ returns-in-Some c = λ l at.
     let same : c.index_mut.result.now ≡ l = c.index_mut.ensures.value ∙ at.is c.index_mut.result.now in (
       refl,
       subst (λ (x : Live). (next_of x c.args.reply).stage ≡ Ready c.in-Some.verdict) same c.in-Some.ensures,
-      c.remove.ensures.items ∙ remove_set c.args.requests.now.items c.args.at c.answer.new.live,
+      c.remove-live.ensures.items ∙ remove_set c.args.requests.now.items c.args.at c.answer.new.live,
     )

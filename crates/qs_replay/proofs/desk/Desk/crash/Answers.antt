@@ -20,7 +20,7 @@ pub returns-in-Ok : goal.returns-in-Ok
 returns-in-Ok g c =
     crash_played g.D.Disk.seen c.args.self.now c.args.choice.now
     (record { world = c.export_disk.new.self; table = c.args.self.now.table; out = c.args.self.now.out; alloc = c.args.self.now.alloc })
-    c.crash.new.self c.in-Some.export (not c.is_read_only-writable.result) c.crash.ensures c.in-Ok.ensures refl refl
+    c.crash.new.self c.in-Some.export (not c.is_read_only-writable.result) c.crash.ensures ?name ?writable c.in-Ok.ensures refl refl
 
 pub returns-in-Err : goal.returns-in-Err
 returns-in-Err g c =

@@ -5,7 +5,8 @@ use Rattle.qs_outside.specs.declared.stream.Failed.{Failed}
 use Rattle.qs_stream.specs.Flows.{flow, side}
 use Rattle.qs_stdio.specs.Scenes.{scene}
 use Rattle.qs_single.specs.Resting.{IsBody}
-use Rattle.qs_stdio.specs.Turns.{IsData}
+use Rattle.qs_world.specs.Values.{WorldValue}
+use Rattle.qs_stdio.specs.Turns.{Answered, IsData}
 use Rattle.qs_stdio.proofs.Answering.{data_body}
 use Rattle.qs_stdio.proofs.Turning.{answered_in, data_awaited, data_came, data_length, memory_stops, still_simple}
 use Rattle.qs_stdio.proofs.session.Session.serve_data.Goals as goal
@@ -32,14 +33,18 @@ returns g c = λ writable rests.
       brings.taken,
       (
         data_length brings.taken c.args.ask.now.length c.in-Some.room whole,
-        answered_in g.D.Disk.seen 0 writable c.args.ask.now brings.taken
+        subst (λ (w : WorldValue _). Answered g.D.Disk.seen 0 writable c.args.ask.now brings.taken
+            (scene g.I.Source.left g.I.Source.read_faults g.O.Sink.sent g.O.Sink.write_faults c.args.input.now c.args.output.now c.args.self.now.stream c.args.world.now)
+            (scene g.I.Source.left g.I.Source.read_faults g.O.Sink.sent g.O.Sink.write_faults c.next_data.new.input c.respond.new.output c.respond.new.stream w))
+            (sym c.keep_body.ensures)
+            (answered_in g.D.Disk.seen 0 writable c.args.ask.now brings.taken
             (scene g.I.Source.left g.I.Source.read_faults g.O.Sink.sent g.O.Sink.write_faults c.args.input.now c.args.output.now c.args.self.now.stream c.args.world.now)
             mid c.respond.new.world (side g.O.Sink.sent g.O.Sink.write_faults c.respond.new.output) c.respond.new.stream brings.moved
             (record {
               verdict = c.in-Some-respond.verdict;
               does = c.in-Some-respond.ensures.does writable brings.taken rests body;
               puts = c.in-Some-respond.ensures.puts;
-            }),
+            })),
         is.1 ∙ ap (λ (s : _). record { structured = s; phase = InHead [] }) simple,
       ),
     )

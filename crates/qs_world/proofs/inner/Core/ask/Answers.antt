@@ -58,8 +58,8 @@ returns-in-Err g c =
     (ap (λ (m : Member). m.left) (sym (c.index-member.ensures ∙ at.1.0.is c.index-member.result.now))) c.if-member.false (omega (arith, c.if-self.false))
     (ap (λ (xs : List Live). record (value_of c.args.self.now) { requests = xs }) c.reserve.ensures.items)
 
-pub returns : goal.returns
-returns g c =
+pub returns-in-Err-boxed : goal.returns-in-Err-boxed
+returns-in-Err-boxed g c =
     let at = member_stands c.args.self.now.sessions.items c.in-Some.at c.args.session
     (ap (λ (xs : List Member). position (λ m. m.session == c.args.session) xs) (sym c.deref.ensures.value) ∙ sym c.find_member.ensures ∙ c.in-Some.is) in
     refused g.D.Disk.seen (value_of c.args.self.now) (record (value_of c.args.self.now) { requests = c.reserve.new.self.items }) c.in-Some.at at.0
@@ -67,8 +67,8 @@ returns g c =
     (ap (λ (m : Member). m.left) (sym (c.index-member.ensures ∙ at.1.0.is c.index-member.result.now))) c.if-member.false (omega (arith, c.if-self.false))
     (ap (λ (xs : List Live). record (value_of c.args.self.now) { requests = xs }) c.reserve.ensures.items)
 
-pub returns-in-Ok-new : goal.returns-in-Ok-new
-returns-in-Ok-new g c =
+pub returns-in-Ok-boxed : goal.returns-in-Ok-boxed
+returns-in-Ok-boxed g c =
     let at = member_stands c.args.self.now.sessions.items c.in-Some.at c.args.session
     (ap (λ (xs : List Member). position (λ m. m.session == c.args.session) xs) (sym c.deref.ensures.value) ∙ sym c.find_member.ensures ∙ c.in-Some.is) in
     let same : c.index-member.result.now ≡ at.0 = c.index-member.ensures ∙ at.1.0.is c.index-member.result.now in
@@ -84,10 +84,10 @@ returns-in-Ok-new g c =
     subst (λ (o : Outcome). Handles g.D.Disk.seen (value_of c.args.self.now) (AskEvent c.args.session c.args.ask c.args.body) o (value_of c.make.new.self)) (sym c.make.ensures.made)
     (subst (λ (s : ℕ). Handles g.D.Disk.seen (value_of c.args.self.now) (AskEvent s c.args.ask c.args.body) (Made c.args.self.now.next) (value_of c.make.new.self)) at.1.1
     (asked_handled g.D.Disk.seen (value_of c.args.self.now) (value_of c.make.new.self) c.in-Some.at at.0 c.args.ask c.args.body c.blocks_for-blocks.result
-    (record { number = c.args.self.now.next; request = c.in-Ok-new.request })
+    (record { number = c.args.self.now.next; request = c.in-Ok-boxed.request })
     c.requires.sound at.1.0 here room
     (c.make.ensures.same ∙ ap (λ (xs : List Live). record (value_of c.args.self.now) { next = c.args.self.now.next + 1; requests = xs })
     (c.make.ensures.requests
-    ∙ ap (λ (xs : List Live). xs ++ record { number = c.args.self.now.next; request = c.in-Ok-new.request } ∷ []) c.reserve.ensures.items
-    ∙ ap (λ (r : RequestValue). c.args.self.now.requests.items ++ record { number = c.args.self.now.next; request = record c.in-Ok-new.request { value = r } } ∷ [])
-    (c.in-Ok-new.ensures.ok ∙ request)))))
+    ∙ ap (λ (xs : List Live). xs ++ record { number = c.args.self.now.next; request = c.in-Ok-boxed.request } ∷ []) c.reserve.ensures.items
+    ∙ ap (λ (r : RequestValue). c.args.self.now.requests.items ++ record { number = c.args.self.now.next; request = record c.in-Ok-boxed.request { value = r } } ∷ [])
+    (c.in-Ok-boxed.ensures ∙ request)))))

@@ -148,7 +148,7 @@ returns-in-Answer g c = λ l e.
     let wants : WantsAt c.args.self.now.shape.align x.request.value.request.client x.request.value.request.pads x.request.value.request.stage (Answer c.in-Answer.verdict) =
     subst (λ (s : Shape). WantsAt s.align x.request.value.request.client x.request.value.request.pads x.request.value.request.stage (Answer c.in-Answer.verdict)) idle.shape_is
     c.in-Answer.ensures.wants in
-    subst (λ (y : Live). StepsRequest g.D.Disk.seen (value_of c.args.self.now) y.number (Answered c.in-Answer.verdict None) (record (value_of c.args.self.now) { requests = c.remove.new.self.items }))
+    subst (λ (y : Live). StepsRequest g.D.Disk.seen (value_of c.args.self.now) y.number (Answered c.in-Answer.verdict None) (record (value_of c.args.self.now) { requests = c.remove-live.new.self.items }))
     (one_element c.args.self.now.requests.items c.args.at x l at e)
-    (answer_steps g.D.Disk.seen (value_of c.args.self.now) c.args.at x c.in-Answer.verdict c.remove.new.self.items c.requires.sound at wants
-    (c.remove.ensures.items ∙ remove_set c.args.self.now.requests.items c.args.at c.next.new.self))
+    (answer_steps g.D.Disk.seen (value_of c.args.self.now) c.args.at x c.in-Answer.verdict c.remove-live.new.self.items c.requires.sound at wants
+    (c.remove-live.ensures.items ∙ remove_set c.args.self.now.requests.items c.args.at c.next.new.self))
