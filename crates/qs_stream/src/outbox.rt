@@ -93,20 +93,20 @@ pub fn flush<O: Sink>(outbox: &mut Outbox, output: &mut O) -> Result<(), Failed>
     result
 }
 
-/// Puts bytes behind those that wait. Where there is no room, what waits is written before, and so are
-/// the bytes themselves where they are more than there is ever room for.
+/// Puts bytes behind those that wait. Where there is no room, what waits is written before. As many as there is ever
+/// room for are written themselves, without being copied.
 pub fn send<O: Sink>(outbox: &mut Outbox, output: &mut O, bytes: &[u8]) -> Result<(), Failed>
     requires { length outbox.old ≤ 65536 }
     ensures few { length outbox.new ≤ 65536 }
     ensures sends { Sends (O.sent output.old) outbox.old bytes.now result (O.sent output.new) outbox.new }
     ensures counts { Counts (O.write_faults output.old) (O.write_faults output.new) result }
 {
-    if outbox.has_room(bytes.len()) {
+    if bytes.len() < ROOM && outbox.has_room(bytes.len()) {
         outbox.push(bytes);
         return Ok(());
     }
     flush(outbox, output)?;
-    if outbox.has_room(bytes.len()) {
+    if bytes.len() < ROOM {
         outbox.push(bytes);
         return Ok(());
     }
