@@ -34,7 +34,7 @@ use Rattle.qs_stream.proofs.Moves.{rises_from}
 -- a session that sat is a run from the opening
 pub sits_of : {D : Type 0} (seen : D → Seen) (disks : List D) (read_only : Bool) (budget : ℕ) (input output : Side) (start begun : WorldValue D) (info : ExportInfo) (result : Status)
     (input' output' : Side) (stream : Buffers) (new : WorldValue D) → Begins seen disks read_only start → Attaches seen 0 (not read_only) start (codes "disk") info begun →
-    Sitting seen 0 (not read_only) budget (first input output begun) (last_scene input' output' stream new) result → Sits seen disks read_only budget input output start result input' output' new
+    Sitting seen 0 (not read_only) false budget (first input output begun) (last_scene input' output' stream new) result → Sits seen disks read_only budget input output start result input' output' new
 sits_of {D} seen disks read_only budget input output start begun info result input' output' stream new begins attaches sits =
     let attach : List Call = Happened (Attach 0 (codes "disk")) (Attached info) ∷ [] in
     record {

@@ -33,9 +33,9 @@ use Rattle.qs_nbd_transmission.specs.Phases.{Reader}
 use Rattle.qs_stdio.proofs.Sought.{nothing_front}
 
 -- so many requests were served, and the core rests
-pub record Served {D : Type 0} (seen : D → Seen) (session : ℕ) (writable : Bool) (before now : Scene D) (count : ℕ) : Type 0 where
+pub record Served {D : Type 0} (seen : D → Seen) (session : ℕ) (writable structured : Bool) (before now : Scene D) (count : ℕ) : Type 0 where
   pub exchanges : List Exchange
-  pub fit : AllFit session (size_of (disks_in seen before)) writable exchanges
+  pub fit : AllFit session (size_of (disks_in seen before)) writable structured exchanges
   pub moved : Moved (asked exchanges) (answered exchanges) before.flow now.flow
   pub called : CalledAll (disks_in seen before) exchanges (disks_in seen now)
   pub outlasts : AllTell (disks_in seen before) → IsCleanSettled seen before.world →
@@ -46,8 +46,8 @@ pub record Served {D : Type 0} (seen : D → Seen) (session : ℕ) (writable : B
   pub rests : IsResting seen session writable now.world
   pub next : now.world.next ≡ before.world.next + count
 
-pub served_none : {D : Type 0} (seen : D → Seen) (session : ℕ) (writable : Bool) (scene : Scene D) → IsResting seen session writable scene.world → Served seen session writable scene scene 0
-served_none seen session writable scene rests = record {
+pub served_none : {D : Type 0} (seen : D → Seen) (session : ℕ) (writable structured : Bool) (scene : Scene D) → IsResting seen session writable scene.world → Served seen session writable structured scene scene 0
+served_none seen session writable structured scene rests = record {
   exchanges = [];
   fit = tt;
   moved = moved_none scene.flow;
@@ -60,10 +60,10 @@ served_none seen session writable scene rests = record {
   next = omega arith;
 }
 
-fit_more : (session size : ℕ) (writable : Bool) (xs : List Exchange) (x : Exchange) → AllFit session size writable xs → Fits session size writable x →
-    AllFit session size writable (xs ++ x ∷ [])
-fit_more session size writable [] x fit one = (one, tt)
-fit_more session size writable (y ∷ xs) x fit one = (fit.0, fit_more session size writable xs x fit.1 one)
+fit_more : (session size : ℕ) (writable structured : Bool) (xs : List Exchange) (x : Exchange) → AllFit session size writable structured xs → Fits session size writable structured x →
+    AllFit session size writable structured (xs ++ x ∷ [])
+fit_more session size writable structured [] x fit one = (one, tt)
+fit_more session size writable structured (y ∷ xs) x fit one = (fit.0, fit_more session size writable structured xs x fit.1 one)
 
 chained_more : (P : List Seen → Exchange → List Seen → Type 0) (old mid new : List Seen) (xs : List Exchange) (x : Exchange) → Chained P old xs mid → P mid x new → x.left ≡ new →
     Chained P old (xs ++ x ∷ []) new
@@ -81,10 +81,11 @@ rounds_more : (xs : List Exchange) (x : Exchange) → rounds (xs ++ x ∷ []) �
 rounds_more xs x = flat_map-append (λ y. y.calls) xs (x ∷ []) ∙ ap (λ (cs : List Call). rounds xs ++ cs) (append-nil x.calls)
 
 -- an exchange is as it may be
-its_fit : {D : Type 0} (seen : D → Seen) (session size : ℕ) (writable : Bool) (mid now : Scene D) (x : Exchange) → size_of (disks_in seen mid) ≡ size →
-    Exchanges seen session writable mid x now → Fits session size writable x
-its_fit seen session size writable mid now x same one = record {
+its_fit : {D : Type 0} (seen : D → Seen) (session size : ℕ) (writable structured : Bool) (mid now : Scene D) (x : Exchange) → size_of (disks_in seen mid) ≡ size →
+    Exchanges seen session writable structured mid x now → Fits session size writable structured x
+its_fit seen session size writable structured mid now x same one = record {
   message = one.message;
+  mode = one.mode;
   may = subst (λ (n : ℕ). MayGet n writable (ask x) x.verdict) same one.does.exchanged.may;
   round = record {
     body = one.does.body;
@@ -99,15 +100,15 @@ its_fit seen session size writable mid now x same one = record {
 }
 
 -- and one more
-pub served_more : {D : Type 0} (seen : D → Seen) (session : ℕ) (writable : Bool) (before mid now : Scene D) (count : ℕ) → Served seen session writable before mid count →
-    (one : (x : Exchange) × Exchanges seen session writable mid x now) → Served seen session writable before now (count + 1)
+pub served_more : {D : Type 0} (seen : D → Seen) (session : ℕ) (writable structured : Bool) (before mid now : Scene D) (count : ℕ) → Served seen session writable structured before mid count →
+    (one : (x : Exchange) × Exchanges seen session writable structured mid x now) → Served seen session writable structured before now (count + 1)
 served_more {D} seen session writable before mid now count served one =
     let xs : List Exchange = served.exchanges in
     let x : Exchange = one.0 in
     let did = one.1.does.exchanged in
     record {
       exchanges = xs ++ x ∷ [];
-      fit = fit_more session (size_of (disks_in seen before)) writable xs x served.fit (its_fit seen session (size_of (disks_in seen before)) writable mid now x (served.same.size 0) one.1);
+      fit = fit_more session (size_of (disks_in seen before)) writable structured xs x served.fit (its_fit seen session (size_of (disks_in seen before)) writable structured mid now x (served.same.size 0) one.1);
       moved =
           subst (λ (taken : List ℕ). Moved taken (answered (xs ++ x ∷ [])) before.flow now.flow) (sym (asked_more xs x))
           (subst (λ (given : List ℕ). Moved (asked xs ++ spelling x.message) given before.flow now.flow) (sym (answered_more xs x))
@@ -180,12 +181,12 @@ ending_kept (status.Ended other) f g rest input waiting ending = absurd ending
 ending_kept status.Memory f g rest input waiting ending = ending
 ending_kept other f g rest input waiting ending = absurd ending
 
-module _ {D : Type 0} (seen : D → Seen) (session : ℕ) (writable : Bool) (budget : ℕ) (before mid : Scene D) (count : ℕ) (served : Served seen session writable before mid count) where
+module _ {D : Type 0} (seen : D → Seen) (session : ℕ) (writable structured : Bool) (budget : ℕ) (before mid : Scene D) (count : ℕ) (served : Served seen session writable structured before mid count) where
   abbrev xs : List Exchange
   xs = served.exchanges
 
   abbrev Sits : Scene D → Status → Type 0
-  Sits after s = Sitting seen session writable budget before after s
+  Sits after s = Sitting seen session writable structured budget before after s
 
   -- a scene with the core of the last exchange
   sits_with : (final : Scene D) (rest : List ℕ) (s : Status) → Moved rest [] mid.flow final.flow → final.world ≡ mid.world → final.flow.stream.state ≡ side_of s →
@@ -258,17 +259,17 @@ module _ {D : Type 0} (seen : D → Seen) (session : ℕ) (writable : Bool) (bud
       (λ failed. fault_ends t.state budget served.exchanges (record { input = mid.flow.input; output = p; stream = t }) [] failed (inl nothing_front))
 
 -- a turn that goes on
-pub turned : {D : Type 0} (E : Type 0) (seen : D → Seen) (session : ℕ) (writable : Bool) (before after : Scene D) (reader : Reader) (t : Progress) → t ≡ progress.Goes →
-    ServesMessage {E = E} seen session writable before (Ok t) reader after → (x : Exchange) × (Exchanges seen session writable before x after × (reader ≡ between))
-turned E seen session writable before after reader t is turns = subst (λ (t : Progress). ServesMessage {E = E} seen session writable before (Ok t) reader after) is turns
+pub turned : {D : Type 0} (E : Type 0) (seen : D → Seen) (session : ℕ) (writable structured : Bool) (before after : Scene D) (reader : Reader) (t : Progress) → t ≡ progress.Goes →
+    ServesMessage {E = E} seen session writable structured before (Ok t) reader after → (x : Exchange) × (Exchanges seen session writable structured before x after × (reader ≡ between structured))
+turned E seen session writable structured before after reader t is turns = subst (λ (t : Progress). ServesMessage {E = E} seen session writable structured before (Ok t) reader after) is turns
 
 -- and one that ends the session
-pub turned_end : {D : Type 0} (E : Type 0) (seen : D → Seen) (session : ℕ) (writable : Bool) (before after : Scene D) (reader : Reader) (t : Progress) (s : Status) → t ≡ progress.Ends s →
-    ServesMessage {E = E} seen session writable before (Ok t) reader after → (after.flow.stream.state ≡ state.Open) × Stops before after (Ending s after.flow)
-turned_end E seen session writable before after reader t s is turns = subst (λ (t : Progress). ServesMessage {E = E} seen session writable before (Ok t) reader after) is turns
+pub turned_end : {D : Type 0} (E : Type 0) (seen : D → Seen) (session : ℕ) (writable structured : Bool) (before after : Scene D) (reader : Reader) (t : Progress) (s : Status) → t ≡ progress.Ends s →
+    ServesMessage {E = E} seen session writable structured before (Ok t) reader after → (after.flow.stream.state ≡ state.Open) × Stops before after (Ending s after.flow)
+turned_end E seen session writable structured before after reader t s is turns = subst (λ (t : Progress). ServesMessage {E = E} seen session writable structured before (Ok t) reader after) is turns
 
 -- a stream that failed gives the run's status
-pub fault_told : {F D : Type 0} (seen : D → Seen) (session : ℕ) (writable : Bool) (budget : ℕ) (before after : Scene D) (result : Result Status F) (P : F → Type 0) → IsErrAnd result P →
-    Sitting seen session writable budget before after (fault_at after.flow.stream.state) → Sitting seen session writable budget before after (status_by result after.flow.stream.state)
-fault_told seen session writable budget before after (Ok told) P is sits = absurd is
-fault_told seen session writable budget before after (Err e) P is sits = sits
+pub fault_told : {F D : Type 0} (seen : D → Seen) (session : ℕ) (writable structured : Bool) (budget : ℕ) (before after : Scene D) (result : Result Status F) (P : F → Type 0) → IsErrAnd result P →
+    Sitting seen session writable structured budget before after (fault_at after.flow.stream.state) → Sitting seen session writable structured budget before after (status_by result after.flow.stream.state)
+fault_told seen session writable structured budget before after (Ok told) P is sits = absurd is
+fault_told seen session writable structured budget before after (Err e) P is sits = sits

@@ -122,13 +122,13 @@ pub nothing_front : IsHeadFront []
 nothing_front = record { short = omega arith; magic = λ (four : 4 ≤ 0). absurd (omega arith) }
 
 -- what was taken before the next event is less than a message
-pub front_of : (taken : List ℕ) (new : Phase) → Reaches false (InHead []) taken None new → IsFront taken
-front_of taken (InHead held) reaches = inl (subst (λ (bytes : List ℕ). IsHeadFront bytes) reaches.0 reaches.1)
-front_of taken (Wants h) reaches = absurd reaches
-front_of taken (Filling h got) reaches = absurd reaches
-front_of taken (Skips h left) reaches = absurd reaches
-front_of taken Over reaches = absurd reaches
-front_of taken (Stuck bad) reaches = absurd reaches
+pub front_of : (structured : Bool) (taken : List ℕ) (new : Phase) → Reaches structured (InHead []) taken None new → IsFront taken
+front_of structured taken (InHead held) reaches = inl (subst (λ (bytes : List ℕ). IsHeadFront bytes) reaches.0 reaches.1)
+front_of structured taken (Wants h) reaches = absurd reaches
+front_of structured taken (Filling h got) reaches = absurd reaches
+front_of structured taken (Skips h left) reaches = absurd reaches
+front_of structured taken Over reaches = absurd reaches
+front_of structured taken (Stuck bad) reaches = absurd reaches
 
 -- and less than the data that are awaited
 pub less_data : (structured : Bool) (old new : Phase) (taken : List ℕ) → IsFilling old → Reaches structured old taken None new →
@@ -152,7 +152,7 @@ less_data s Over new taken filling reaches = absurd filling
 less_data s (Stuck bad) new taken filling reaches = absurd filling
 
 -- a stream that had failed brings no request
-pub asks_fault : {E : Type 0} (f : Flow) (reader : Reader) (result : Result Came E) (P : E → Type 0) → IsErrAnd result P → f.stream.state ≢ Open →
-    Asking f result reader f
-asks_fault f reader (Ok told) P is failed = absurd is
-asks_fault f reader (Err e) P is failed = record { taken = []; moved = moved_none f; tells = failed; comes = inl nothing_front }
+pub asks_fault : {E : Type 0} (structured : Bool) (f : Flow) (reader : Reader) (result : Result Came E) (P : E → Type 0) → IsErrAnd result P → f.stream.state ≢ Open →
+    Asking structured f result reader f
+asks_fault structured f reader (Ok told) P is failed = absurd is
+asks_fault structured f reader (Err e) P is failed = record { taken = []; moved = moved_none f; tells = failed; comes = inl nothing_front }

@@ -1,5 +1,5 @@
 -- What one request made of the core and of the output.
-use Rattle.std.specs.Prelude.{◌≡◌, ℕ, ◌+◌, Bool, false, List, [], ◌∷◌, Option}
+use Rattle.std.specs.Prelude.{◌≡◌, ℕ, ◌+◌, Bool, List, [], ◌∷◌, Option}
 use Rattle.qs_bytes.specs.declared.ask.Ask.{Ask}
 use Rattle.qs_bytes.specs.declared.ask.Verdict.{Verdict}
 use Rattle.qs_outside.specs.Blocks.{Seen}
@@ -18,8 +18,8 @@ pub record Does {D : Type 0} (seen : D → Seen) (session : ℕ) (writable : Boo
   pub rests : IsResting seen session writable new
 
 -- and its reply was put
-pub record Answers {D : Type 0} (seen : D → Seen) (session : ℕ) (writable : Bool) (a : Ask) (given : List ℕ) (old new : WorldValue D) (output : Side) (stream : Buffers) (output' : Side)
+pub record Answers {D : Type 0} (seen : D → Seen) (session : ℕ) (writable structured : Bool) (a : Ask) (given : List ℕ) (old new : WorldValue D) (output : Side) (stream : Buffers) (output' : Side)
     (stream' : Buffers) : Type 0 where
   pub verdict : Verdict
   pub does : Does seen session writable a given old verdict new
-  pub puts : Puts (reply_of false a verdict) output stream output' stream'
+  pub puts : Puts (reply_of structured a verdict) output stream output' stream'

@@ -53,11 +53,11 @@ Ends other budget exchanges after rest = Ending other after rest
 
 -- A session: requests were read one after the other, answered by the plain service, and their replies
 -- written in order, a front of them where a side failed.
-pub record Sitting {D : Type 0} (seen : D → Seen) (session : ℕ) (writable : Bool) (budget : ℕ) (before after : Scene D) (result : Status) : Type 0 where
+pub record Sitting {D : Type 0} (seen : D → Seen) (session : ℕ) (writable structured : Bool) (budget : ℕ) (before after : Scene D) (result : Status) : Type 0 where
   -- the requests that were answered, and the bytes that were taken behind them
   pub exchanges : List Exchange
   pub rest : List ℕ
-  pub fit : AllFit session (size_of (disks_in seen before)) writable exchanges
+  pub fit : AllFit session (size_of (disks_in seen before)) writable structured exchanges
   -- what was read is the requests and the rest; what was given to the output is their replies
   pub moved : Moved (asked exchanges ++ rest) (answered exchanges) before.flow after.flow
   pub failed : after.flow.stream.state ≡ side_of result
@@ -91,7 +91,7 @@ pub record Sits {D : Type 0} (seen : D → Seen) (disks : List D) (read_only : B
   pub info : ExportInfo
   pub attaches : Attaches seen 0 (not read_only) start (codes "disk") info begun
   pub stream : Buffers
-  pub sits : Sitting seen 0 (not read_only) budget (first input output begun) (last_scene input' output' stream new) result
+  pub sits : Sitting seen 0 (not read_only) false budget (first input output begun) (last_scene input' output' stream new) result
   pub run : HasRun seen (map seen disks) read_only start (Happened (Attach 0 (codes "disk")) (Attached info) ∷ rounds sits.exchanges) new
 
 -- One client was served over a core that was just opened; or memory was refused before, and nothing was read or written.

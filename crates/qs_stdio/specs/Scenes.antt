@@ -70,8 +70,9 @@ Ending (Ended (end.TooLong size)) after rest =
 Ending other after rest = ⊥
 
 -- one request was read and answered
-pub record Exchanges {D : Type 0} (seen : D → Seen) (session : ℕ) (writable : Bool) (before : Scene D) (x : Exchange) (after : Scene D) : Type 0 where
+pub record Exchanges {D : Type 0} (seen : D → Seen) (session : ℕ) (writable structured : Bool) (before : Scene D) (x : Exchange) (after : Scene D) : Type 0 where
   pub message : IsMessage x.message
+  pub mode : x.structured ≡ structured
   pub moved : Moved (spelling x.message) (reply x) before.flow after.flow
   pub does : Does seen session writable (ask x) x.message.body before.world x.verdict after.world
   pub calls_are : x.calls ≡ Happened (AskEvent session (ask x) does.body) (Made does.exchanged.number) ∷ does.exchanged.steps

@@ -1,5 +1,5 @@
 -- The requests of a session and their answers, one after the other, and the disks between them.
-use Rattle.std.specs.Prelude.{◌≡◌, ℕ, Bool, false, List, [], ◌∷◌, ◌++◌, Option, Some, flat_map}
+use Rattle.std.specs.Prelude.{◌≡◌, ℕ, Bool, List, [], ◌∷◌, ◌++◌, Option, Some, flat_map}
 use Rattle.std.specs.List.{AllByRecursion}
 use Rattle.qs_bytes.specs.declared.ask.Ask.{Ask}
 use Rattle.qs_bytes.specs.declared.ask.Verdict.{Verdict}
@@ -18,16 +18,17 @@ use Rattle.qs_single.specs.Remaining.{Outlasts}
 use Rattle.qs_single.specs.Resting.{IsBody}
 use Rattle.qs_single.specs.Service.{Called, Leads, MayGet}
 
--- a request, its answer, the calls of the core that it was, and the disks as it left them
+-- a request, whether replies are structured ones, its answer, the calls of the core that it was, and the disks as it left them
 pub record Exchange : Type 0 where
   pub message : Message
+  pub structured : Bool
   pub verdict : Verdict
   pub calls : List Call
   pub left : List Seen
 
 -- what the request asks for
 abbrev pub ask : Exchange → Ask
-ask x = ask_of false x.message.head
+ask x = ask_of x.structured x.message.head
 
 -- The calls of one request of a session: it is asked, with the data of a WRITE where memory was given for them, and does its steps up
 -- to its answer.
@@ -41,14 +42,15 @@ pub record IsRound (session : ℕ) (x : Exchange) : Type 0 where
   pub calls_are : x.calls ≡ Happened (AskEvent session (ask x) body) (Made number) ∷ steps
   pub ran : RunsOut (Step (ARequest number) now) steps (Answered x.verdict note)
 
--- a request that is answered as it may be, by its calls
-pub record Fits (session size : ℕ) (writable : Bool) (x : Exchange) : Type 0 where
+-- a request of a session with such replies that is answered as it may be, by its calls
+pub record Fits (session size : ℕ) (writable structured : Bool) (x : Exchange) : Type 0 where
   pub message : IsMessage x.message
+  pub mode : x.structured ≡ structured
   pub may : MayGet size writable (ask x) x.verdict
   pub round : IsRound session x
 
-abbrev pub AllFit : ℕ → ℕ → Bool → List Exchange → Type 0
-AllFit session size writable xs = AllByRecursion (Fits session size writable) xs
+abbrev pub AllFit : ℕ → ℕ → Bool → Bool → List Exchange → Type 0
+AllFit session size writable structured xs = AllByRecursion (Fits session size writable structured) xs
 
 -- each request leads on from the content that the one before left
 abbrev pub LeadsAll : List ℕ → List Exchange → List ℕ → Type 0
@@ -72,7 +74,7 @@ abbrev pub asked : List Exchange → List ℕ
 asked xs = flat_map (λ x. spelling x.message) xs
 
 abbrev pub reply : Exchange → List ℕ
-reply x = reply_of false (ask x) x.verdict
+reply x = reply_of x.structured (ask x) x.verdict
 
 abbrev pub answered : List Exchange → List ℕ
 answered xs = flat_map reply xs

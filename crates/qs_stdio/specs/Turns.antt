@@ -37,17 +37,17 @@ HasRoom size (Keep buffer) = length buffer ≡ size
 HasRoom size (Drop count) = count ≡ size
 
 -- a request came, or the session ended; where the stream failed, less than a message came
-abbrev pub Comes : {E : Type 0} → List ℕ → Result Came E → Reader → Flow → Type 0
-Comes taken (Ok (came.Asked asked)) new after = IsServed false taken asked new.phase × (new.structured ≡ false)
-Comes taken (Ok (came.Ends status)) new after = Ending status after taken
-Comes taken (Err e) new after = IsFront taken
+abbrev pub Comes : {E : Type 0} → Bool → List ℕ → Result Came E → Reader → Flow → Type 0
+Comes structured taken (Ok (came.Asked asked)) new after = IsServed structured taken asked new.phase × (new.structured ≡ structured)
+Comes structured taken (Ok (came.Ends status)) new after = Ending status after taken
+Comes structured taken (Err e) new after = IsFront taken
 
 -- the next request was sought
-pub record Asking {E : Type 0} (before : Flow) (result : Result Came E) (new : Reader) (after : Flow) : Type 0 where
+pub record Asking {E : Type 0} (structured : Bool) (before : Flow) (result : Result Came E) (new : Reader) (after : Flow) : Type 0 where
   pub taken : List ℕ
   pub moved : Moved taken [] before after
   pub tells : Tells result after.stream.state
-  pub comes : Comes taken result new after
+  pub comes : Comes structured taken result new after
 
 -- data are read, or passed over, and none has come yet
 abbrev pub IsFilling : Phase → Type 0
@@ -85,35 +85,35 @@ pub record Bringing {E : Type 0} (old : Reader) (before : Flow) (result : Result
   pub brings : Brings old taken result new after
 
 -- room for the data of this WRITE is awaited
-abbrev pub AwaitsRoom : Reader → Ask → Type 0
-AwaitsRoom reader a = (h : RequestHead) × ((reader ≡ record { structured = false; phase = Wants h }) × (h.size ≡ a.length))
+abbrev pub AwaitsRoom : Bool → Reader → Ask → Type 0
+AwaitsRoom structured reader a = (h : RequestHead) × ((reader ≡ record { structured = structured; phase = Wants h }) × (h.size ≡ a.length))
 
 -- the next request is awaited
-abbrev pub between : Reader
-between = record { structured = false; phase = InHead [] }
+abbrev pub between : Bool → Reader
+between structured = record { structured = structured; phase = InHead [] }
 
 -- data were taken, and a request was answered
-pub record Answered {D : Type 0} (seen : D → Seen) (session : ℕ) (writable : Bool) (a : Ask) (body : List ℕ) (before after : Scene D) : Type 0 where
+pub record Answered {D : Type 0} (seen : D → Seen) (session : ℕ) (writable structured : Bool) (a : Ask) (body : List ℕ) (before after : Scene D) : Type 0 where
   pub verdict : Verdict
   pub does : Does seen session writable a body before.world verdict after.world
-  pub moved : Moved body (reply_of false a verdict) before.flow after.flow
+  pub moved : Moved body (reply_of structured a verdict) before.flow after.flow
 
 -- a request that no data follow was answered, or there was no memory for it, and nothing changed
-abbrev pub AnswersBare : {D : Type 0} → (D → Seen) → ℕ → Bool → Ask → WorldValue D → Progress → WorldValue D → Side → Buffers → Side → Buffers → Type 0
-AnswersBare seen session writable a old progress.Goes new o s p t = Answers seen session writable a [] old new o s p t
-AnswersBare seen session writable a old (progress.Ends status) new o s p t = (status ≡ Memory) × (new ≡ old) × (t ≡ s) × (p ≡ o)
+abbrev pub AnswersBare : {D : Type 0} → (D → Seen) → ℕ → Bool → Bool → Ask → WorldValue D → Progress → WorldValue D → Side → Buffers → Side → Buffers → Type 0
+AnswersBare seen session writable structured a old progress.Goes new o s p t = Answers seen session writable structured a [] old new o s p t
+AnswersBare seen session writable structured a old (progress.Ends status) new o s p t = (status ≡ Memory) × (new ≡ old) × (t ≡ s) × (p ≡ o)
 
 -- The data of a WRITE came and it was answered; or the session ended within them, or behind them for want of memory.
-abbrev pub Finishes : {E D : Type 0} → (D → Seen) → ℕ → Bool → Ask → Scene D → Result Progress E → Reader → Scene D → Type 0
-Finishes seen session writable a before (Ok progress.Goes) new after =
-    (body : List ℕ) × ((length body ≡ a.length) × Answered seen session writable a body before after × (new ≡ between))
-Finishes seen session writable a before (Ok (progress.Ends Memory)) new after = (after.flow.stream.state ≡ Open) × Stops before after (λ taken. length taken ≡ a.length)
-Finishes seen session writable a before (Ok (progress.Ends status)) new after =
+abbrev pub Finishes : {E D : Type 0} → (D → Seen) → ℕ → Bool → Bool → Ask → Scene D → Result Progress E → Reader → Scene D → Type 0
+Finishes seen session writable structured a before (Ok progress.Goes) new after =
+    (body : List ℕ) × ((length body ≡ a.length) × Answered seen session writable structured a body before after × (new ≡ between structured))
+Finishes seen session writable structured a before (Ok (progress.Ends Memory)) new after = (after.flow.stream.state ≡ Open) × Stops before after (λ taken. length taken ≡ a.length)
+Finishes seen session writable structured a before (Ok (progress.Ends status)) new after =
     (status ≡ Ended end.Truncated) × IsUsedUp after.flow × (after.flow.stream.state ≡ Open) × Stops before after (λ taken. length taken < a.length)
-Finishes seen session writable a before (Err e) new after = (after.flow.stream.state ≢ Open) × Stops before after (λ taken. length taken < a.length)
+Finishes seen session writable structured a before (Err e) new after = (after.flow.stream.state ≢ Open) × Stops before after (λ taken. length taken < a.length)
 
 -- A request came and was answered, or the session ended before, or the stream failed within it.
-abbrev pub ServesMessage : {E D : Type 0} → (D → Seen) → ℕ → Bool → Scene D → Result Progress E → Reader → Scene D → Type 0
-ServesMessage seen session writable before (Ok progress.Goes) new after = (x : Exchange) × (Exchanges seen session writable before x after × (new ≡ between))
-ServesMessage seen session writable before (Ok (progress.Ends status)) new after = (after.flow.stream.state ≡ Open) × Stops before after (Ending status after.flow)
-ServesMessage seen session writable before (Err e) new after = (after.flow.stream.state ≢ Open) × Stops before after IsFront
+abbrev pub ServesMessage : {E D : Type 0} → (D → Seen) → ℕ → Bool → Bool → Scene D → Result Progress E → Reader → Scene D → Type 0
+ServesMessage seen session writable structured before (Ok progress.Goes) new after = (x : Exchange) × (Exchanges seen session writable structured before x after × (new ≡ between structured))
+ServesMessage seen session writable structured before (Ok (progress.Ends status)) new after = (after.flow.stream.state ≡ Open) × Stops before after (Ending status after.flow)
+ServesMessage seen session writable structured before (Err e) new after = (after.flow.stream.state ≢ Open) × Stops before after IsFront

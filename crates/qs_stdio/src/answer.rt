@@ -13,12 +13,6 @@ use qs_world::world::World;
 use std::alloc::Global;
 use std::mem;
 
-/// This service's sessions agreed on nothing: every reply is a simple one.
-const MODE: Mode = Mode {
-    no_zeroes: false,
-    structured: false,
-};
-
 /// The number of the one session.
 pub const SESSION: u32 = 0;
 
@@ -34,12 +28,18 @@ fn put_data<O: Sink>(stream: &mut Stream, output: &mut O, verdict: &Verdict)
 }
 
 /// Puts the reply to a request: its head, and behind that of a READ its data.
-fn put_reply<O: Sink>(stream: &mut Stream, output: &mut O, ask: &Ask, verdict: &Verdict)
+fn put_reply<O: Sink>(
+    stream: &mut Stream,
+    output: &mut O,
+    mode: &Mode,
+    ask: &Ask,
+    verdict: &Verdict,
+)
     requires { CanReply ask.now verdict.now }
-    ensures { Puts (reply_of false ask.now verdict.now) (side O.sent O.write_faults output.old) stream.old
+    ensures { Puts (reply_of mode.now.structured ask.now verdict.now) (side O.sent O.write_faults output.old) stream.old
         (side O.sent O.write_faults output.new) stream.new }
 {
-    let head = reply_head(&MODE, ask, verdict);
+    let head = reply_head(mode, ask, verdict);
     stream.put(output, head.as_slice());
     put_data(stream, output, verdict);
 }
@@ -49,6 +49,7 @@ pub fn respond<O: Sink, D: Disk + Drop>(
     stream: &mut Stream,
     output: &mut O,
     world: &mut World<D>,
+    mode: &Mode,
     ask: &Ask,
     body: Option<Bytes>,
     now: u64,
@@ -58,13 +59,13 @@ pub fn respond<O: Sink, D: Disk + Drop>(
     requires body { (given : List ℕ) × IsBody ask.now given body }
     ensures does { IfSome result (λ v. (writable : Bool) (given : List ℕ) → IsResting D.seen 0 writable world.old → IsBody ask.now given body →
         Does D.seen 0 writable ask.now given world.old v world.new) }
-    ensures puts { IfSome result (λ v. Puts (reply_of false ask.now v) (side O.sent O.write_faults output.old) stream.old
+    ensures puts { IfSome result (λ v. Puts (reply_of mode.now.structured ask.now v) (side O.sent O.write_faults output.old) stream.old
         (side O.sent O.write_faults output.new) stream.new) }
     ensures none { IfNone result ((world.new ≡ world.old) × (stream.new ≡ stream.old)
         × (side O.sent O.write_faults output.new ≡ side O.sent O.write_faults output.old)) }
 {
     let verdict = answer(world, SESSION, *ask, body, now)?;
-    put_reply(stream, output, ask, &verdict);
+    put_reply(stream, output, mode, ask, &verdict);
     Some(verdict)
 }
 

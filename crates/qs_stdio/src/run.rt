@@ -15,6 +15,7 @@ use crate::answer::SESSION;
 use crate::serve::Progress;
 use crate::session::Session;
 use crate::words::stdio_words;
+use qs_bytes::Mode;
 use qs_calls::open_core;
 use qs_outside::{Clock, Disk, Failed, Sink, Source};
 use qs_single::attach;
@@ -50,6 +51,7 @@ impl Session {
     fn serve_all<I: Source, O: Sink, D: Disk + Drop, C: Clock>(
         &mut self,
         alloc: Global,
+        mode: &Mode,
         budget: u64,
         input: &mut I,
         output: &mut O,
@@ -58,14 +60,14 @@ impl Session {
     ) -> Result<Status, Failed>
         requires resting { (writable : Bool) × IsResting D.seen 0 writable world.old }
         requires room { world.old.next + budget ≤ 2 ^ 64 - 1 }
-        requires between { self.old.reader ≡ between }
-        ensures { (writable : Bool) → IsResting D.seen 0 writable world.old → Sitting D.seen 0 writable budget
+        requires between { self.old.reader ≡ between mode.now.structured }
+        ensures { (writable : Bool) → IsResting D.seen 0 writable world.old → Sitting D.seen 0 writable mode.now.structured budget
             (scene I.left I.read_faults O.sent O.write_faults input.old output.old self.old.stream world.old)
             (scene I.left I.read_faults O.sent O.write_faults input.new output.new self.new.stream world.new)
             (status_by result self.new.stream.state) }
     {
         for _ in 0..budget {
-            match self.serve_one(alloc, input, output, world, clock.now())? {
+            match self.serve_one(alloc, input, output, world, mode, clock.now())? {
                 Progress::Goes => {}
                 Progress::Ends(status) => return finish(&mut self.stream, output, status),
             }
@@ -77,6 +79,7 @@ impl Session {
     pub fn serve<I: Source, O: Sink, D: Disk + Drop, C: Clock>(
         &mut self,
         alloc: Global,
+        mode: &Mode,
         budget: u64,
         input: &mut I,
         output: &mut O,
@@ -85,18 +88,24 @@ impl Session {
     ) -> Status
         requires resting { (writable : Bool) × IsResting D.seen 0 writable world.old }
         requires room { world.old.next + budget ≤ 2 ^ 64 - 1 }
-        requires between { self.old.reader ≡ between }
-        ensures { (writable : Bool) → IsResting D.seen 0 writable world.old → Sitting D.seen 0 writable budget
+        requires between { self.old.reader ≡ between mode.now.structured }
+        ensures { (writable : Bool) → IsResting D.seen 0 writable world.old → Sitting D.seen 0 writable mode.now.structured budget
             (scene I.left I.read_faults O.sent O.write_faults input.old output.old self.old.stream world.old)
             (scene I.left I.read_faults O.sent O.write_faults input.new output.new self.new.stream world.new)
             result }
     {
-        match self.serve_all(alloc, budget, input, output, world, clock) {
+        match self.serve_all(alloc, mode, budget, input, output, world, clock) {
             Ok(status) => status,
             Err(_) => fault(&self.stream),
         }
     }
 }
+
+/// Sessions without a handshake agreed on nothing: every reply is a simple one.
+const MODE: Mode = Mode {
+    no_zeroes: false,
+    structured: false,
+};
 
 /// Serves one client over a core that was just opened: its session begins at the export `disk`, and at most
 /// `budget` requests are read from the input, answered in order and replied to on the output, by the
@@ -114,13 +123,13 @@ pub fn serve_stream<I: Source, O: Sink, D: Disk + Drop, C: Clock>(
         (side I.left I.read_faults input.old) (side O.sent O.write_faults output.old) world.old result
         (side I.left I.read_faults input.new) (side O.sent O.write_faults output.new) world.new }
 {
-    let Ok(mut session) = Session::new(alloc) else {
+    let Ok(mut session) = Session::new(alloc, MODE) else {
         return Status::Memory;
     };
     let Some(_) = attach(world, SESSION) else {
         return Status::Memory;
     };
-    session.serve(alloc, budget, input, output, world, clock)
+    session.serve(alloc, &MODE, budget, input, output, world, clock)
 }
 
 /// How many messages one call reads at most.

@@ -9,7 +9,7 @@ ghost use Rattle.qs_stdio.specs.Turns.{AnswersBare, AwaitsRoom, Finishes, Serves
 
 use crate::answer::{keep_body, keep_buffer, read_buffer, respond};
 use crate::session::{Came, Session, room_for};
-use qs_bytes::{Ask, Bytes};
+use qs_bytes::{Ask, Bytes, Mode};
 use qs_nbd_transmission::{Room, awaits_data};
 use qs_outside::{Disk, Failed, Sink, Source};
 use qs_status::{SessionEnd, Status};
@@ -41,6 +41,7 @@ impl Session {
         input: &mut I,
         output: &mut O,
         world: &mut World<D>,
+        mode: &Mode,
         ask: &Ask,
         now: u64,
     ) -> Result<Progress, Failed>
@@ -48,9 +49,9 @@ impl Session {
         requires room { world.old.next < 2 ^ 64 - 1 }
         requires data { has_data ask.now ≡ true }
         requires short { ask.now.length ≤ max_payload }
-        requires awaits { AwaitsRoom self.old.reader ask.now }
+        requires awaits { AwaitsRoom mode.now.structured self.old.reader ask.now }
         requires ongoing { self.old.stream.state ≡ Open }
-        ensures { (writable : Bool) → IsResting D.seen 0 writable world.old → Finishes D.seen 0 writable ask.now
+        ensures { (writable : Bool) → IsResting D.seen 0 writable world.old → Finishes D.seen 0 writable mode.now.structured ask.now
             (scene I.left I.read_faults O.sent O.write_faults input.old output.old self.old.stream world.old)
             result self.new.reader
             (scene I.left I.read_faults O.sent O.write_faults input.new output.new self.new.stream world.new) }
@@ -62,7 +63,7 @@ impl Session {
             None => return Ok(Progress::Ends(Status::Ended(SessionEnd::Truncated))),
         };
         let body = body_of(room);
-        let Some(verdict) = respond(&mut self.stream, output, world, ask, body, now) else {
+        let Some(verdict) = respond(&mut self.stream, output, world, mode, ask, body, now) else {
             return Ok(Progress::Ends(Status::Memory));
         };
         keep_buffer(&mut self.spare, verdict);
@@ -76,6 +77,7 @@ impl Session {
         alloc: Global,
         output: &mut O,
         world: &mut World<D>,
+        mode: &Mode,
         ask: &Ask,
         now: u64,
     ) -> Progress
@@ -83,11 +85,11 @@ impl Session {
         requires room { world.old.next < 2 ^ 64 - 1 }
         requires bare { has_data ask.now ≡ false }
         ensures reader { self.new.reader ≡ self.old.reader }
-        ensures bare { (writable : Bool) → IsResting D.seen 0 writable world.old → AnswersBare D.seen 0 writable ask.now world.old result world.new
+        ensures bare { (writable : Bool) → IsResting D.seen 0 writable world.old → AnswersBare D.seen 0 writable mode.now.structured ask.now world.old result world.new
             (side O.sent O.write_faults output.old) self.old.stream (side O.sent O.write_faults output.new) self.new.stream }
     {
         let body = read_buffer(alloc, &mut self.spare, ask);
-        match respond(&mut self.stream, output, world, ask, body, now) {
+        match respond(&mut self.stream, output, world, mode, ask, body, now) {
             Some(verdict) => {
                 keep_buffer(&mut self.spare, verdict);
                 Progress::Goes
@@ -104,23 +106,24 @@ impl Session {
         input: &mut I,
         output: &mut O,
         world: &mut World<D>,
+        mode: &Mode,
         now: u64,
     ) -> Result<Progress, Failed>
         requires resting { (writable : Bool) × IsResting D.seen 0 writable world.old }
         requires room { world.old.next < 2 ^ 64 - 1 }
-        requires between { self.old.reader ≡ between }
-        ensures { (writable : Bool) → IsResting D.seen 0 writable world.old → ServesMessage D.seen 0 writable
+        requires between { self.old.reader ≡ between mode.now.structured }
+        ensures { (writable : Bool) → IsResting D.seen 0 writable world.old → ServesMessage D.seen 0 writable mode.now.structured
             (scene I.left I.read_faults O.sent O.write_faults input.old output.old self.old.stream world.old)
             result self.new.reader
             (scene I.left I.read_faults O.sent O.write_faults input.new output.new self.new.stream world.new) }
     {
-        let ask = match self.next_ask(input, output)? {
+        let ask = match self.next_ask(mode, input, output)? {
             Came::Asked(ask) => ask,
             Came::Ends(status) => return Ok(Progress::Ends(status)),
         };
         if awaits_data(&ask) {
-            return self.serve_data(alloc, input, output, world, &ask, now);
+            return self.serve_data(alloc, input, output, world, mode, &ask, now);
         }
-        Ok(self.serve_bare(alloc, output, world, &ask, now))
+        Ok(self.serve_bare(alloc, output, world, mode, &ask, now))
     }
 }

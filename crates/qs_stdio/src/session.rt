@@ -55,13 +55,9 @@ pub fn room_for(alloc: Global, spare: &mut Vec<u8>, size: u64) -> Room
 
 impl Session {
     /// A session whose first request is awaited.
-    pub fn new(alloc: Global) -> Result<Self, Memory>
-        ensures { IfOk result (λ s. (s.reader ≡ between) × (s.stream ≡ new_buffers)) }
+    pub fn new(alloc: Global, mode: Mode) -> Result<Self, Memory>
+        ensures { IfOk result (λ s. (s.reader ≡ between mode.structured) × (s.stream ≡ new_buffers)) }
     {
-        let mode = Mode {
-            no_zeroes: false,
-            structured: false,
-        };
         Ok(Session {
             reader: Transmission::new(mode),
             stream: Stream::new(alloc)?,
@@ -72,11 +68,12 @@ impl Session {
     /// The next request, between requests.
     pub fn next_ask<I: Source, O: Sink>(
         &mut self,
+        mode: &Mode,
         input: &mut I,
         output: &mut O,
     ) -> Result<Came, Failed>
-        requires between { self.old.reader ≡ between }
-        ensures { Asking (flow I.left I.read_faults O.sent O.write_faults input.old output.old self.old.stream) result
+        requires between { self.old.reader ≡ between mode.now.structured }
+        ensures { Asking mode.now.structured (flow I.left I.read_faults O.sent O.write_faults input.old output.old self.old.stream) result
             self.new.reader (flow I.left I.read_faults O.sent O.write_faults input.new output.new self.new.stream) }
     {
         self.stream.check()?;

@@ -25,5 +25,5 @@ returns g c = λ disks read_only begins.
     serves_stream seen disks read_only c.args.budget input output c.args.world.now c.serve.result input' output' c.serve.new.world
     (sits_of seen disks read_only c.args.budget input output c.args.world.now c.attach.new.world c.in-Some.field-0 c.serve.result input' output' c.serve.new.self.stream c.serve.new.world
     begins attached
-    (subst (λ (b : Buffers). Sitting seen 0 (not read_only) c.args.budget (last_scene input output b c.attach.new.world) (last_scene input' output' c.serve.new.self.stream c.serve.new.world) c.serve.result)
+    (subst (λ (b : Buffers). Sitting seen 0 (not read_only) false c.args.budget (last_scene input output b c.attach.new.world) (last_scene input' output' c.serve.new.self.stream c.serve.new.world) c.serve.result)
     c.in-Ok.ensures.1 (c.serve.ensures (not read_only) attached.rests)))
