@@ -52,9 +52,9 @@ few_read (x ∷ xs) (m ∷ ms) rest last p q none e =
 asked_is : (xs : List Exchange) → flat_map spelling (map (λ (x : Exchange). x.message) xs) ≡ asked xs
 asked_is xs = flat_map-map spelling (λ (x : Exchange). x.message) xs
 
-each_message : (session size : ℕ) (writable : Bool) (xs : List Exchange) → AllFit session size writable xs → AllByRecursion IsMessage (map (λ (x : Exchange). x.message) xs)
-each_message session size writable [] fit = tt
-each_message session size writable (x ∷ xs) fit = (fit.0.message, each_message session size writable xs fit.1)
+each_message : (session size : ℕ) (writable structured : Bool) (xs : List Exchange) → AllFit session size writable structured xs → AllByRecursion IsMessage (map (λ (x : Exchange). x.message) xs)
+each_message session size writable structured [] fit = tt
+each_message session size writable structured (x ∷ xs) fit = (fit.0.message, each_message session size writable structured xs fit.1)
 
 -- what is left of the stream behind the bytes that were taken
 record Split (stream taken : List ℕ) (left : Option (List ℕ)) (waiting : List ℕ) : Type 0 where
@@ -88,10 +88,10 @@ last_none last (inl is) = subst (λ (xs : List ℕ). BeginsNone xs) (sym is) (re
 last_none last (inr leaves) = leaves_none last leaves
 
 -- a rest that begins with no message is the stream's last part
-rest_is : (xs : List Exchange) (ms : List Message) (session size : ℕ) (writable : Bool) (stream rest last : List ℕ) → AllFit session size writable xs → All IsMessage ms →
+rest_is : (xs : List Exchange) (ms : List Message) (session size : ℕ) (writable structured : Bool) (stream rest last : List ℕ) → AllFit session size writable structured xs → All IsMessage ms →
     BeginsNone rest → BeginsNone last → stream ≡ asked xs ++ rest → stream ≡ flat_map spelling ms ++ last → rest ≡ last
-rest_is xs ms session size writable stream rest last fit each none never one other =
-    (one_reading (map (λ (x : Exchange). x.message) xs) ms rest last (All-from_recursion _ _ (each_message session size writable xs fit)) each none never
+rest_is xs ms session size writable structured stream rest last fit each none never one other =
+    (one_reading (map (λ (x : Exchange). x.message) xs) ms rest last (All-from_recursion _ _ (each_message session size writable structured xs fit)) each none never
     (ap (λ (bytes : List ℕ). bytes ++ rest) (asked_is xs) ∙ sym one ∙ other)).1
 
 -- a DISC is no WRITE
@@ -162,9 +162,9 @@ opens_not disks (bad.Align a) is opens = opens.1.1 is.1.0
 opens_not disks (bad.Length n) is opens = opens.1.2 is.1.1
 opens_not disks (bad.TooLarge n) is opens = absurd (omega (arith, opens.1.0, opens.1.3, is.1.2))
 
-module _ {D : Type 0} (seen : D → Seen) (session : ℕ) (writable : Bool) (stream : List ℕ) (before after : Scene D) (valid : IsValidStream stream) (told : before.flow.input.bytes ≡ Some stream) (nothing : before.flow.stream.waiting ≡ []) where
+module _ {D : Type 0} (seen : D → Seen) (session : ℕ) (writable structured : Bool) (stream : List ℕ) (before after : Scene D) (valid : IsValidStream stream) (told : before.flow.input.bytes ≡ Some stream) (nothing : before.flow.stream.waiting ≡ []) where
   abbrev Sits : Status → Type 0
-  Sits s = Sitting seen session writable (2 ^ 32) before after s
+  Sits s = Sitting seen session writable structured (2 ^ 32) before after s
 
   -- what was taken, and what is left
   parts : (s : Status) (sits : Sits s) → Split stream (asked sits.exchanges ++ sits.rest) after.flow.input.bytes after.flow.stream.waiting
@@ -177,7 +177,7 @@ module _ {D : Type 0} (seen : D → Seen) (session : ℕ) (writable : Bool) (str
   ends_stream : (s : Status) (sits : Sits s) → BeginsNone (sits.rest ++ (parts s sits).remaining) →
       sits.rest ++ (parts s sits).remaining ≡ valid.last
   ends_stream s sits none =
-      rest_is sits.exchanges valid.messages session (size_of (disks_in seen before)) writable stream (sits.rest ++ (parts s sits).remaining) valid.last sits.fit valid.each none
+      rest_is sits.exchanges valid.messages session (size_of (disks_in seen before)) writable structured stream (sits.rest ++ (parts s sits).remaining) valid.last sits.fit valid.each none
       (last_none valid.last valid.ends) ((parts s sits).whole ∙ append_assoc (asked sits.exchanges) sits.rest (parts s sits).remaining) valid.whole
 
   -- the budget isn't spent
@@ -186,7 +186,7 @@ module _ {D : Type 0} (seen : D → Seen) (session : ℕ) (writable : Bool) (str
       let xs : List Message = map (λ (x : Exchange). x.message) sits.exchanges in
       let behind : List ℕ = sits.rest ++ (parts status.Spent sits).remaining in
       let fewer : length xs ≤ length valid.messages =
-      few_read xs valid.messages behind valid.last (All-from_recursion _ _ (each_message session (size_of (disks_in seen before)) writable sits.exchanges sits.fit)) valid.each (last_none valid.last valid.ends)
+      few_read xs valid.messages behind valid.last (All-from_recursion _ _ (each_message session (size_of (disks_in seen before)) writable structured sits.exchanges sits.fit)) valid.each (last_none valid.last valid.ends)
       (ap (λ (bytes : List ℕ). bytes ++ behind) (asked_is sits.exchanges)
       ∙ sym ((parts status.Spent sits).whole ∙ append_assoc (asked sits.exchanges) sits.rest (parts status.Spent sits).remaining)
       ∙ valid.whole) in
@@ -228,6 +228,6 @@ complete_of seen words disks disks' input output status.WriteFault input' output
 complete_of seen words disks disks' input output (status.BadLine n) input' output' stream ran is valid told command image read write = absurd ran.2.sits.sits.ends
 complete_of seen words disks disks' input output (status.NotNext n) input' output' stream ran is valid told command image read write = absurd ran.2.sits.sits.ends
 complete_of seen words disks disks' input output status.Spent input' output' stream ran is valid told command image read write =
-    absurd (not_spent seen 0 (not ran.0.read_only) stream (first input output ran.2.sits.begun) (last_scene input' output' ran.2.sits.stream ran.2.new) valid is refl ran.2.sits.sits)
+    absurd (not_spent seen 0 (not ran.0.read_only) false stream (first input output ran.2.sits.begun) (last_scene input' output' ran.2.sits.stream ran.2.new) valid is refl ran.2.sits.sits)
 complete_of seen words disks disks' input output (status.Ended e) input' output' stream ran is valid told command image read write =
-    absurd (not_ended seen 0 (not ran.0.read_only) stream (first input output ran.2.sits.begun) (last_scene input' output' ran.2.sits.stream ran.2.new) valid is refl e ran.2.sits.sits)
+    absurd (not_ended seen 0 (not ran.0.read_only) false stream (first input output ran.2.sits.begun) (last_scene input' output' ran.2.sits.stream ran.2.new) valid is refl e ran.2.sits.sits)

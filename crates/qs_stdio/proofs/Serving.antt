@@ -102,7 +102,7 @@ its_fit seen session size writable structured mid now x same one = record {
 -- and one more
 pub served_more : {D : Type 0} (seen : D → Seen) (session : ℕ) (writable structured : Bool) (before mid now : Scene D) (count : ℕ) → Served seen session writable structured before mid count →
     (one : (x : Exchange) × Exchanges seen session writable structured mid x now) → Served seen session writable structured before now (count + 1)
-served_more {D} seen session writable before mid now count served one =
+served_more {D} seen session writable structured before mid now count served one =
     let xs : List Exchange = served.exchanges in
     let x : Exchange = one.0 in
     let did = one.1.does.exchanged in

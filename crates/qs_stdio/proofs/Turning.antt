@@ -81,7 +81,7 @@ body_length head body b is long = long ∙ ap (λ (c : Bool). if c then head.siz
 pub exchanged : {D : Type 0} (seen : D → Seen) (session : ℕ) (writable structured : Bool) (before : Scene D) (mid : Flow) (after : Scene D) (taken body : List ℕ) (a : Ask) (phase : Phase) (b : Bool) →
     IsServed structured taken a phase → has_data a ≡ b → length body ≡ (if b then a.length else 0) → Moved taken [] before.flow mid →
     Answered seen session writable structured a body (record { flow = mid; world = before.world }) after → (x : Exchange) × Exchanges seen session writable structured before x after
-exchanged {D} seen session writable before mid after taken body a phase b is has long moved answered =
+exchanged {D} seen session writable structured before mid after taken body a phase b is has long moved answered =
     let head : RequestHead = head_of taken in
     let here : Scene D = record { flow = mid; world = before.world } in
     let answered' : Answered seen session writable structured (ask_of structured head) body here after =

@@ -1,5 +1,5 @@
 -- The session was attached, and sat.
-use Rattle.std.proofs.Common.{Bool, arith, not, subst}
+use Rattle.std.proofs.Common.{Bool, arith, false, not, subst}
 use Rattle.qs_stream.specs.Buffers.{Buffers}
 use Rattle.qs_stream.specs.Flows.{side}
 use Rattle.qs_stdio.specs.Runs.{Sitting, last_scene}

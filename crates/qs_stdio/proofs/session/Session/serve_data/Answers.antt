@@ -17,7 +17,7 @@ respond-requires-clause-body g c =
     let is = data_came Failed c.give.new.self c.next_data.new.self.reader brings.taken _ c.in-Some.room
     (flow g.I.Source.left g.I.Source.read_faults g.O.Sink.sent g.O.Sink.write_faults c.next_data.new.input c.next_data.new.output c.next_data.new.self.stream)
     c.in-Some.is brings.brings in
-    let count = data_awaited c.args.mode.structured c.args.self.now.reader c.give.new.self c.args.ask.now c.room_for-room.result c.requires.awaits c.give.ensures in
+    let count = data_awaited c.args.mode.now.structured c.args.self.now.reader c.give.new.self c.args.ask.now c.room_for-room.result c.requires.awaits c.give.ensures in
     let whole = subst (λ (n : ℕ). IsData brings.taken n c.in-Some.room) count is.0 in
     (brings.taken, subst (λ (o : Option (List ℕ)). IsBody c.args.ask.now brings.taken o) (sym c.body_of-body.ensures) (data_body c.args.ask.now brings.taken c.in-Some.room whole))
 
@@ -26,18 +26,18 @@ returns g c = λ writable rests.
     let brings = c.in_ok-room.ensures in
     let mid = flow g.I.Source.left g.I.Source.read_faults g.O.Sink.sent g.O.Sink.write_faults c.next_data.new.input c.next_data.new.output c.next_data.new.self.stream in
     let is = data_came Failed c.give.new.self c.next_data.new.self.reader brings.taken _ c.in-Some.room mid c.in-Some.is brings.brings in
-    let count = data_awaited c.args.mode.structured c.args.self.now.reader c.give.new.self c.args.ask.now c.room_for-room.result c.requires.awaits c.give.ensures in
-    let so = still_so c.args.mode.structured c.args.self.now.reader c.give.new.self c.args.ask.now c.room_for-room.result c.requires.awaits c.give.ensures in
+    let count = data_awaited c.args.mode.now.structured c.args.self.now.reader c.give.new.self c.args.ask.now c.room_for-room.result c.requires.awaits c.give.ensures in
+    let so = still_so c.args.mode.now.structured c.args.self.now.reader c.give.new.self c.args.ask.now c.room_for-room.result c.requires.awaits c.give.ensures in
     let whole = subst (λ (n : ℕ). IsData brings.taken n c.in-Some.room) count is.0 in
     let body = subst (λ (o : Option (List ℕ)). IsBody c.args.ask.now brings.taken o) (sym c.body_of-body.ensures) (data_body c.args.ask.now brings.taken c.in-Some.room whole) in (
       brings.taken,
       (
         data_length brings.taken c.args.ask.now.length c.in-Some.room whole,
-        subst (λ (w : WorldValue _). Answered g.D.Disk.seen 0 writable c.args.mode.structured c.args.ask.now brings.taken
+        subst (λ (w : WorldValue _). Answered g.D.Disk.seen 0 writable c.args.mode.now.structured c.args.ask.now brings.taken
             (scene g.I.Source.left g.I.Source.read_faults g.O.Sink.sent g.O.Sink.write_faults c.args.input.now c.args.output.now c.args.self.now.stream c.args.world.now)
             (scene g.I.Source.left g.I.Source.read_faults g.O.Sink.sent g.O.Sink.write_faults c.next_data.new.input c.respond.new.output c.respond.new.stream w))
             (sym c.keep_body.ensures)
-            (answered_in g.D.Disk.seen 0 writable c.args.mode.structured c.args.ask.now brings.taken
+            (answered_in g.D.Disk.seen 0 writable c.args.mode.now.structured c.args.ask.now brings.taken
             (scene g.I.Source.left g.I.Source.read_faults g.O.Sink.sent g.O.Sink.write_faults c.args.input.now c.args.output.now c.args.self.now.stream c.args.world.now)
             mid c.respond.new.world (side g.O.Sink.sent g.O.Sink.write_faults c.respond.new.output) c.respond.new.stream brings.moved
             (record {
