@@ -1,3 +1,4 @@
 pub mod Exports
 pub mod Table
 pub mod History
+pub mod Readings

@@ -1,4 +1,5 @@
 ghost use Rattle.std.specs.Prelude.{◌≡◌, ◌<◌, IfOk};
+ghost use Rattle.qs_graph.specs.Readings.{info_of, name_of};
 ghost use Rattle.qs_graph.specs.Table.{fresh, info_at, Fits, answers};
 
 use crate::export::{Export, is_same};
@@ -71,6 +72,28 @@ impl Graph {
         ensures { result ≡ self.now.file }
     {
         *self.file
+    }
+
+    /// What a client learns of the export that a name means; the empty name means the one that was made
+    /// first. `None` exactly where [`GraphOp::Find`] answers NoExport.
+    pub fn export_info(&self, name: &Name) -> Option<ExportInfo>
+        ensures { result ≡ info_of self.now name.now }
+    {
+        match places::find(&self.places, name) {
+            Some(e) => Some(self.info(e)),
+            None => None,
+        }
+    }
+
+    /// The name of the standing export of this number in the order of making, from 0 on. `None` exactly
+    /// where no more stand.
+    pub fn export_name(&self, number: usize) -> Option<Name>
+        ensures { result ≡ name_of self.now number }
+    {
+        match places::nth_standing(&self.places, number) {
+            Some(export) => Some(export.name),
+            None => None,
+        }
     }
 
     fn add(

@@ -1,7 +1,7 @@
 ghost use Rattle.std.specs.Prelude.{◌≡◌, ◌<◌, length, position, option_map, IfSome};
-ghost use Rattle.std.specs.List.{slice_set};
+ghost use Rattle.std.specs.List.{slice_get, slice_set};
 ghost use Rattle.qs_graph.specs.declared.export.Export.{Export as Standing};
-ghost use Rattle.qs_graph.specs.Exports.{clients_of, counted, export_at, first_against, found_at, has_alike, has_name, is_standing, is_vacant};
+ghost use Rattle.qs_graph.specs.Exports.{clients_of, counted, export_at, first_against, found_at, has_alike, has_name, is_standing, is_vacant, standing};
 
 use crate::export::{Export, is_same};
 use qs_bytes::Name;
@@ -76,6 +76,21 @@ pub fn first_against(places: &[Option<Export>], new: &Export) -> Option<Export>
         .iter()
         .filter_map(|place| *place)
         .find(|export| new.conflicts(export))
+}
+
+/// The standing export of this number in the order of making, from 0 on.
+pub fn nth_standing(places: &[Option<Export>], number: usize) -> Option<Export>
+    ensures { result ≡ slice_get (standing places.now) number }
+{
+    let mut left = number;
+    for place in places {
+        match place {
+            Some(export) if left == 0 => return Some(*export),
+            Some(_) => left -= 1,
+            None => {}
+        }
+    }
+    None
 }
 
 fn with_clients(place: &Option<Export>, clients: u16) -> Option<Export>

@@ -21,6 +21,8 @@ use qs_tracker::tracker::Tracker;
 use std::alloc::Global;
 use std::marker::Model;
 
+mod exports;
+
 /// The core over many sessions: eight stripes of one image, the tracker of requests, the graph of
 /// exports, the sessions, and their requests.
 ///
