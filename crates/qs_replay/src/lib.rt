@@ -10,11 +10,9 @@ mod replay;
 mod run;
 mod stop;
 mod table;
-mod words;
 
 pub use disks::memory_disks;
 pub use run::run_replay;
-pub use words::{ReplayWords, replay_words};
 
 #[cfg(test)]
 mod tests;

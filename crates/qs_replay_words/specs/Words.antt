@@ -1,5 +1,5 @@
 -- The words of the command: `[--blocks N] [--align N] [--generate N]`, the options in any order, each at most once.
-use Rattle.std.specs.Prelude.{◌≡◌, ℕ, ◌≤◌, Bool, if◌then◌else◌, List, [], ◌∷◌, codes, Option, None, Some, is_some, unwrap_or, String, string_bytes}
+use Rattle.std.specs.Prelude.{◌≡◌, ℕ, ◌≤◌, ◌⊎◌, Bool, if◌then◌else◌, List, [], ◌∷◌, codes, Option, None, Some, is_some, unwrap_or, String, string_bytes}
 use Rattle.std.specs.Global.{Global}
 use Rattle.std.specs.Str.{bytes_eq}
 use Rattle.qs_script.specs.Spelled.{SpellsNumber, greatest}
@@ -74,3 +74,9 @@ whole r = whole_by r.next r
 -- what the words tell, where they are the command's
 abbrev pub Tells : List (String Global) → ReplayWords → Type 0
 Tells words told = (r : Reading) × (AreRead nothing_read words r × (whole r ≡ Some told))
+
+-- from 1 to 65,536 blocks of 512 or 4096 bytes
+pub record IsImageOf (told : ReplayWords) : Type 0 where
+  pub some : 1 ≤ told.blocks
+  pub few : told.blocks ≤ 65536
+  pub align : (told.align ≡ 512) ⊎ (told.align ≡ 4096)
