@@ -11,8 +11,11 @@ mod run;
 mod stop;
 mod table;
 
+pub use desk::{Desk, Found, actor_for, happen};
 pub use disks::memory_disks;
-pub use run::run_replay;
+pub use run::{replay_disks, run_replay};
+pub use stop::Stop;
+pub use table::Table;
 
 #[cfg(test)]
 mod tests;

@@ -19,7 +19,7 @@ use std::mem;
 const MOST_LINES: u64 = 1 << 32;
 
 /// Replays the script over the image that the disks hold, if they hold one.
-fn replay_disks<I: Source, O: Sink, D: RiggedDisk + Drop>(
+pub fn replay_disks<I: Source, O: Sink, D: RiggedDisk + Drop>(
     alloc: Global,
     input: &mut I,
     output: &mut O,
