@@ -6,4 +6,4 @@ mod open;
 mod run;
 
 pub use open::open_core;
-pub use run::run_out;
+pub use run::{StepsMade, run_counted, run_out};

@@ -1,4 +1,4 @@
-ghost use Rattle.std.specs.Prelude.{◌≡◌, ◌<◌, ◌∷◌, [], List, true, IfNone, IfSome};
+ghost use Rattle.std.specs.Prelude.{◌≡◌, ◌<◌, ◌%◌, ◌^◌, ◌∷◌, [], List, length, true, IfNone, IfSome};
 ghost use Rattle.qs_part.specs.declared.event.Event.TheVariants.{Step as AStep};
 ghost use Rattle.qs_world.specs.Events.{IsNotNext};
 ghost use Rattle.qs_calls.specs.Calls.{Call, Happened, Plays};
@@ -55,19 +55,46 @@ fn step_on<D: Disk + Drop>(world: &mut World<D>, actor: Actor, now: u64) -> Opti
     }
 }
 
+/// The steps of an actor, up to its last one.
+#[derive(Debug, Drop)]
+pub struct StepsMade {
+    /// The outcome of the last one.
+    pub last: Outcome,
+    /// How many they are, modulo 2^64.
+    pub count: u64,
+}
+
 /// The steps of an actor, up to an answer, a Detach, or a step that leaves it as it was (that one done
-/// too), and the outcome of the last one: calls of the core, one behind the other. `None` exactly where
-/// its next step can't come, and then nothing happens. It takes no memory.
+/// too), with the outcome of the last one and their number: calls of the core, one behind the other.
+/// `None` exactly where its next step can't come, and then nothing happens. It takes no memory.
+pub fn run_counted<D: Disk + Drop>(
+    world: &mut World<D>,
+    actor: Actor,
+    now: u64,
+) -> Option<StepsMade>
+    ensures some { IfSome result (λ made. (calls : List Call) × (Plays D.seen world.old calls world.new × RunsOut (AStep actor now) calls made.last ×
+        (made.count ≡ length calls % 2 ^ 64))) }
+    ensures none { IfNone result (IsNotNext world.old (AStep actor now) × (world.new ≡ world.old)) }
+{
+    let mut last = step_on(world, actor, now)?;
+    let mut count = 1u64;
+    'steps: while outcome_goes_on(&last) {
+        last = match step_on(world, actor, now) {
+            Some(next) => next,
+            None => unreachable!(),
+        };
+        count = count.wrapping_add(1);
+    }
+    Some(StepsMade { last, count })
+}
+
+/// The steps of an actor as `run_counted` makes them, and the outcome of the last one.
 pub fn run_out<D: Disk + Drop>(world: &mut World<D>, actor: Actor, now: u64) -> Option<Outcome>
     ensures some { IfSome result (λ last. (calls : List Call) × (Plays D.seen world.old calls world.new × RunsOut (AStep actor now) calls last)) }
     ensures none { IfNone result (IsNotNext world.old (AStep actor now) × (world.new ≡ world.old)) }
 {
-    let mut outcome = step_on(world, actor, now)?;
-    'steps: while outcome_goes_on(&outcome) {
-        outcome = match step_on(world, actor, now) {
-            Some(next) => next,
-            None => unreachable!(),
-        };
+    match run_counted(world, actor, now) {
+        Some(made) => Some(made.last),
+        None => None,
     }
-    Some(outcome)
 }

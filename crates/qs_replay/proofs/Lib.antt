@@ -1,7 +1,6 @@
 pub mod Playing
 pub mod Happening
 pub mod Coming
-pub mod Spelling
 pub mod Replaying
 pub mod Turning
 pub mod Reaching

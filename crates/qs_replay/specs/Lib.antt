@@ -1,7 +1,6 @@
 pub mod Tables
 pub mod Effects
 pub mod Readings
-pub mod Words
 pub mod Scripts
 pub mod Runs
 pub mod ZeroDisks

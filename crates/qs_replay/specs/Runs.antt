@@ -9,13 +9,13 @@ use Rattle.qs_image.specs.Opening.{Opens}
 use Rattle.qs_stream.specs.Buffers.{new_buffers}
 use Rattle.qs_stream.specs.Flows.{Side}
 use Rattle.qs_world.specs.Values.{WorldValue}
-use Rattle.qs_replay.specs.declared.words.ReplayWords.{ReplayWords}
+use Rattle.qs_replay_words.specs.declared.words.ReplayWords.{ReplayWords}
 use Rattle.qs_calls.specs.Runs.{Begins, HasRun}
 use Rattle.qs_replay.specs.Scripts.{ReachesLine, Replays, Scene, lines_of}
 use Rattle.std.specs.FinMap.{empty as no_requests}
 use Rattle.std.specs.FinSet.{empty as no_cookies}
 use Rattle.qs_replay.specs.Tables.{Names}
-use Rattle.qs_replay.specs.Words.{Tells}
+use Rattle.qs_replay_words.specs.Words.{Tells}
 
 abbrev pub no_names : Names
 no_names = record { sessions = []; used = no_cookies; live = no_requests }
@@ -51,8 +51,9 @@ pub record Untouched {D : Type 0} (disks : List D) (left sent : Option (List ℕ
   pub left_same : left' ≡ left
   pub sent_same : sent' ≡ sent
 
+-- the words ask for a script's replay
 abbrev pub AreWords : List (String Global) → Type 0
-AreWords words = (told : ReplayWords) × Tells words told
+AreWords words = (told : ReplayWords) × (Tells words told × (told.generate ≡ None))
 
 -- The disks are tested, and the script is replayed over them; memory may be refused before.
 abbrev pub Opening : {D : Type 0} → (D → Seen) → List D → Option (List ℕ) → Option (List ℕ) → Status → List D → Option (List ℕ) → Option (List ℕ) → Type 0

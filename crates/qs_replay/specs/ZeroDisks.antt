@@ -7,8 +7,8 @@ use Rattle.qs_outside.specs.Journal.{Journal, journal_seen}
 use Rattle.qs_outside.specs.Rigged.{no_plans}
 use Rattle.qs_image.specs.Image.{AllTell, align_of, block_now, disk, size_of}
 use Rattle.qs_image.specs.Opening.{IsImage}
-use Rattle.qs_replay.specs.Words.{Tells}
-use Rattle.qs_replay.specs.declared.words.ReplayWords.{ReplayWords}
+use Rattle.qs_replay_words.specs.Words.{Tells}
+use Rattle.qs_replay_words.specs.declared.words.ReplayWords.{ReplayWords}
 
 -- how many stores each disk keeps
 abbrev pub room_of_disks : ℕ

@@ -2,9 +2,9 @@ ghost use Rattle.std.specs.Prelude.{◌*◌, ◌≤◌, IfOk};
 ghost use Rattle.qs_image.specs.Opening.{IsAlign};
 ghost use Rattle.qs_replay.specs.ZeroDisks.{AreDisksOf, AreZeroDisks, IsZeroDisk};
 
-use crate::words::{ReplayWords, replay_words};
 use qs_bytes::{Memory, STRIPES};
 use qs_outside::MemDisk;
+use qs_replay_words::{ReplayWords, replay_words};
 use std::alloc::Global;
 
 /// How many stores a disk keeps before it is full.
@@ -36,6 +36,7 @@ fn zero_disks(alloc: Global, told: ReplayWords) -> Result<Vec<MemDisk>, Memory>
 
 /// The disks that the words of the command name: an image of zeros in memory. None where the words aren't
 /// of the command's form.
+#[tactic(auto, using(qs_replay_words::proofs::Within::image_of))]
 pub fn memory_disks(alloc: Global, words: &[String]) -> Result<Vec<MemDisk>, Memory>
     ensures { IfOk result (λ disks. AreDisksOf words.now disks.items) }
 {

@@ -10,11 +10,12 @@ mod replay;
 mod run;
 mod stop;
 mod table;
-mod words;
 
+pub use desk::{Desk, Found, actor_for, happen};
 pub use disks::memory_disks;
-pub use run::run_replay;
-pub use words::{ReplayWords, replay_words};
+pub use run::{replay_disks, run_replay};
+pub use stop::Stop;
+pub use table::Table;
 
 #[cfg(test)]
 mod tests;

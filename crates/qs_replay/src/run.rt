@@ -5,10 +5,10 @@ ghost use Rattle.qs_replay.specs.Scripts.{side_of};
 use crate::desk::Desk;
 use crate::replay::replay;
 use crate::table::Table;
-use crate::words::replay_words;
 use qs_bytes::Bytes;
 use qs_calls::open_core;
 use qs_outside::{RiggedDisk, Sink, Source};
+use qs_replay_words::replay_words;
 use qs_script::LineCutter;
 use qs_status::Status;
 use qs_stream::Stream;
@@ -19,7 +19,7 @@ use std::mem;
 const MOST_LINES: u64 = 1 << 32;
 
 /// Replays the script over the image that the disks hold, if they hold one.
-fn replay_disks<I: Source, O: Sink, D: RiggedDisk + Drop>(
+pub fn replay_disks<I: Source, O: Sink, D: RiggedDisk + Drop>(
     alloc: Global,
     input: &mut I,
     output: &mut O,
@@ -68,6 +68,7 @@ fn replay_disks<I: Source, O: Sink, D: RiggedDisk + Drop>(
 /// The words are those behind the program's name, `[--blocks N] [--align N]`. The image is the file node
 /// `file0`, under the writable export `disk`. A fault of the input or the output ends the run at that
 /// call. The disks come back as the run left them.
+#[tactic(auto, using(qs_replay_words::proofs::FromLeft::tells_one))]
 pub fn run_replay<I: Source, O: Sink, D: RiggedDisk + Drop>(
     alloc: Global,
     words: &[String],
@@ -80,8 +81,8 @@ pub fn run_replay<I: Source, O: Sink, D: RiggedDisk + Drop>(
     ensures cause { Rises (side_of result) (I.read_faults input.old) (I.read_faults input.new)
         (O.write_faults output.old) (O.write_faults output.new) }
 {
-    if replay_words(words).is_none() {
-        return Status::Usage;
+    match replay_words(words) {
+        Some(told) if told.generate.is_none() => replay_disks(alloc, input, output, disks),
+        _ => Status::Usage,
     }
-    replay_disks(alloc, input, output, disks)
 }

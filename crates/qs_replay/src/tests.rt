@@ -1,4 +1,4 @@
-use crate::{ReplayWords, replay_words, run_replay};
+use crate::run_replay;
 use qs_bytes::{Bytes, Memory};
 use qs_outside::{MemDisk, MemSink, MemSource};
 use qs_status::{OpenBad, Status};
@@ -375,28 +375,5 @@ fn faults_of_the_outside(rt: HostRuntime) -> Result<(), Fail> {
     assert!(rt; write.1.is_empty());
     let seven = run(alloc, 7, b"", 9, (Vec::new(alloc), Vec::new(alloc)))?;
     assert_eq!(rt; seven.0, Status::OpenBad(OpenBad::Count(7)));
-    Ok(())
-}
-
-#[test]
-fn words_of_the_command(rt: HostRuntime) -> Result<(), Fail> {
-    let alloc = rt.alloc();
-    for (words, told) in [
-        ([].as_slice(), Some((64, 512))),
-        (&["--blocks", "65536"], Some((65_536, 512))),
-        (&["--align", "4096", "--blocks", "1"], Some((1, 4096))),
-        (&["--blocks", "0"], None),
-        (&["--blocks", "08"], None),
-        (&["--align", "1024"], None),
-        (&["--blocks", "8", "--blocks", "8"], None),
-        (&["--generate", "7"], None),
-    ] {
-        let told = told.map(|(blocks, align)| ReplayWords {
-            blocks,
-            align,
-            generate: None,
-        });
-        assert_eq!(rt; replay_words(words_of(alloc, words)?.as_slice()), told);
-    }
     Ok(())
 }

@@ -1,5 +1,6 @@
 use crate::stray::stray_word;
 use qs_host::Ended;
+use qs_replay_words::replay_words;
 use qs_status::Status;
 use std::fmt;
 
@@ -47,6 +48,9 @@ fn write_usage<W: fmt::Write>(f: &mut fmt::Formatter<W>, words: &[String]) -> fm
         Some(i) => {
             let word = words[i].as_str();
             write!(f, "the word {word:?} isn't understood\n{USAGE}")
+        }
+        None if replay_words(words).is_some() => {
+            write!(f, "a made-up run isn't played yet\n{USAGE}")
         }
         None => write!(f, "a word is missing\n{USAGE}"),
     }

@@ -1,0 +1,2 @@
+pub mod FromLeft
+pub mod Within
