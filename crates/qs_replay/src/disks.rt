@@ -36,7 +36,6 @@ fn zero_disks(alloc: Global, told: ReplayWords) -> Result<Vec<MemDisk>, Memory>
 
 /// The disks that the words of the command name: an image of zeros in memory. None where the words aren't
 /// of the command's form.
-#[tactic(auto, using(qs_replay_words::proofs::Within::image_of))]
 pub fn memory_disks(alloc: Global, words: &[String]) -> Result<Vec<MemDisk>, Memory>
     ensures { IfOk result (λ disks. AreDisksOf words.now disks.items) }
 {

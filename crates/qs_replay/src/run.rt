@@ -68,7 +68,6 @@ pub fn replay_disks<I: Source, O: Sink, D: RiggedDisk + Drop>(
 /// The words are those behind the program's name, `[--blocks N] [--align N]`. The image is the file node
 /// `file0`, under the writable export `disk`. A fault of the input or the output ends the run at that
 /// call. The disks come back as the run left them.
-#[tactic(auto, using(qs_replay_words::proofs::FromLeft::tells_one))]
 pub fn run_replay<I: Source, O: Sink, D: RiggedDisk + Drop>(
     alloc: Global,
     words: &[String],
