@@ -178,8 +178,8 @@ pub same_replays : {D : Type 0} {seen : D → Seen} {disks others : List D} {lef
     (two : IsReplayed seen others left sent' result' others1 left2 sent2) → AreComparable one two → AreSame one two
 same_replays {D} {seen} {disks} {others} {left} {sent} {sent'} {result} {result'} one two compared =
     elim (fronts one.replays.texts two.replays.texts front.0 front_too.0 (sym front.1 ∙ front_too.1)) [
-      | inl more ↦ front_same one two A m m' compared.script twins a b left more.0 more.1
-      | inr more ↦ same_flip one two (front_same two one A m' m compared.script (twins_flip m m' twins) b a (left_flip one.replays.calls two.replays.calls left) more.0 more.1)
+      | inl more ↦ front_same one two A m m' compared.script twins a b cuts more.0 more.1
+      | inr more ↦ same_flip one two (front_same two one A m' m compared.script (twins_flip m m' twins) b a (left_flip one.replays.calls two.replays.calls cuts) more.0 more.1)
     ]
   where
     A : ℕ
@@ -201,8 +201,8 @@ same_replays {D} {seen} {disks} {others} {left} {sent} {sent'} {result} {result'
     b = subst (λ (k : ℕ). Side two k m' compared.script) compared.alike.align (side two compared.script compared.told compared.smooth_too compared.calm_too)
 
     -- each crash of both that found the same left the same
-    left : AreLeftAlike one.replays.calls two.replays.calls
-    left = left_front one.replays.calls one.replays.cut two.replays.calls two.replays.cut
+    cuts : AreLeftAlike one.replays.calls two.replays.calls
+    cuts = left_front one.replays.calls one.replays.cut two.replays.calls two.replays.cut
         (left_alike seen A one.start two.start one.after_all.world two.after_all.world m m' (one.replays.calls ++ one.replays.cut) (two.replays.calls ++ two.replays.cut)
         one.run.elements two.run.elements one.run.fulls two.run.fulls a.align b.align a.begun b.begun twins.tells
         (twins.alike.tells ∙ twins.tells) one.run.walked two.run.walked compared.cut)

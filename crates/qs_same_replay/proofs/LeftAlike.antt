@@ -9,6 +9,7 @@ use Rattle.qs_model.specs.Acts.{Element, Crashed}
 use Rattle.qs_model.specs.Steps.{happens}
 use Rattle.qs_model.specs.Worlds.{World}
 use Rattle.qs_world.specs.Crashing.{left_at}
+use Rattle.qs_world.specs.Images.{stripe_at}
 use Rattle.qs_world.specs.Stands.{Stands}
 use Rattle.qs_world.specs.Values.{WorldValue, stripes_of}
 use Rattle.qs_calls.specs.Calls.{Call, Happened, Rigged, PowerFailed, ExportMade, MakesStep, Walks}
@@ -37,12 +38,12 @@ left_rest (x ∷ xs) ys us alike = left_rest xs ys us alike.1
 
 flip_one : (c d : Call) → IsLeftAlike c d → IsLeftAlike d c
 flip_one (PowerFailed choice left) (PowerFailed other blocks) alike = λ same. sym (alike (sym same))
-flip_one (Happened made outcome) d alike = flip_other d made outcome
-  where
-    flip_other : (d : Call) (made : _) (outcome : _) → IsLeftAlike d (Happened made outcome)
-    flip_other (PowerFailed other blocks) made outcome = tt
-    flip_other d made outcome = tt
-flip_one c d alike = tt
+flip_one c (Happened made outcome) alike = tt
+flip_one c (Rigged stripe fail) alike = tt
+flip_one c (ExportMade op place) alike = tt
+flip_one (Happened made outcome) (PowerFailed other blocks) alike = tt
+flip_one (Rigged stripe fail) (PowerFailed other blocks) alike = tt
+flip_one (ExportMade op place) (PowerFailed other blocks) alike = tt
 
 pub left_flip : (cs ds : List Call) → AreLeftAlike cs ds → AreLeftAlike ds cs
 left_flip (c ∷ cs) (d ∷ ds) alike = (flip_one c d alike.0, left_flip cs ds alike.1)
@@ -58,7 +59,7 @@ one_left {D} seen w v w1 v1 m n (PowerFailed choice left) (PowerFailed other blo
     found : (b : ℕ) → n.image.past b ≡ m.image.past b
     found = subst (λ (x : Element). IsCutAlike m (Crashed left) n x) also.2 (subst (λ (x : Element). IsCutAlike m x n f) made.2 cut)
 
-    past : (b : ℕ) → _
+    past : (b : ℕ) → (stripe_at (stripes_of seen v) (stripe_of b)).disk.past b ≡ (stripe_at (stripes_of seen w) (stripe_of b)).disk.past b
     past b = sym (at.image.past told_too b) ∙ found b ∙ stands.image.past told b
 
     block : other ≡ choice → (b : ℕ) → blocks b ≡ left b
@@ -81,7 +82,7 @@ left_alike seen A w v w1 v1 m n (c ∷ cs) (d ∷ ds) (e ∷ es) (f ∷ fs) (ful
     let (may_too, at_on, align_more) = step_stands seen A v d f middle n align_too at made_too in (
       one_left seen w v mid middle m n c d e f stands at told told_too made made_too cut.0,
       left_alike seen A mid middle w1 v1 (happens A m e) (happens A n f) cs ds es fs fulls others align_on align_more stands_on at_on
-      (still A m e told) (still A n f told_too) on on_too cut.1,
+          (still A m e told) (still A n f told_too) on on_too cut.1,
     )
 left_alike seen A w v w1 v1 m n [] ds es fs fulls others align align_too stands at told told_too walks also cut = tt
 left_alike seen A w v w1 v1 m n (c ∷ cs) [] es fs fulls others align align_too stands at told told_too walks also cut = tt
