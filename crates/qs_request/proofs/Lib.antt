@@ -8,3 +8,5 @@ pub mod NextSync
 pub mod Wanted
 mod WholeReads
 mod WholeWrites
+mod RunChains
+mod RunMachine
