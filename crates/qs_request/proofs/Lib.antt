@@ -10,3 +10,4 @@ mod WholeReads
 mod WholeWrites
 mod RunChains
 mod RunMachine
+mod RunZeros

@@ -21,11 +21,11 @@ use Rattle.qs_request.specs.declared.todo.PartReply.TheVariants.{Stripe as ByStr
 use Rattle.qs_request.specs.declared.todo.Todo.TheVariants.{Stripe}
 use Rattle.qs_request.specs.declared.whole_run.WholeRun.{WholeRun}
 use Rattle.qs_request.specs.RunSteps.{Both, DoesOne, GoesOn, RanOut}
-use Rattle.qs_request.specs.Table.{FitsBlock, Wants, followed}
+use Rattle.qs_request.specs.Table.{FitsBlock, IsMerged, Wants, followed}
 use Rattle.qs_request.specs.Value.{IsReady}
 use Rattle.qs_request.specs.WholeRuns.{IsReadingRun, IsWholeRun, IsWritingRun, behind_loads, behind_stores}
 use Rattle.qs_request.proofs.WholeReads.{loads-before}
-use Rattle.qs_request.proofs.WholeWrites.{stores-before, whole-merged}
+use Rattle.qs_request.proofs.WholeWrites.{stores-before}
 
 abbrev pub both : Req → StripeValue → Both
 both q v = record { request = q; stripe = v }
@@ -125,20 +125,22 @@ module _ (shape : Shape) (q : Req) (run : WholeRun) (some : 0 < shape.align) (gr
       whole = λ none. absurd none;
     }
 
-  module _ (is : IsWritingRun shape.align q run) (whole : run.at + run.n * shape.align ≤ length q.client.body) where
+  -- from bytes of which each block is the next content
+  module _ (is : IsWritingRun shape.align q run) (buf : List ℕ) (whole : run.at + run.n * shape.align ≤ length buf)
+      (merged : (i : ℕ) → i < run.n → IsMerged shape.align q.client q.pads (run.b + i) (block_in shape.align run.at buf i)) where
     abbrev stored-to : ℕ → Req
-    stored-to i = behind_stores shape.align run q.client.body q i
+    stored-to i = behind_stores shape.align run buf q i
 
-    wants-store : (i : ℕ) → i < run.n → Wants shape.align (stored-to i) (Stripe (stripe_of run.b) (store_at shape.align run.b run.k run.at q.client.body i))
+    wants-store : (i : ℕ) → i < run.n → Wants shape.align (stored-to i) (Stripe (stripe_of run.b) (store_at shape.align run.b run.k run.at buf i))
     wants-store i below =
-        subst (λ (r : Req). Wants shape.align r (Stripe (stripe_of run.b) (store_at shape.align run.b run.k run.at q.client.body i)))
-        (sym (stores-before shape.align q run q.client.body some is i below)) (
-          block_in shape.align run.at q.client.body i,
+        subst (λ (r : Req). Wants shape.align r (Stripe (stripe_of run.b) (store_at shape.align run.b run.k run.at buf i)))
+        (sym (stores-before shape.align q run buf some is i below)) (
+          block_in shape.align run.at buf i,
           (
-            block-whole q.client.body i whole below,
+            block-whole buf i whole below,
             (
-              ap (λ s. Stripe s (store_at shape.align run.b run.k run.at q.client.body i)) (same-stripe i below),
-              whole-merged shape.align q.client q.pads run i is.whole_run below,
+              ap (λ s. Stripe s (store_at shape.align run.b run.k run.at buf i)) (same-stripe i below),
+              merged i below,
             ),
           ),
         )
@@ -147,22 +149,22 @@ module _ (shape : Shape) (q : Req) (run : WholeRun) (some : 0 < shape.align) (gr
         → (IsReady (followed shape.align (record q { stage = In run.k (ToStore (run.b + i)) }) (ByStripe reply)).stage → ⊥)
         → IsReady (followed shape.align (stored-to i) (ByStripe reply)).stage → ⊥
     still reply i below =
-        subst (λ (r : Req). IsReady (followed shape.align r (ByStripe reply)).stage → ⊥) (sym (stores-before shape.align q run q.client.body some is i below))
+        subst (λ (r : Req). IsReady (followed shape.align r (ByStripe reply)).stage → ⊥) (sym (stores-before shape.align q run buf some is i below))
 
-    stores-one : (i : ℕ) → i < run.n → (v w : StripeValue) → StoredAt shape.align run.b run.k run.at q.client.body i v w
+    stores-one : (i : ℕ) → i < run.n → (v w : StripeValue) → StoredAt shape.align run.b run.k run.at buf i v w
         → DoesOne shape (stripe_of run.b) (note_for StoreKind (run.b + i) told.Done) (both (stored-to i) v) (both (stored-to (suc i)) w)
     stores-one i below v w row = record {
-      op = store_at shape.align run.b run.k run.at q.client.body i;
-      reply = Done (block_in shape.align run.at q.client.body i);
+      op = store_at shape.align run.b run.k run.at buf i;
+      reply = Done (block_in shape.align run.at buf i);
       wants = wants-store i below;
-      fits = (block-fits i below, place, block-whole q.client.body i whole below);
+      fits = (block-fits i below, place, block-whole buf i whole below);
       answers_op = row;
       follows = refl;
-      on = still (Done (block_in shape.align run.at q.client.body i)) i below (λ h. h);
+      on = still (Done (block_in shape.align run.at buf i)) i below (λ h. h);
       is_told = refl;
     }
 
-    stores-front : (i : ℕ) → i ≤ run.n → (v w : StripeValue) → InOrder (StoredAt shape.align run.b run.k run.at q.client.body) i v w
+    stores-front : (i : ℕ) → i ≤ run.n → (v w : StripeValue) → InOrder (StoredAt shape.align run.b run.k run.at buf) i v w
         → InOrder (λ j. GoesOn shape (stripe_of run.b)) i (both q v) (both (stored-to i) w)
     stores-front zero within v w steps = ap (both q) steps
     stores-front (suc i) within v w steps = (
@@ -177,7 +179,7 @@ module _ (shape : Shape) (q : Req) (run : WholeRun) (some : 0 < shape.align) (gr
       ),
     )
 
-    pub stores-ran : (m : ℕ) → suc m ≡ run.n → (v w : StripeValue) → InOrder (StoredAt shape.align run.b run.k run.at q.client.body) (suc m) v w
+    pub stores-ran : (m : ℕ) → suc m ≡ run.n → (v w : StripeValue) → InOrder (StoredAt shape.align run.b run.k run.at buf) (suc m) v w
         → RanOut shape (stripe_of run.b) run.n (note_for StoreKind (run.b + m) told.Done) (both q v) (both (stored-to (suc m)) w)
     stores-ran m all v w steps = record {
       before = m;
@@ -187,9 +189,9 @@ module _ (shape : Shape) (q : Req) (run : WholeRun) (some : 0 < shape.align) (gr
     }
 
     pub stores-end : (m : ℕ) → m < run.n → (v w : StripeValue)
-        → EndsAt (StoredAt shape.align run.b run.k run.at q.client.body) (NotStored shape.align run.b run.k run.at q.client.body) m v w
+        → EndsAt (StoredAt shape.align run.b run.k run.at buf) (NotStored shape.align run.b run.k run.at buf) m v w
         → RanOut shape (stripe_of run.b) run.n (note_for StoreKind (run.b + m) told.Fault) (both q v)
-        (both (followed shape.align (stored-to m) (ByStripe (Fault (Some (block_in shape.align run.at q.client.body m))))) w)
+        (both (followed shape.align (stored-to m) (ByStripe (Fault (Some (block_in shape.align run.at buf m))))) w)
     stores-end m below v w steps = record {
       before = m;
       below = below;
@@ -198,13 +200,13 @@ module _ (shape : Shape) (q : Req) (run : WholeRun) (some : 0 < shape.align) (gr
         (
           stores-front m (omega (arith, below)) v steps.0 steps.1.0,
           record {
-            op = store_at shape.align run.b run.k run.at q.client.body m;
-            reply = Fault (Some (block_in shape.align run.at q.client.body m));
+            op = store_at shape.align run.b run.k run.at buf m;
+            reply = Fault (Some (block_in shape.align run.at buf m));
             wants = wants-store m below;
-            fits = (block-fits m below, place, block-whole q.client.body m whole below);
+            fits = (block-fits m below, place, block-whole buf m whole below);
             answers_op = steps.1.1;
             follows = refl;
-            on = still (Fault (Some (block_in shape.align run.at q.client.body m))) m below (λ h. h);
+            on = still (Fault (Some (block_in shape.align run.at buf m))) m below (λ h. h);
             is_told = refl;
           },
         ),
@@ -213,9 +215,9 @@ module _ (shape : Shape) (q : Req) (run : WholeRun) (some : 0 < shape.align) (gr
     }
 
     pub stores-wait : (m j : ℕ) → m < run.n → (v w : StripeValue)
-        → EndsAt (StoredAt shape.align run.b run.k run.at q.client.body) (Waits shape.align run.b run.k run.at q.client.body j) m v w
+        → EndsAt (StoredAt shape.align run.b run.k run.at buf) (Waits shape.align run.b run.k run.at buf j) m v w
         → RanOut shape (stripe_of run.b) run.n (note_for StoreKind (run.b + m) (told.HeldBy j)) (both q v)
-        (both (followed shape.align (stored-to m) (ByStripe (HeldBy j (block_in shape.align run.at q.client.body m)))) w)
+        (both (followed shape.align (stored-to m) (ByStripe (HeldBy j (block_in shape.align run.at buf m)))) w)
     stores-wait m j below v w steps = record {
       before = m;
       below = below;
@@ -224,13 +226,13 @@ module _ (shape : Shape) (q : Req) (run : WholeRun) (some : 0 < shape.align) (gr
         (
           stores-front m (omega (arith, below)) v steps.0 steps.1.0,
           record {
-            op = store_at shape.align run.b run.k run.at q.client.body m;
-            reply = HeldBy j (block_in shape.align run.at q.client.body m);
+            op = store_at shape.align run.b run.k run.at buf m;
+            reply = HeldBy j (block_in shape.align run.at buf m);
             wants = wants-store m below;
-            fits = (block-fits m below, place, block-whole q.client.body m whole below);
+            fits = (block-fits m below, place, block-whole buf m whole below);
             answers_op = steps.1.1;
             follows = refl;
-            on = still (HeldBy j (block_in shape.align run.at q.client.body m)) m below (λ h. h);
+            on = still (HeldBy j (block_in shape.align run.at buf m)) m below (λ h. h);
             is_told = refl;
           },
         ),

@@ -14,9 +14,9 @@ use Rattle.qs_part.specs.declared.stripe.StripeReply.TheVariants.{Fault}
 use Rattle.qs_stripe.specs.Table.{StripeValue}
 use Rattle.qs_request.specs.declared.todo.PartReply.TheVariants.{Stripe as ByStripe}
 use Rattle.qs_request.specs.RunSteps.{RanOut}
-use Rattle.qs_request.specs.Table.{followed}
+use Rattle.qs_request.specs.Table.{IsMerged, followed}
 use Rattle.qs_request.proofs.RunChains.{both, loads-end, loads-ran, note_for, stores-end, stores-ran, stores-wait}
-use Rattle.qs_request.proofs.WholeWrites.{store-done, stores-fail, stores-held}
+use Rattle.qs_request.proofs.WholeWrites.{store-done, stores-fail, stores-held, whole-merged}
 use Rattle.qs_bytes.specs.declared.ask.Kind.{Kind}
 use Rattle.qs_bytes.specs.declared.ask.Kind.TheVariants.{Read, Write}
 use Rattle.qs_bytes.specs.declared.ask.Verdict.{Verdict}
@@ -45,7 +45,7 @@ not-lent true w e = e
 not-lent false w e = refl
 
 -- what comes next is said without the stage
-step-same : (m : Machine) (stage : At) (next : Next) → step_of (record m { stage = stage }) next ≡ step_of m next
+pub step-same : (m : Machine) (stage : At) (next : Next) → step_of (record m { stage = stage }) next ≡ step_of m next
 step-same m stage (EndNext Success) = refl
 step-same m stage (EndNext (Failed e)) = refl
 step-same m stage (EndNext Left) = refl
@@ -233,20 +233,14 @@ module _ (m : Machine) (run : WholeRun) (free : IsFree m) (whole : IsWholeRun m.
           ∙ refused-request back over done row.1 (block_in A run.at back done) in
           rw (note-is, request) ran
 
-  module _ (at_stage : m.stage ≡ InAt run.k (StoreNext run.b)) (brings : brings_bytes m.ask.kind ≡ true) where
+  module _ (at_stage : m.stage ≡ InAt run.k (StoreNext run.b)) where
     pub storing : IsStoring m run.b
     storing = subst (λ (s : At). IsAtStage m s) at_stage free.sound.stands
-
-    pub own-length : length m.body ≡ m.ask.length
-    own-length = free.sound.buffers.body storing.reached.going.asked.buffered (brings-taken m.ask.kind brings)
-
-    pub own-holds : run.at + run.n * m.shape.align ≤ length m.body
-    own-holds = omega (arith, whole.inside, whole.place, own-length)
 
     pub storing-at : (i : ℕ) → i < run.n → IsStoring m (run.b + i)
     storing-at i below = record { writing = storing.writing; reached = reached-at storing.reached.going i below; kept = storing.kept }
 
-    storing-in : (b : ℕ) (stage : At) → IsStoring m b → IsStoring (record m { stage = stage }) b
+    pub storing-in : (b : ℕ) (stage : At) → IsStoring m b → IsStoring (record m { stage = stage }) b
     storing-in b stage l = record {
       writing = l.writing;
       reached = record {
@@ -265,11 +259,17 @@ module _ (m : Machine) (run : WholeRun) (free : IsFree m) (whole : IsWholeRun m.
     pub writing-run : IsWritingRun m.shape.align (request_of m) run
     writing-run = record { stage = ap (stage_of m) at_stage; whole_run = whole }
 
-    pub own-body : (client_of m).body ≡ m.body
-    own-body = own-bytes m.ask.kind m.body brings
+    pub own-length : brings_bytes m.ask.kind ≡ true → length m.body ≡ m.ask.length
+    own-length brings = free.sound.buffers.body storing.reached.going.asked.buffered (brings-taken m.ask.kind brings)
+
+    pub own-holds : brings_bytes m.ask.kind ≡ true → run.at + run.n * m.shape.align ≤ length m.body
+    own-holds brings = omega (arith, whole.inside, whole.place, own-length brings)
+
+    pub own-body : brings_bytes m.ask.kind ≡ true → (client_of m).body ≡ m.body
+    own-body brings = own-bytes m.ask.kind m.body brings
 
     -- a run of stores that a stripe answered
-    module _ (n : Machine) (lent : n ≡ record m { body = [] }) (buf back : List ℕ) (own : buf ≡ m.body) (same : back ≡ buf) where
+    module _ (brings : brings_bytes m.ask.kind ≡ true) (n : Machine) (lent : n ≡ record m { body = [] }) (buf back : List ℕ) (own : buf ≡ m.body) (same : back ≡ buf) where
       abbrev q : Req
       q = request_of m
 
@@ -285,10 +285,13 @@ module _ (m : Machine) (run : WholeRun) (free : IsFree m) (whole : IsWholeRun m.
           (step-same m (InAt run.k next) next ∙ ap (λ (x : Machine). step_of x next) (sym whole-again) ∙ e)
 
       holds : run.at + run.n * m.shape.align ≤ length q.client.body
-      holds = rw own-body own-holds
+      holds = rw (own-body brings) (own-holds brings)
+
+      merged : (i : ℕ) → i < run.n → IsMerged m.shape.align q.client q.pads (run.b + i) (block_in m.shape.align run.at q.client.body i)
+      merged i below = whole-merged m.shape.align q.client q.pads run i whole below
 
       bytes : buf ≡ q.client.body
-      bytes = own ∙ sym own-body
+      bytes = own ∙ sym (own-body brings)
 
       pub storing-again : (i : ℕ) → i < run.n → IsStoring (record n { body = back }) (run.b + i)
       storing-again i below = subst (λ (x : Machine). IsStoring x (run.b + i)) (sym whole-again) (storing-at i below)
@@ -308,7 +311,7 @@ module _ (m : Machine) (run : WholeRun) (free : IsFree m) (whole : IsWholeRun m.
             let all : suc (run.n - 1) ≡ run.n = omega (arith, whole.some) in
             let steps : InOrder (StoredAt A run.b run.k run.at q.client.body) run.n v w = rw (sym align, sym bytes) row.1 in
             let whole-steps = subst (λ i. InOrder (StoredAt A run.b run.k run.at q.client.body) i v w) (sym all) steps in
-            let ran = stores-ran m.shape q run some whole.group place (inside-image storing.reached.going) writing-run holds (run.n - 1) all v w whole-steps in
+            let ran = stores-ran m.shape q run some whole.group place (inside-image storing.reached.going) writing-run q.client.body holds merged (run.n - 1) all v w whole-steps in
             let request = request-is next (stored A (client_of m) (run.b + (run.n - 1)))
             (step ∙ ap (λ (x : Machine). stored x.shape.align (client_of x) (run.b + (run.n - 1))) whole-again)
             ∙ sym (store-done A q run q.client.body some writing-run (run.n - 1) (omega (arith, whole.some))) in
@@ -321,7 +324,7 @@ module _ (m : Machine) (run : WholeRun) (free : IsFree m) (whole : IsWholeRun m.
         stores-refused done next note row step note-is =
             let A = m.shape.align in
             let steps : EndsAt (StoredAt A run.b run.k run.at q.client.body) (NotStored A run.b run.k run.at q.client.body) done v w = rw (sym align, sym bytes) row.2 in
-            let ran = stores-end m.shape q run some whole.group place (inside-image storing.reached.going) writing-run holds done row.1 v w steps in
+            let ran = stores-end m.shape q run some whole.group place (inside-image storing.reached.going) writing-run q.client.body holds merged done row.1 v w steps in
             let request = request-is next (store_failed A (client_of m) (run.b + done))
             (step ∙ ap (λ (x : Machine). store_failed x.shape.align (client_of x) (run.b + done)) whole-again)
             ∙ sym (stores-fail A q run q.client.body some writing-run done row.1 (block_in A run.at q.client.body done)) in
@@ -333,7 +336,7 @@ module _ (m : Machine) (run : WholeRun) (free : IsFree m) (whole : IsWholeRun m.
         stores-held-up done j note row note-is =
             let A = m.shape.align in
             let steps : EndsAt (StoredAt A run.b run.k run.at q.client.body) (Waits A run.b run.k run.at q.client.body j) done v w = rw (sym align, sym bytes) row.2 in
-            let ran = stores-wait m.shape q run some whole.group place (inside-image storing.reached.going) writing-run holds done j row.1 v w steps in
+            let ran = stores-wait m.shape q run some whole.group place (inside-image storing.reached.going) writing-run q.client.body holds merged done j row.1 v w steps in
             let request = request-is (StoreNext (run.b + done)) (ToStore (run.b + done)) refl
             ∙ sym (stores-held A q run q.client.body some writing-run done row.1 j (block_in A run.at q.client.body done)) in
             rw (note-is, request) ran

@@ -1,5 +1,5 @@
 -- A run of a request on its stripe: the request's single operations, one after the other.
-use Rattle.std.specs.Prelude.{◌≡◌, ℕ, suc, ◌+◌, ◌<◌, ◌⊎◌, true, List, length, Option, Some}
+use Rattle.std.specs.Prelude.{◌≡◌, ℕ, suc, ◌+◌, ◌<◌, ◌≤◌, ◌⊎◌, List, length, get_or, Option, Some}
 use Rattle.qs_outside.specs.Runs.{EndsAt}
 use Rattle.qs_part.specs.declared.event.Note.{Note}
 use Rattle.qs_part.specs.declared.event.NoteReply.{NoteReply}
@@ -13,7 +13,7 @@ use Rattle.qs_part.specs.declared.stripe.StripeReply.TheVariants.{Filled, Fault,
 use Rattle.qs_stripe.specs.declared.geometry.Geometry.{Geometry}
 use Rattle.qs_stripe.specs.Table.{StripeValue, answers}
 use Rattle.qs_bytes.specs.Geometry.{stripe_of}
-use Rattle.qs_model.specs.Requests.{Req, Stage, ToLoad, ToStore, In, brings_bytes, span_of}
+use Rattle.qs_model.specs.Requests.{Req, Stage, ToLoad, ToStore, In, span_of}
 use Rattle.qs_request.specs.declared.shape.Shape.{Shape}
 use Rattle.qs_request.specs.declared.todo.Todo.TheVariants.{Stripe}
 use Rattle.qs_request.specs.declared.todo.PartReply.TheVariants.{Stripe as ByStripe}
@@ -22,16 +22,21 @@ use Rattle.qs_request.specs.Table.{FitsStripe, Wants, followed}
 use Rattle.qs_request.specs.Value.{IsReady}
 use Rattle.qs_request.specs.WholeRuns.{IsWholeRun}
 
--- the next operation is the run's first: a READ loads its first block, or a WRITE that brings bytes stores it
+-- the next operation is the run's first: a READ loads its first block, or a WRITE or WRITE_ZEROES stores it
 abbrev pub IsFirstOf : WholeRun → Req → Stage → Type 0
 IsFirstOf run q (In k (ToLoad b got)) = (k ≡ run.k) × (b ≡ run.b)
-IsFirstOf run q (In k (ToStore b)) = (k ≡ run.k) × (b ≡ run.b) × (brings_bytes q.client.ask.kind ≡ true)
+IsFirstOf run q (In k (ToStore b)) = (k ≡ run.k) × (b ≡ run.b)
 IsFirstOf run q _ = ⊥
 
 -- the request's next operations are those of the run
 pub record IsNextRun (A : ℕ) (q : Req) (run : WholeRun) : Type 0 where
   pub next : IsFirstOf run q q.stage
   pub whole_run : IsWholeRun A (span_of q.client) run
+
+-- at least so many bytes, and each is zero
+pub record AreZeros (n : ℕ) (bytes : List ℕ) : Type 0 where
+  pub long : n ≤ length bytes
+  pub zeros : (i : ℕ) → get_or bytes i 0 ≡ 0
 
 -- the stripe that a block of the image is on
 abbrev pub geometry_for : Shape → ℕ → Geometry

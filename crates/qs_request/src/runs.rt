@@ -1,12 +1,12 @@
-//! Runs of whole blocks, each one call of a stripe, with the request's own buffer.
-ghost use Rattle.std.specs.Prelude.{◌≡◌, [], true, Some, MatchOption, IfSome, IfNone};
+//! Runs of whole blocks, each one call of a stripe, with the request's own buffer or with zeros.
+ghost use Rattle.std.specs.Prelude.{◌≡◌, ◌*◌, [], true, false, Some, MatchOption, IfSome, IfNone};
 ghost use Rattle.qs_bytes.specs.Geometry.{stripe_of};
 ghost use Rattle.qs_model.specs.Requests.{brings_bytes, span_of};
 ghost use Rattle.qs_part.specs.declared.event.NoteReply.TheVariants.{Stripe as OfStripe};
 ghost use Rattle.qs_stripe.specs.Table.{geometry, value_of as stripe_value};
 ghost use Rattle.qs_request.specs.declared.whole_run.WholeRun.{WholeRun as Run};
 ghost use Rattle.qs_request.specs.Inside.{IsFree, IsReached, client_of, request_of};
-ghost use Rattle.qs_request.specs.RunSteps.{IsNextRun, RanOut, geometry_for};
+ghost use Rattle.qs_request.specs.RunSteps.{AreZeros, IsNextRun, RanOut, geometry_for};
 ghost use Rattle.qs_request.specs.Shapes.{IsShape};
 ghost use Rattle.qs_request.specs.WholeRuns.{IsNotWhole, IsWholeRun};
 
@@ -61,7 +61,7 @@ impl Machine {
     {
         match self.stage {
             Stage::In(k, Step::Load(b)) => self.run_from(k, b),
-            Stage::In(k, Step::Store(b)) if brings_bytes(self.ask.kind) => self.run_from(k, b),
+            Stage::In(k, Step::Store(b)) => self.run_from(k, b),
             _ => None,
         }
     }
@@ -144,21 +144,81 @@ impl Machine {
         }
     }
 
-    /// Does the run that is next.
-    pub fn run<D: Disk + Drop>(&mut self, run: WholeRun, stripe: &mut Stripe<D>) -> Note
+    /// A WRITE_ZEROES stores a run of zeros.
+    fn zero_run<D: Disk + Drop>(
+        &mut self,
+        run: WholeRun,
+        zeros: &mut Bytes,
+        stripe: &mut Stripe<D>,
+    ) -> Note
         requires free { IsFree self.old }
-        requires next { IsNextRun self.old.shape.align (request_of self.old) run }
+        requires stage { self.old.stage ≡ Stage.In run.k (Step.Store run.b) }
+        requires brings { brings_bytes self.old.ask.kind ≡ false }
+        requires whole { IsWholeRun self.old.shape.align (span_of (client_of self.old)) run }
+        requires zeros { AreZeros (run.n * self.old.shape.align) zeros.old }
         requires stripe { geometry (stripe_value D.seen stripe.old) ≡ geometry_for self.old.shape run.b }
         ensures ran { RanOut self.old.shape (stripe_of run.b) run.n result
             (record { request = request_of self.old; stripe = stripe_value D.seen stripe.old })
             (record { request = request_of self.new; stripe = stripe_value D.seen stripe.new }) }
         ensures free { IsFree self.new }
         ensures shape { self.new.shape ≡ self.old.shape }
+        ensures zeros { zeros.new ≡ zeros.old }
+        ensures same { geometry (stripe_value D.seen stripe.new) ≡ geometry (stripe_value D.seen stripe.old) }
+    {
+        let WholeRun { k, b, n, .. } = run;
+        let buf = mem::replace(zeros, Bytes::of(Vec::new(self.alloc)));
+        match stripe.run(RunOp::Store {
+            b,
+            k,
+            n,
+            at: 0,
+            buf,
+        }) {
+            RunReply::Done(back) => {
+                let last = b + u64::from(n - 1);
+                *zeros = back;
+                self.stage = Stage::In(k, self.stored(last));
+                note_of(OpKind::Store, last, StripeNote::Done)
+            }
+            RunReply::Fault(done, back) => {
+                let last = b + u64::from(done);
+                *zeros = back;
+                self.stage = Stage::In(k, self.store_failed(last));
+                return note_of(OpKind::Store, last, StripeNote::Fault);
+            }
+            RunReply::HeldBy(done, j, back) => {
+                let last = b + u64::from(done);
+                *zeros = back;
+                self.stage = Stage::In(k, Step::Store(last));
+                return note_of(OpKind::Store, last, StripeNote::HeldBy(j));
+            }
+            _ => unreachable!(),
+        }
+    }
+
+    /// Does the run that is next.
+    pub fn run<D: Disk + Drop>(
+        &mut self,
+        run: WholeRun,
+        zeros: &mut Bytes,
+        stripe: &mut Stripe<D>,
+    ) -> Note
+        requires free { IsFree self.old }
+        requires next { IsNextRun self.old.shape.align (request_of self.old) run }
+        requires zeros { AreZeros (run.n * self.old.shape.align) zeros.old }
+        requires stripe { geometry (stripe_value D.seen stripe.old) ≡ geometry_for self.old.shape run.b }
+        ensures ran { RanOut self.old.shape (stripe_of run.b) run.n result
+            (record { request = request_of self.old; stripe = stripe_value D.seen stripe.old })
+            (record { request = request_of self.new; stripe = stripe_value D.seen stripe.new }) }
+        ensures free { IsFree self.new }
+        ensures shape { self.new.shape ≡ self.old.shape }
+        ensures zeros { zeros.new ≡ zeros.old }
         ensures same { geometry (stripe_value D.seen stripe.new) ≡ geometry (stripe_value D.seen stripe.old) }
     {
         match self.stage {
             Stage::In(_, Step::Load(_)) => self.load_run(run, stripe),
-            _ => return self.store_run(run, stripe),
+            _ if brings_bytes(self.ask.kind) => return self.store_run(run, stripe),
+            _ => return self.zero_run(run, zeros, stripe),
         }
     }
 }
