@@ -15,3 +15,5 @@ pub mod Ready
 pub mod Plans
 pub mod Crashes
 pub mod SameDisks
+pub mod Meant
+pub mod RunChain

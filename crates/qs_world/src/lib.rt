@@ -8,6 +8,7 @@ mod disks;
 mod inner;
 pub mod live;
 mod notes;
+mod running;
 #[cfg(test)]
 mod tests;
 pub mod world;

@@ -1,9 +1,12 @@
 ghost use Rattle.std.specs.Prelude.{◌≡◌, ◌↔◌, ◌<◌, ◌&&◌, false, map, MatchResult};
+ghost use Rattle.qs_part.specs.declared.event.Actor.TheVariants.{Request as ARequest};
+ghost use Rattle.qs_part.specs.declared.event.Event.TheVariants.{Step as AStep};
 ghost use Rattle.qs_part.specs.declared.event.Outcome.TheVariants.{NotNext};
 ghost use Rattle.qs_model.specs.Worlds.{World as Model_};
 ghost use Rattle.qs_world.specs.Crashing.{Crashed};
 ghost use Rattle.qs_world.specs.Events.{HasCause, IsNotNext, StepsTo};
 ghost use Rattle.qs_world.specs.Openings.{ComeBack, Exports, HasNoExport, IsOpened, Planned};
+ghost use Rattle.qs_world.specs.Running.{RepeatsTo};
 ghost use Rattle.qs_world.specs.Stands.{Stands};
 
 use crate::crash::crash_all;
@@ -116,6 +119,19 @@ impl<D: Disk + Drop> World<D> {
         ensures model { (m : Model_) × Stands D.seen self.new m }
     {
         self.core.step(event)
+    }
+
+    /// A request does the run of whole blocks that is next, as one call of a stripe, or its next step: single
+    /// steps of the model, one after the other, up to the first that isn't done (clause `repeats`). The
+    /// outcome is that of the last one. NotNext comes exactly where there is no such request. It takes no
+    /// memory.
+    pub fn run_request(&mut self, number: u64, now: u64) -> Outcome
+        ensures repeats { RepeatsTo D.seen self.old (AStep (ARequest number) now) result self.new }
+        ensures next { (result ≡ NotNext) ↔ IsNotNext self.old (AStep (ARequest number) now) }
+        ensures before { (m : Model_) × Stands D.seen self.old m }
+        ensures model { (m : Model_) × Stands D.seen self.new m }
+    {
+        self.core.run_request(number, now)
     }
 
     /// Whether the file node may only be read.
