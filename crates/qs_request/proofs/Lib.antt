@@ -8,3 +8,6 @@ pub mod NextSync
 pub mod Wanted
 mod WholeReads
 mod WholeWrites
+mod RunChains
+mod RunMachine
+mod RunZeros

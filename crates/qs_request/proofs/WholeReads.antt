@@ -112,7 +112,7 @@ module _ (A : ℕ) (q : Req) (run : WholeRun) (buf : List ℕ) (some : 0 < A) (i
       ∙ ap (λ n. record q { stage = In run.k (ToLoad (run.b + suc i) (take (run.at + n * A) buf)) }) next
 
   -- behind the last block
-  last-load : (m : ℕ) (t : Bool) → suc m ≡ run.n → (run.b + m == edge A q.client Tail) ≡ t → behind_loads A run buf q (suc m)
+  pub last-load : (m : ℕ) (t : Bool) → suc m ≡ run.n → (run.b + m == edge A q.client Tail) ≡ t → behind_loads A run buf q (suc m)
       ≡ record q { stage = In run.k (cond t (ToEnd (Got (take (run.at + run.n * A) buf))) (ToLoad (run.b + run.n) (take (run.at + run.n * A) buf))) }
   last-load m t whole test =
       let below : m < run.n = omega (arith, whole) in

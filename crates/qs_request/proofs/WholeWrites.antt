@@ -14,7 +14,7 @@ use Rattle.qs_request.specs.WholeRuns.{IsWholeRun, IsWritingRun, behind_stores, 
 use Rattle.qs_request.proofs.WholeReads.{isnt-last, run-ends}
 
 -- a place of the span is covered
-covered : (c : Client) (x : ℕ) → (span_of c).lo ≤ x → x < (span_of c).hi → covers c x ≡ true
+pub covered : (c : Client) (x : ℕ) → (span_of c).lo ≤ x → x < (span_of c).hi → covers c x ≡ true
 covered c x low high = rw (le-leb (span_of c).lo x low, lt-ltb x (span_of c).hi high) refl
 
 -- a block that the span covers wholly gets the body's bytes

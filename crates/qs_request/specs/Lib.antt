@@ -6,3 +6,4 @@ pub mod Kept
 pub mod Inside
 pub mod Operations
 pub mod WholeRuns
+pub mod RunSteps

@@ -11,6 +11,7 @@ mod pads;
 mod replies;
 pub mod req;
 pub mod run_laws;
+mod runs;
 pub mod shape;
 mod stage;
 mod stripes;

@@ -1,6 +1,10 @@
-ghost use Rattle.std.specs.Prelude.{◌≡◌, ◌↔◌, IsTrue, length, false, true};
+ghost use Rattle.std.specs.Prelude.{◌≡◌, ◌↔◌, ◌*◌, IfNone, IfSome, IsTrue, length, false, true};
 ghost use Rattle.std.specs.Option.{ForSome};
+ghost use Rattle.qs_bytes.specs.Geometry.{stripe_of};
+ghost use Rattle.qs_stripe.specs.Table.{geometry, value_of as stripe_value};
 ghost use Rattle.qs_model.specs.Requests.{abandon, asked};
+ghost use Rattle.qs_request.specs.declared.whole_run.WholeRun.{WholeRun as Run};
+ghost use Rattle.qs_request.specs.RunSteps.{AreZeros, IsNextRun, RanOut, geometry_for};
 ghost use Rattle.qs_request.specs.Shapes.{IsShape, IsRoom};
 ghost use Rattle.qs_request.specs.Table.{FitsPart, MayReply, Wants, followed};
 ghost use Rattle.qs_request.specs.Value.{IsReady, Gave, client_for};
@@ -9,7 +13,11 @@ use crate::machine::Machine;
 use crate::shape::{Blocks, Shape};
 use crate::stage::Stage;
 use crate::todo::{PartReply, Todo};
+use crate::whole_run::WholeRun;
 use qs_bytes::{Ask, Bytes};
+use qs_outside::Disk;
+use qs_part::event::Note;
+use qs_stripe::stripe::Stripe;
 use std::alloc::Global;
 use std::marker::Model;
 
@@ -139,6 +147,42 @@ impl Req {
         } }
     {
         self.machine.after(reply);
+    }
+
+    /// The whole blocks of one group of sixteen that a READ loads next, or a WRITE or WRITE_ZEROES stores, as many as
+    /// there are. None exactly where the next operation is another, or on a block that the span doesn't cover
+    /// wholly.
+    pub fn whole_run(&self) -> Option<WholeRun>
+        requires free { self.now.waits ≡ false }
+        requires unanswered { self.now.answered ≡ false }
+        ensures some { IfSome result (λ run. IsNextRun self.now.shape.align self.now.request run) }
+        ensures none { IfNone result ((run : Run) → IsNextRun self.now.shape.align self.now.request run → ⊥) }
+    {
+        self.machine.whole_run()
+    }
+
+    /// Does the run that is next on its stripe, in the request's own buffer or for a WRITE_ZEROES with these
+    /// zeros, and says how the last of its operations was answered: those that would come one by one, up to the
+    /// first that isn't done. The zeros stay.
+    pub fn run<D: Disk + Drop>(
+        &mut self,
+        run: WholeRun,
+        zeros: &mut Bytes,
+        stripe: &mut Stripe<D>,
+    ) -> Note
+        requires free { self.old.waits ≡ false }
+        requires unanswered { self.old.answered ≡ false }
+        requires next { IsNextRun self.old.shape.align self.old.request run }
+        requires zeros { AreZeros (run.n * self.old.shape.align) zeros.old }
+        requires stripe { geometry (stripe_value D.seen stripe.old) ≡ geometry_for self.old.shape run.b }
+        ensures ran { RanOut self.old.shape (stripe_of run.b) run.n result
+            (record { request = self.old.request; stripe = stripe_value D.seen stripe.old })
+            (record { request = self.new.request; stripe = stripe_value D.seen stripe.new }) }
+        ensures rest { self.new ≡ record self.old { request = self.new.request } }
+        ensures zeros { zeros.new ≡ zeros.old }
+        ensures same { geometry (stripe_value D.seen stripe.new) ≡ geometry (stripe_value D.seen stripe.old) }
+    {
+        self.machine.run(run, zeros, stripe)
     }
 
     /// The session has left: a request that hasn't entered is dropped at once, one without a span

@@ -15,3 +15,6 @@ pub mod Ready
 pub mod Plans
 pub mod Crashes
 pub mod SameDisks
+pub mod Meant
+pub mod RunChain
+pub mod ZeroBytes

@@ -10,3 +10,4 @@ pub mod Cores
 pub mod Bodies
 pub mod Openings
 pub mod Crashing
+pub mod Running

@@ -39,7 +39,7 @@ pub struct Core<D> {
 
 impl<D: Disk + Drop> Core<D> {
     /// The request at an index does its next operation, on one part.
-    fn step_at(&mut self, at: usize, now: u64) -> Outcome
+    pub fn step_at(&mut self, at: usize, now: u64) -> Outcome
         requires sound { IsSound D.seen (value_of self.old) }
         requires inside { at < length self.old.requests.items }
         ensures { (l : ALive) → IsElement self.old.requests.items at l →

@@ -8,7 +8,9 @@ mod disks;
 mod inner;
 pub mod live;
 mod notes;
+mod running;
 mod spare;
 #[cfg(test)]
 mod tests;
 pub mod world;
+mod zeros;

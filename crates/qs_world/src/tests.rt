@@ -21,6 +21,8 @@ enum Act {
     /// A READ of four bytes whose buffer has five.
     WrongBuffer(u32),
     Step(u64),
+    /// A run of whole blocks of a request, or one step.
+    Run(u64),
     StepSession(u32),
     Plan(u8, Fail),
     /// Each block is left as it was stored this often, and the export is made anew, read-only.
@@ -158,7 +160,7 @@ fn event(alloc: Global, act: Act) -> Result<Event, Failure> {
         Act::WrongBuffer(s) => asked(s, ask(Kind::Read, 0, 4), Some(bytes(alloc, 5, 0)?)),
         Act::Step(r) => stepped(Actor::Request(r)),
         Act::StepSession(s) => stepped(Actor::Session(s)),
-        Act::Plan(_, _) | Act::Crash(_) => Event::Leave { session: 99 },
+        Act::Plan(_, _) | Act::Crash(_) | Act::Run(_) => Event::Leave { session: 99 },
     })
 }
 
@@ -175,6 +177,7 @@ fn play(
                 world.plan(stripe, fail);
                 Said::Planned
             }
+            Act::Run(r) => told(&world.run_request(r, 0)),
             Act::Crash(rest) => {
                 let picks = Picks([(0, 1)].to_vec(alloc)?);
                 world.crash(&CrashChoice { rest, picks });
@@ -444,4 +447,38 @@ fn seven_disks_come_back(rt: HostRuntime) -> Result<(), Failure> {
             Ok(())
         }
     }
+}
+
+#[test]
+fn whole_blocks_in_runs(rt: HostRuntime) -> Result<(), Failure> {
+    let mut world = world(rt.alloc())?;
+    let script = [
+        (Act::Attach(1), Said::Attached(4096, true)),
+        (Act::Write(1, 0, 1536, 0x11), Said::Made(0)),
+        (Act::Run(0), Said::Enter(0)),
+        (Act::Run(0), Said::Route(0, 4096)),
+        (Act::Run(0), Said::Listed(0)),
+        (Act::Run(0), Said::Started),
+        (Act::Run(0), Said::Stored(2)),
+        (Act::Run(0), Said::Fine),
+        (Act::Run(0), Said::NotNext),
+        (Act::Read(1, 100, 1500), Said::Made(1)),
+        (Act::Run(1), Said::Enter(0)),
+        (Act::Run(1), Said::Route(0, 4096)),
+        (Act::Run(1), Said::Listed(1)),
+        (Act::Run(1), Said::Started),
+        (Act::Run(1), Said::Filled(0)),
+        (Act::Run(1), Said::Filled(2)),
+        (Act::Run(1), Said::Filled(3)),
+        (Act::Run(1), Said::Got(1500, 0x11, 0)),
+        (Act::Plan(0, Fail::Load), Said::Planned),
+        (Act::Read(1, 0, 4096), Said::Made(2)),
+        (Act::Run(2), Said::Enter(0)),
+        (Act::Run(2), Said::Route(0, 4096)),
+        (Act::Run(2), Said::Listed(2)),
+        (Act::Run(2), Said::Started),
+        (Act::Run(2), Said::Fault(0)),
+        (Act::Run(2), Said::Refused(Errno::Io)),
+    ];
+    play(&rt, rt.alloc(), &mut world, &script)
 }

@@ -1,15 +1,19 @@
 ghost use Rattle.std.specs.Prelude.{◌≡◌, ◌↔◌, ◌<◌, ◌&&◌, false, map, MatchResult};
+ghost use Rattle.qs_part.specs.declared.event.Actor.TheVariants.{Request as ARequest};
+ghost use Rattle.qs_part.specs.declared.event.Event.TheVariants.{Step as AStep};
 ghost use Rattle.qs_part.specs.declared.event.Outcome.TheVariants.{NotNext};
 ghost use Rattle.qs_model.specs.Worlds.{World as Model_};
 ghost use Rattle.qs_world.specs.Crashing.{Crashed};
 ghost use Rattle.qs_world.specs.Events.{HasCause, IsNotNext, StepsTo};
 ghost use Rattle.qs_world.specs.Openings.{ComeBack, Exports, HasNoExport, IsOpened, Planned};
+ghost use Rattle.qs_world.specs.Running.{RepeatsTo};
 ghost use Rattle.qs_world.specs.Stands.{Stands};
 
 use crate::crash::crash_all;
 use crate::disks::{put_away, put_back};
 use crate::inner::Core;
 use crate::spare::Spare;
+use crate::zeros::{MOST_ZEROS, zeros_of};
 use qs_bytes::{Bytes, Memory, Name};
 use qs_graph::graph::Graph;
 use qs_image::open_fault;
@@ -33,6 +37,8 @@ pub struct World<D: Disk + Drop> {
     core: Core<D>,
     /// The vector that the disks came in, kept empty, so that giving them back takes no memory.
     spare: Vec<D>,
+    /// What runs of zeros are stored from.
+    zeros: Bytes,
 }
 
 impl<D: Disk + Drop> Model for World<D> {
@@ -43,11 +49,12 @@ impl<D: Disk + Drop> Model for World<D> {
     ghost Value = { WorldValue D };
 
     ghost use Rattle.qs_world.specs.Cores.{value_of};
+    ghost use Rattle.qs_request.specs.RunSteps.{AreZeros};
     ghost use Rattle.qs_world.specs.Sound.{IsSound};
 
     ghost view = { λ w. value_of w.core };
 
-    ghost invariant = { λ w. IsSound D.seen (value_of w.core) × (w.spare.items ≡ []) × (8 ≤ vec_capacity w.spare) };
+    ghost invariant = { λ w. IsSound D.seen (value_of w.core) × (w.spare.items ≡ []) × (8 ≤ vec_capacity w.spare) × AreZeros 65536 w.zeros };
 }
 
 impl<D: Disk + Drop> World<D> {
@@ -78,6 +85,9 @@ impl<D: Disk + Drop> World<D> {
         let Ok(tracker) = Tracker::new(alloc, 0) else {
             return Err((disks, None));
         };
+        let Some(zeros) = zeros_of(alloc, MOST_ZEROS) else {
+            return Err((disks, None));
+        };
         let mut spare = disks;
         match put_away(alloc, &mut spare) {
             Some(stripes) => {
@@ -92,7 +102,7 @@ impl<D: Disk + Drop> World<D> {
                     spare: Spare::new(),
                     alloc,
                 };
-                Ok(World { core, spare })
+                Ok(World { core, spare, zeros })
             }
             None => Err((spare, None)),
         }
@@ -128,6 +138,19 @@ impl<D: Disk + Drop> World<D> {
         ensures { self.new ≡ self.old }
     {
         self.core.spare.take_body()
+    }
+
+    /// A request does the run of whole blocks that is next, as one call of a stripe, or its next step: single
+    /// steps of the model, one after the other, up to the first that isn't done (clause `repeats`). The
+    /// outcome is that of the last one. NotNext comes exactly where there is no such request. It takes no
+    /// memory.
+    pub fn run_request(&mut self, number: u64, now: u64) -> Outcome
+        ensures repeats { RepeatsTo D.seen self.old (AStep (ARequest number) now) result self.new }
+        ensures next { (result ≡ NotNext) ↔ IsNotNext self.old (AStep (ARequest number) now) }
+        ensures before { (m : Model_) × Stands D.seen self.old m }
+        ensures model { (m : Model_) × Stands D.seen self.new m }
+    {
+        self.core.run_request(number, now, &mut self.zeros)
     }
 
     /// Whether the file node may only be read.

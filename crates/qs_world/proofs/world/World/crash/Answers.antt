@@ -17,7 +17,7 @@ invariant_of-self g c =
     (subst (λ (ss : List (StripeState _)). StripesCrash g.D.Disk.seen c.args.choice.now ss c.crash_all.new.stripes) c.deref_mut.ensures.value c.crash_all.ensures) in
     let all = crashed_all g.D.Disk.seen (value_of c.self.inside.core) _ c.args.choice.now c.self.invariant.0 crash refl refl
     c.clear.ensures.items c.clear-2.ensures.items c.reset.ensures c.reset-2.ensures in
-    (all.1, c.self.invariant.1, c.self.invariant.2)
+    (all.1, c.self.invariant.1, c.self.invariant.2, c.self.invariant.3)
 
 pub returns : goal.returns
 returns g c =

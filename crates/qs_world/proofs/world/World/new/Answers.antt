@@ -52,7 +52,7 @@ invariant_of-result g c =
     })
     c.align.result c.length.result image align size refl refl c.new-in-Some-put_away.ensures.items c.new-in-Some-put_away-2.ensures.items
     c.in-Ok.ensures c.in-Ok-new.ensures c.in-Some-put_away.ensures.gone.1 c.in-Some-put_away.ensures.gone.2 in
-    (fresh_sound g.D.Disk.seen c.args.disks.items c.args.file c.args.read_only _ fresh, c.in-Some-put_away.ensures.gone.0, omega (arith, c.in-Some-put_away.ensures.room, many))
+    (fresh_sound g.D.Disk.seen c.args.disks.items c.args.file c.args.read_only _ fresh, c.in-Some-put_away.ensures.gone.0, omega (arith, c.in-Some-put_away.ensures.room, many), c.in-Some-zeros_of.ensures)
 
 pub returns-in-Some-put_away : goal.returns-in-Some-put_away
 returns-in-Some-put_away g c =

@@ -11,7 +11,7 @@ invariant_of-self g c =
     let below : c.from.result < 8 = rw c.from.ensures c.requires in
     let all = planned_all g.D.Disk.seen (value_of c.self.inside.core) c.from.result c.index_mut.result.now c.plan.new.self c.args.fail c.self.invariant.0 below
     c.index_mut.ensures.value c.plan.ensures.holds c.plan.ensures.clean c.plan.ensures.disk in
-    (all.1, c.self.invariant.1, c.self.invariant.2)
+    (all.1, c.self.invariant.1, c.self.invariant.2, c.self.invariant.3)
 
 pub returns : goal.returns
 returns g c =
