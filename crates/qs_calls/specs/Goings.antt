@@ -9,7 +9,10 @@ use Rattle.qs_part.specs.declared.event.StripeNote.TheVariants as stripe
 use Rattle.qs_part.specs.declared.tracker.TrackerReply.TheVariants as tracker
 use Rattle.qs_part.specs.declared.event.GraphNote.{GraphNote}
 use Rattle.qs_part.specs.declared.event.GraphNote.TheVariants as graph
-use Rattle.qs_calls.specs.Calls.{Call, Happened}
+use Rattle.qs_outside.specs.Blocks.{Seen}
+use Rattle.qs_world.specs.Running.{meant}
+use Rattle.qs_world.specs.Values.{WorldValue}
+use Rattle.qs_calls.specs.Calls.{Call, Happened, Plays}
 
 -- an answer of the graph to a request
 abbrev pub is_way : GraphNote → Bool
@@ -46,3 +49,9 @@ pub record RunsOut (made : Event) (calls : List Call) (last : Outcome) : Type 0 
   pub on : All (GoesOn made) front
   pub whole : calls ≡ front ++ Happened made last ∷ []
   pub ends : goes_on last ≡ false
+
+-- the steps of one actor up to its last one, over disks that are their meaning: calls of the core, one behind the other
+pub record RanOut {D : Type 0} (seen : D → Seen) (w : WorldValue D) (made : Event) (last : Outcome) (w' : WorldValue D) : Type 0 where
+  pub calls : List Call
+  pub plays : Plays (λ d. d) (meant seen w) calls (meant seen w')
+  pub out : RunsOut made calls last

@@ -2,8 +2,10 @@
 //! export; and the steps of one actor, up to the last one that it can make now.
 #![tactic(auto)]
 
+mod blocks;
 mod open;
 mod run;
 
+pub use blocks::run_blocks;
 pub use open::open_core;
 pub use run::{StepsMade, run_counted, run_out};

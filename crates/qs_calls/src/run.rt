@@ -31,7 +31,7 @@ fn reply_moves_on(reply: &NoteReply) -> bool
 }
 
 /// Whether the outcome isn't the last of a run.
-fn outcome_goes_on(outcome: &Outcome) -> bool
+pub fn outcome_goes_on(outcome: &Outcome) -> bool
     ensures { result ≡ goes_on outcome.now }
 {
     match outcome {
