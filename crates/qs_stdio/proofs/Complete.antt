@@ -1,5 +1,5 @@
 -- A valid stream is served to its end.
-use Rattle.std.proofs.Common.{◌≡◌, ◌≢◌, ℕ, ◌≤◌, ◌^◌, ◌⊎◌, inl, inr, Bool, true, false, not, List, [], ◌∷◌, ◌++◌, length, refl, sym, ap, ◌∙◌, subst, arith, append-nil, append_assoc, length-append}
+use Rattle.std.proofs.Common.{◌≡◌, ◌≢◌, ℕ, ◌≤◌, ◌^◌, ◌⊎◌, inl, inr, Bool, true, false, not, List, [], ◌∷◌, ◌++◌, length, refl, sym, ap, ◌∙◌, subst, arith, append-nil, append_assoc, length-append, true≢false}
 use Rattle.std.proofs.lemmas.Option.{none-some}
 use Rattle.std.specs.Prelude.{Option, None, Some, String, map}
 use Rattle.std.specs.Global.{Global}
@@ -32,8 +32,10 @@ use Rattle.qs_stdio.specs.Service.{Exchange, AllFit, asked}
 use Rattle.qs_stream.specs.Bytes.{Takes}
 use Rattle.qs_stdio.specs.Scenes.{Scene, IsCut, disks_in}
 use Rattle.qs_stdio.specs.Streams.{Leaves, IsValidStream, IsServed}
-use Rattle.qs_stream.specs.Flows.{Side}
-use Rattle.qs_stdio.specs.Runs.{Sitting, Ran, first, last_scene}
+use Rattle.qs_stream.specs.Buffers.{Buffers}
+use Rattle.qs_stream.specs.Flows.{Flow, Side}
+use Rattle.qs_world.specs.Values.{WorldValue}
+use Rattle.qs_stdio.specs.Runs.{Holds, ServesStream, Sitting, Ran, first, last_scene}
 use Rattle.qs_stdio.proofs.Sought.{nothing_front}
 
 -- no more messages are read than the stream has
@@ -214,20 +216,55 @@ module _ {D : Type 0} (seen : D → Seen) (session : ℕ) (writable structured :
       valid.ends
   not_ended other sits = absurd sits.ends
 
+-- a session that began at once sat from its first scene on
+record Sat {D : Type 0} (seen : D → Seen) (read_only : Bool) (input output : Side) (result : Status) (input' output' : Side) (new : WorldValue D) : Type 0 where
+  pub begun : WorldValue D
+  pub structured : Bool
+  pub stream : Buffers
+  pub sits : Sitting seen 0 (not read_only) structured (2 ^ 32) (first input output begun) (last_scene input' output' stream new) result
+
+only_sat : {D : Type 0} (seen : D → Seen) (disks : List D) (read_only transmission : Bool) (input output : Side) (start : WorldValue D) (result : Status) (input' output' : Side) (new : WorldValue D) →
+    transmission ≡ true → (result ≡ status.Memory → ⊥) → ServesStream seen disks read_only transmission (2 ^ 32) input output start result input' output' new → Sat seen read_only input output result input' output' new
+only_sat seen disks read_only true input output start result input' output' new at_once fed (inl sits) = record {
+  begun = sits.begun;
+  structured = sits.mode.structured;
+  stream = sits.stream;
+  sits = subst (λ (f : Flow). Sitting seen 0 (not read_only) sits.mode.structured (2 ^ 32) (record { flow = f; world = sits.begun }) (last_scene input' output' sits.stream new) result)
+      sits.comes.1 sits.sits;
+}
+only_sat seen disks read_only false input output start result input' output' new at_once fed (inl sits) = absurd (cc)
+only_sat seen disks read_only transmission input output start result input' output' new at_once fed (inr (inl forgoes)) = absurd (fed forgoes.result_is)
+only_sat seen disks read_only transmission input output start result input' output' new at_once fed (inr (inr declines)) = absurd (true≢false (sym at_once ∙ declines.0))
+
 -- a valid stream over an image, without a fault of its ends, is served
 pub complete_of : {D : Type 0} (seen : D → Seen) (words : List (String Global)) (disks disks' : List D) (input output : Side) (result : Status) (input' output' : Side) (stream : List ℕ) →
-    Ran words seen disks input output result disks' input' output' → input.bytes ≡ Some stream → IsValidStream stream → (told : StdioWords) → command words ≡ Some told → IsImage (map seen disks) →
-    (result ≡ status.ReadFault → ⊥) → (result ≡ status.WriteFault → ⊥) → IsServed result
-complete_of seen words disks disks' input output status.Done input' output' stream ran is valid told command image read write = inl refl
-complete_of seen words disks disks' input output status.Memory input' output' stream ran is valid told command image read write = inr refl
-complete_of seen words disks disks' input output status.Usage input' output' stream ran is valid told command image read write = absurd (none-some told (sym ran.0 ∙ command))
-complete_of seen words disks disks' input output (status.OpenBad fault) input' output' stream ran is valid told command image read write =
-    absurd (opens_not (map seen disks) fault image ran.2.0)
-complete_of seen words disks disks' input output status.ReadFault input' output' stream ran is valid told command image read write = absurd (read refl)
-complete_of seen words disks disks' input output status.WriteFault input' output' stream ran is valid told command image read write = absurd (write refl)
-complete_of seen words disks disks' input output (status.BadLine n) input' output' stream ran is valid told command image read write = absurd ran.2.sits.sits.ends
-complete_of seen words disks disks' input output (status.NotNext n) input' output' stream ran is valid told command image read write = absurd ran.2.sits.sits.ends
-complete_of seen words disks disks' input output status.Spent input' output' stream ran is valid told command image read write =
-    absurd (not_spent seen 0 (not ran.0.read_only) false stream (first input output ran.2.sits.begun) (last_scene input' output' ran.2.sits.stream ran.2.new) valid is refl ran.2.sits.sits)
-complete_of seen words disks disks' input output (status.Ended e) input' output' stream ran is valid told command image read write =
-    absurd (not_ended seen 0 (not ran.0.read_only) false stream (first input output ran.2.sits.begun) (last_scene input' output' ran.2.sits.stream ran.2.new) valid is refl e ran.2.sits.sits)
+    Ran words seen disks input output result disks' input' output' → input.bytes ≡ Some stream → IsValidStream stream → (told : StdioWords) → command words ≡ Some told → told.transmission ≡ true →
+    IsImage (map seen disks) → (result ≡ status.ReadFault → ⊥) → (result ≡ status.WriteFault → ⊥) → IsServed result
+complete_of {D} seen words disks disks' input output result input' output' stream ran is valid told told_is at_once image read write = go result ran read write
+  where
+    same_told : (o : Option StdioWords) (a b : StdioWords) → o ≡ Some a → o ≡ Some b → b ≡ a
+    same_told o a b p q = cc
+
+    at_once_too : (other : StdioWords) → command words ≡ Some other → other.transmission ≡ true
+    at_once_too other q = ap (λ (w : StdioWords). w.transmission) (same_told (command words) told other told_is q) ∙ at_once
+
+    sat : (s : Status) (other : StdioWords) → command words ≡ Some other → (s ≡ status.Memory → ⊥) → Holds seen disks other.read_only other.transmission input output s disks' input' output' →
+        (read_only : Bool) × (new : WorldValue D) × Sat seen read_only input output s input' output' new
+    sat s other q fed holds =
+        (other.read_only, holds.new, only_sat seen disks other.read_only other.transmission input output holds.start s input' output' holds.new (at_once_too other q) fed holds.serves)
+
+    go : (s : Status) → Ran words seen disks input output s disks' input' output' → (s ≡ status.ReadFault → ⊥) → (s ≡ status.WriteFault → ⊥) → IsServed s
+    go status.Done ran read write = inl refl
+    go status.Memory ran read write = inr refl
+    go status.Usage ran read write = absurd (none-some told (sym ran.0 ∙ told_is))
+    go (status.OpenBad fault) ran read write = absurd (opens_not (map seen disks) fault image ran.2.0)
+    go status.ReadFault ran read write = absurd (read refl)
+    go status.WriteFault ran read write = absurd (write refl)
+    go (status.BadLine n) ran read write = let (read_only, new, s) = sat (status.BadLine n) ran.0 ran.1 (λ e. cc) ran.2 in absurd s.sits.ends
+    go (status.NotNext n) ran read write = let (read_only, new, s) = sat (status.NotNext n) ran.0 ran.1 (λ e. cc) ran.2 in absurd s.sits.ends
+    go status.Spent ran read write =
+        let (read_only, new, s) = sat status.Spent ran.0 ran.1 (λ e. cc) ran.2 in
+        absurd (not_spent seen 0 (not read_only) s.structured stream (first input output s.begun) (last_scene input' output' s.stream new) valid is refl s.sits)
+    go (status.Ended e) ran read write =
+        let (read_only, new, s) = sat (status.Ended e) ran.0 ran.1 (λ e. cc) ran.2 in
+        absurd (not_ended seen 0 (not read_only) s.structured stream (first input output s.begun) (last_scene input' output' s.stream new) valid is refl e s.sits)

@@ -4,5 +4,6 @@ pub mod Sought
 pub mod Turning
 pub mod Outliving
 pub mod Serving
+pub mod Handshaking
 pub mod Running
 pub mod Complete

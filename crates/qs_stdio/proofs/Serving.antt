@@ -144,7 +144,7 @@ fault_ends state.Open budget xs after rest failed front = absurd (failed refl)
 fault_ends state.ReadFault budget xs after rest failed front = front
 fault_ends state.WriteFault budget xs after rest failed front = inl front
 
-fault_side : (s : State) → s ≢ state.Open → s ≡ side_of (fault_at s)
+pub fault_side : (s : State) → s ≢ state.Open → s ≡ side_of (fault_at s)
 fault_side state.Open failed = absurd (failed refl)
 fault_side state.ReadFault failed = refl
 fault_side state.WriteFault failed = refl

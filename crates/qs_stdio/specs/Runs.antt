@@ -1,11 +1,17 @@
 -- What `run_stdio` does, from its words to its status.
-use Rattle.std.specs.Prelude.{◌≡◌, ◌^◌, ℕ, ◌⊎◌, Bool, false, not, List, [], ◌∷◌, ◌++◌, length, map, codes, None, Some, String, Result, Ok, Err}
+use Rattle.std.specs.Prelude.{◌≡◌, ◌≢◌, ◌^◌, ℕ, ◌⊎◌, Bool, true, false, not, List, [], ◌∷◌, ◌++◌, length, map, codes, None, Some, String, Result, Ok, Err}
 use Rattle.std.specs.Global.{Global}
+use Rattle.std.proofs.Common.{inl, inr}
+use Rattle.qs_bytes.specs.declared.ask.Mode.{Mode}
 use Rattle.qs_status.specs.declared.status.Status.{Status}
 use Rattle.qs_status.specs.declared.status.Status.TheVariants as status
+use Rattle.qs_opening.specs.declared.turn.Opened.{Opened}
+use Rattle.qs_opening.specs.declared.turn.Opened.TheVariants.{Transmit, Ends as Ended}
+use Rattle.qs_opening.specs.Openings.{Opens}
 use Rattle.qs_outside.specs.Blocks.{Seen}
+use Rattle.qs_outside.specs.declared.stream.Failed.{Failed}
 use Rattle.qs_image.specs.Image.{content, size_of, AllTell, SameDisks}
-use Rattle.qs_image.specs.Opening.{IsImage, Opens}
+use Rattle.qs_image.specs.Opening.{IsImage, Opens as OpensAs}
 use Rattle.qs_part.specs.declared.event.Event.TheVariants.{Attach}
 use Rattle.qs_part.specs.declared.event.Outcome.TheVariants.{Attached}
 use Rattle.qs_part.specs.declared.graph.ExportInfo.{ExportInfo}
@@ -18,7 +24,7 @@ use Rattle.qs_single.specs.Resting.{Attaches}
 use Rattle.qs_stream.specs.declared.state.State.{State}
 use Rattle.qs_stream.specs.declared.state.State.TheVariants as state
 use Rattle.qs_stream.specs.Buffers.{Buffers, new_buffers}
-use Rattle.qs_stream.specs.Flows.{Flow, Moved, Side}
+use Rattle.qs_stream.specs.Flows.{Flow, Moved, Puts, Side}
 use Rattle.qs_stdio.specs.declared.words.StdioWords.{StdioWords}
 use Rattle.qs_stdio.specs.Words.{command}
 use Rattle.qs_stdio.specs.Service.{Exchange, AllFit, CalledAll, LeadsAll, OutlastsAll, asked, answered, rounds}
@@ -79,53 +85,108 @@ first input output world = record { flow = record { input = input; output = outp
 abbrev pub last_scene : {D : Type 0} → Side → Side → Buffers → WorldValue D → Scene D
 last_scene input output stream world = record { flow = record { input = input; output = output; stream = stream }; world = world }
 
+-- what sessions without a handshake agreed on
+abbrev pub plain_mode : Mode
+plain_mode = record { no_zeroes = false; structured = false }
+
+-- How a session came to where its requests begin, with this core and by this mode: at once, at the export `disk`; or behind a
+-- handshake, whose last option was answered so that requests follow.
+abbrev pub ComesTo : {D : Type 0} → (D → Seen) → Bool → Bool → ℕ → Side → Side → WorldValue D → List ℕ → Mode → Flow → WorldValue D → Type 0
+ComesTo seen true read_only budget input output start name mode flow begun =
+    (mode ≡ plain_mode) × (flow ≡ (first input output begun).flow) × (name ≡ codes "disk")
+ComesTo seen false read_only budget input output start name mode flow begun =
+    Opens {E = Failed} seen 0 (not read_only) budget (first input output start).flow start (Ok (Transmit mode)) flow begun
+
+-- A session was attached to a core that was just opened, and sat to its end. Its calls are a run from the opening, with all laws.
+pub record Sits {D : Type 0} (seen : D → Seen) (disks : List D) (read_only transmission : Bool) (budget : ℕ) (input output : Side) (start : WorldValue D) (result : Status)
+    (input' output' : Side) (new : WorldValue D) : Type 0 where
+  pub begun : WorldValue D
+  pub name : List ℕ
+  pub info : ExportInfo
+  pub attaches : Attaches seen 0 (not read_only) start name info begun
+  pub mode : Mode
+  pub flow : Flow
+  pub comes : ComesTo seen transmission read_only budget input output start name mode flow begun
+  pub stream : Buffers
+  pub sits : Sitting seen 0 (not read_only) mode.structured budget (record { flow = flow; world = begun }) (last_scene input' output' stream new) result
+  pub run : HasRun seen (map seen disks) read_only start (Happened (Attach 0 name) (Attached info) ∷ rounds sits.exchanges) new
+
+-- The answers that waited were written, and the session ends as it was told; or a side failed.
+abbrev pub EndsAs : Status → Status → Buffers → Type 0
+EndsAs told result stream = ((stream.state ≡ state.Open) × (stream.held ≡ []) × (result ≡ told)) ⊎ ((stream.state ≢ state.Open) × (result ≡ fault_at stream.state))
+
+pub record Closes (output : Side) (old : Buffers) (told : Status) (output' : Side) (new : Buffers) (result : Status) : Type 0 where
+  pub puts : Puts [] output old output' new
+  pub ends : EndsAs told result new
+
+-- the status where the handshake ended the session
+abbrev pub Concludes : {E : Type 0} → Result Opened E → Status → Buffers → Type 0
+Concludes (Ok (Transmit mode)) result stream = ⊥
+Concludes (Ok (Ended told)) result stream = EndsAs told result stream
+Concludes (Err e) result stream = (stream.state ≢ state.Open) × (result ≡ fault_at stream.state)
+
+-- The handshake ended the session, and no request was read.
+pub record Declines {D : Type 0} (seen : D → Seen) (read_only : Bool) (budget : ℕ) (input output : Side) (start : WorldValue D) (result : Status)
+    (input' output' : Side) (new : WorldValue D) : Type 0 where
+  pub opened : Result Opened Failed
+  pub flow : Flow
+  pub opens : Opens {E = Failed} seen 0 (not read_only) budget (first input output start).flow start opened flow new
+  pub stream : Buffers
+  pub written : Moved [] [] flow (last_scene input' output' stream new).flow
+  pub concludes : Concludes opened result stream
+  pub failed : stream.state ≡ side_of result
+  pub disks : disks_of seen new ≡ disks_of seen start
+
 -- nothing was read or written
 pub record Idles (input output input' output' : Side) : Type 0 where
   pub input_same : input' ≡ input
   pub output_same : output' ≡ output
 
--- A session was attached to a core that was just opened, and sat to its end. Its calls are a run from the opening, with all laws.
-pub record Sits {D : Type 0} (seen : D → Seen) (disks : List D) (read_only : Bool) (budget : ℕ) (input output : Side) (start : WorldValue D) (result : Status)
-    (input' output' : Side) (new : WorldValue D) : Type 0 where
-  pub begun : WorldValue D
-  pub info : ExportInfo
-  pub attaches : Attaches seen 0 (not read_only) start (codes "disk") info begun
-  pub stream : Buffers
-  pub sits : Sitting seen 0 (not read_only) false budget (first input output begun) (last_scene input' output' stream new) result
-  pub run : HasRun seen (map seen disks) read_only start (Happened (Attach 0 (codes "disk")) (Attached info) ∷ rounds sits.exchanges) new
+-- Memory was refused before anything was read or written.
+pub record Forgoes {D : Type 0} (seen : D → Seen) (input output : Side) (start : WorldValue D) (result : Status) (input' output' : Side) (new : WorldValue D) : Type 0 where
+  pub result_is : result ≡ status.Memory
+  pub idle : Idles input output input' output'
+  pub same : disks_of seen new ≡ disks_of seen start
 
--- One client was served over a core that was just opened; or memory was refused before, and nothing was read or written.
-abbrev pub ServesStream : {D : Type 0} → (D → Seen) → List D → Bool → ℕ → Side → Side → WorldValue D → Status → Side → Side → WorldValue D → Type 0
-ServesStream seen disks read_only budget input output start status.Memory input' output' new =
-    (Idles input output input' output' × (disks_of seen new ≡ disks_of seen start)) ⊎ Sits seen disks read_only budget input output start status.Memory input' output' new
-ServesStream seen disks read_only budget input output start result input' output' new = Sits seen disks read_only budget input output start result input' output' new
+-- One client was served over a core that was just opened, with a handshake or without one.
+abbrev pub ServesStream : {D : Type 0} → (D → Seen) → List D → Bool → Bool → ℕ → Side → Side → WorldValue D → Status → Side → Side → WorldValue D → Type 0
+ServesStream seen disks read_only transmission budget input output start result input' output' new =
+    Sits seen disks read_only transmission budget input output start result input' output' new
+    ⊎ (Forgoes seen input output start result input' output' new
+    ⊎ ((transmission ≡ false) × Declines seen read_only budget input output start result input' output' new))
 
--- A session over the disks: they are an image, and hold then what it left.
-pub record Holds {D : Type 0} (seen : D → Seen) (disks : List D) (read_only : Bool) (input output : Side) (result : Status) (disks' : List D) (input' output' : Side) : Type 0 where
+-- its exchanges
+abbrev pub exchanges_in : {D : Type 0} {seen : D → Seen} {disks : List D} {read_only transmission : Bool} {budget : ℕ} {input output : Side} {start : WorldValue D} {result : Status}
+    {input' output' : Side} {new : WorldValue D} → ServesStream seen disks read_only transmission budget input output start result input' output' new → List Exchange
+exchanges_in (inl sits) = sits.sits.exchanges
+exchanges_in (inr other) = []
+
+-- A client was served over the disks: they are an image, and hold then what was left.
+pub record Holds {D : Type 0} (seen : D → Seen) (disks : List D) (read_only transmission : Bool) (input output : Side) (result : Status) (disks' : List D) (input' output' : Side) : Type 0 where
   pub image : IsImage (map seen disks)
   pub start : WorldValue D
   pub begins : Begins seen disks read_only start
   pub new : WorldValue D
-  pub sits : Sits seen disks read_only (2 ^ 32) input output start result input' output' new
+  pub serves : ServesStream seen disks read_only transmission (2 ^ 32) input output start result input' output' new
   pub disks_are : disks' ≡ map (λ (s : StripeState D). s.disk) new.stripes
   -- of the disks as they came and as they come back: the content goes on from request to request, and nothing else was made of them
-  pub service : AllTell (map seen disks) → LeadsAll (content (map seen disks)) sits.sits.exchanges (content (map seen disks'))
-  pub called : CalledAll (map seen disks) sits.sits.exchanges (map seen disks')
+  pub service : AllTell (map seen disks) → LeadsAll (content (map seen disks)) (exchanges_in serves) (content (map seen disks'))
+  pub called : CalledAll (map seen disks) (exchanges_in serves) (map seen disks')
   pub same : SameDisks (map seen disks) (map seen disks')
   -- where they came settled, a crash leaves nothing older than a FLUSH that is Fine
-  pub survives : AllTell (map seen disks) → IsSettled (map seen disks) → Survives (map seen disks) sits.sits.exchanges (map seen disks')
+  pub survives : AllTell (map seen disks) → IsSettled (map seen disks) → Survives (map seen disks) (exchanges_in serves) (map seen disks')
 
--- the disks are tested, and requests are served over them, at most 2^32; memory may be refused before
-abbrev pub Serves : {D : Type 0} → (D → Seen) → Bool → List D → Side → Side → Status → List D → Side → Side → Type 0
-Serves seen read_only disks input output status.Usage disks' input' output' = ⊥
-Serves seen read_only disks input output (status.OpenBad bad) disks' input' output' = Opens (map seen disks) (Some bad) × (disks' ≡ disks) × Idles input output input' output'
-Serves seen read_only disks input output status.Memory disks' input' output' =
-    ((map seen disks' ≡ map seen disks) × Idles input output input' output') ⊎ Holds seen disks read_only input output status.Memory disks' input' output'
-Serves seen read_only disks input output other disks' input' output' = Holds seen disks read_only input output other disks' input' output'
+-- the disks are tested, and one client is served over them, at most 2^32 requests; memory may be refused before
+abbrev pub Serves : {D : Type 0} → (D → Seen) → StdioWords → List D → Side → Side → Status → List D → Side → Side → Type 0
+Serves seen told disks input output status.Usage disks' input' output' = ⊥
+Serves seen told disks input output (status.OpenBad bad) disks' input' output' = OpensAs (map seen disks) (Some bad) × (disks' ≡ disks) × Idles input output input' output'
+Serves seen told disks input output status.Memory disks' input' output' =
+    ((map seen disks' ≡ map seen disks) × Idles input output input' output') ⊎ Holds seen disks told.read_only told.transmission input output status.Memory disks' input' output'
+Serves seen told disks input output other disks' input' output' = Holds seen disks told.read_only told.transmission input output other disks' input' output'
 
--- One call of `run_stdio`: the words are tested first, then the disks; then requests are served, at most 2^32, over an export that
--- may be written unless the words say that it is read-only.
+-- One call of `run_stdio`: the words are tested first, then the disks; then a client is served, behind a handshake unless the words say
+-- that requests come at once, over an export that may be written unless they say that it is read-only.
 abbrev pub Ran : {D : Type 0} → List (String Global) → (D → Seen) → List D → Side → Side → Status → List D → Side → Side → Type 0
 Ran words seen disks input output status.Usage disks' input' output' = (command words ≡ None) × (disks' ≡ disks) × Idles input output input' output'
 Ran words seen disks input output other disks' input' output' =
-    (told : StdioWords) × (command words ≡ Some told) × Serves seen told.read_only disks input output other disks' input' output'
+    (told : StdioWords) × (command words ≡ Some told) × Serves seen told disks input output other disks' input' output'

@@ -1,5 +1,5 @@
-//! One client on standard input and output: the requests that it sends are answered in order by the core,
-//! over the image that eight disks hold.
+//! One client on standard input and output: its options are answered by what the core exports, and its
+//! requests in order by the core, over the image that eight disks hold.
 #![tactic(auto)]
 
 mod answer;
@@ -9,7 +9,7 @@ mod serve;
 mod session;
 mod words;
 
-pub use run::{run_stdio, serve_stream};
+pub use run::{run_stdio, serve_client, serve_stream};
 pub use words::{Expected, Reading, StdioWords, stdio_words};
 
 #[cfg(test)]

@@ -1,10 +1,10 @@
-ghost use Rattle.std.specs.Prelude.{◌≡◌, ◌+◌, ◌-◌, ◌^◌, ◌≤◌, Bool, List, ℕ, [], map, IfOk, OnOk, Some};
+ghost use Rattle.std.specs.Prelude.{◌≡◌, ◌+◌, ◌-◌, ◌^◌, ◌≤◌, Bool, List, ℕ, [], true, false, map, IfOk, OnOk, Some};
 ghost use Rattle.qs_calls.specs.Runs.{Begins};
 ghost use Rattle.qs_outside.specs.Faults.{Rose};
 ghost use Rattle.qs_image.specs.Opening.{IsImage};
 ghost use Rattle.qs_single.specs.Resting.{IsResting};
 ghost use Rattle.qs_stream.specs.Flows.{Puts, Rises, Tells, side};
-ghost use Rattle.qs_stdio.specs.Runs.{Ran, Serves, ServesStream, Sitting, fault_at, side_of, status_by};
+ghost use Rattle.qs_stdio.specs.Runs.{Closes, Ran, Serves, ServesStream, Sitting, fault_at, side_of, status_by};
 ghost use Rattle.qs_stdio.specs.Scenes.{scene};
 ghost use Rattle.qs_stdio.specs.Streams.{IsServed, IsValidStream};
 ghost use Rattle.qs_stdio.specs.Turns.{between};
@@ -14,9 +14,10 @@ ghost use Rattle.qs_stdio.specs.declared.words.StdioWords.{StdioWords as Told};
 use crate::answer::SESSION;
 use crate::serve::Progress;
 use crate::session::Session;
-use crate::words::stdio_words;
+use crate::words::{StdioWords, stdio_words};
 use qs_bytes::Mode;
 use qs_calls::open_core;
+use qs_opening::{Opened, open_session};
 use qs_outside::{Clock, Disk, Failed, Sink, Source};
 use qs_single::attach;
 use qs_status::Status;
@@ -119,7 +120,7 @@ pub fn serve_stream<I: Source, O: Sink, D: Disk + Drop, C: Clock>(
     clock: &C,
 ) -> Status
     requires { (disks : List D) × (read_only : Bool) × Begins D.seen disks read_only world.old }
-    ensures { (disks : List D) (read_only : Bool) → Begins D.seen disks read_only world.old → ServesStream D.seen disks read_only budget
+    ensures { (disks : List D) (read_only : Bool) → Begins D.seen disks read_only world.old → ServesStream D.seen disks read_only true budget
         (side I.left I.read_faults input.old) (side O.sent O.write_faults output.old) world.old result
         (side I.left I.read_faults input.new) (side O.sent O.write_faults output.new) world.new }
 {
@@ -132,31 +133,91 @@ pub fn serve_stream<I: Source, O: Sink, D: Disk + Drop, C: Clock>(
     session.serve(alloc, &MODE, budget, input, output, world, clock)
 }
 
+/// Ends a session that the handshake ended: writes the answers that wait.
+fn conclude<O: Sink>(stream: &mut Stream, output: &mut O, status: Status) -> Status
+    ensures { Closes (side O.sent O.write_faults output.old) stream.old status (side O.sent O.write_faults output.new) stream.new result }
+{
+    match finish(stream, output, status) {
+        Ok(status) => status,
+        Err(_) => fault(stream),
+    }
+}
+
+/// Serves one client over a core that was just opened: the server greets, answers the client's options, at
+/// most `budget`, by what the core's exports are, and where one of them says so reads at most `budget`
+/// requests, as `serve_stream` does, in the mode that was agreed on. Answers how the session ended.
+pub fn serve_client<I: Source, O: Sink, D: Disk + Drop, C: Clock>(
+    alloc: Global,
+    world: &mut World<D>,
+    budget: u64,
+    input: &mut I,
+    output: &mut O,
+    clock: &C,
+) -> Status
+    requires { (disks : List D) × (read_only : Bool) × Begins D.seen disks read_only world.old }
+    ensures { (disks : List D) (read_only : Bool) → Begins D.seen disks read_only world.old → ServesStream D.seen disks read_only false budget
+        (side I.left I.read_faults input.old) (side O.sent O.write_faults output.old) world.old result
+        (side I.left I.read_faults input.new) (side O.sent O.write_faults output.new) world.new }
+{
+    let Ok(mut stream) = Stream::new(alloc) else {
+        return Status::Memory;
+    };
+    match open_session(alloc, world, SESSION, budget, &mut stream, input, output) {
+        Ok(Opened::Transmit(mode)) => {
+            let mut session = Session::over(alloc, mode, stream);
+            session.serve(alloc, &mode, budget, input, output, world, clock)
+        }
+        Ok(Opened::Ends(status)) => conclude(&mut stream, output, status),
+        Err(_) => fault(&stream),
+    }
+}
+
 /// How many messages one call reads at most.
 const BUDGET: u64 = 1 << 32;
+
+/// Serves one client over a core that was just opened, behind a handshake unless the words say that requests
+/// come at once.
+fn serve_core<I: Source, O: Sink, D: Disk + Drop, C: Clock>(
+    alloc: Global,
+    told: &StdioWords,
+    world: &mut World<D>,
+    input: &mut I,
+    output: &mut O,
+    clock: &C,
+) -> Status
+    requires { (disks : List D) × (read_only : Bool) × Begins D.seen disks read_only world.old }
+    ensures { (disks : List D) (read_only : Bool) → Begins D.seen disks read_only world.old → ServesStream D.seen disks read_only told.now.transmission (2 ^ 32)
+        (side I.left I.read_faults input.old) (side O.sent O.write_faults output.old) world.old result
+        (side I.left I.read_faults input.new) (side O.sent O.write_faults output.new) world.new }
+{
+    if told.transmission {
+        return serve_stream(alloc, world, BUDGET, input, output, clock);
+    }
+    serve_client(alloc, world, BUDGET, input, output, clock)
+}
 
 /// Serves the image that the disks hold, if they hold one.
 fn serve_disks<I: Source, O: Sink, D: Disk + Drop, C: Clock>(
     alloc: Global,
-    read_only: bool,
+    told: &StdioWords,
     input: &mut I,
     output: &mut O,
     disks: &mut Vec<D>,
     clock: &C,
 ) -> Status
-    ensures { Serves D.seen read_only disks.old.items
+    ensures { Serves D.seen told.now disks.old.items
         (side I.left I.read_faults input.old) (side O.sent O.write_faults output.old) result
         disks.new.items (side I.left I.read_faults input.new) (side O.sent O.write_faults output.new) }
 {
     let taken = mem::replace(disks, Vec::new(alloc));
-    let mut world = match open_core(alloc, taken, read_only) {
+    let mut world = match open_core(alloc, taken, told.read_only) {
         Ok(world) => world,
         Err((back, status)) => {
             *disks = back;
             return status;
         }
     };
-    let status = serve_stream(alloc, &mut world, BUDGET, input, output, clock);
+    let status = serve_core(alloc, told, &mut world, input, output, clock);
     *disks = world.into_disks();
     status
 }
@@ -164,10 +225,12 @@ fn serve_disks<I: Source, O: Sink, D: Disk + Drop, C: Clock>(
 /// Serves one client over the image that the disks hold, from its input to its output, and answers how
 /// the run ended. It takes no handle, and returns.
 ///
-/// The words are those behind the program's name: `--transmission [--read-only] [--align N] IMAGE`. The
-/// input is a stream of NBD requests alone, answered in order, each by a simple reply, by the core over the
-/// file node `file0` and its export `disk`, which may be written unless `--read-only` stands among the words.
-/// Blocks are as the disks have them. At most 2^32 messages are read.
+/// The words are those behind the program's name: `[--transmission] [--read-only] [--align N] IMAGE`. The
+/// server greets, answers the client's options, and then its requests in order, in the mode that was agreed
+/// on, by the core over the file node `file0` and its export `disk`, which may be written unless
+/// `--read-only` stands among the words. With `--transmission` the input is a stream of requests alone, each
+/// answered by a simple reply. Blocks are as the disks have them. At most 2^32 options and as many requests
+/// are read.
 ///
 /// A fault of the input or the output ends the run at that call. What was answered before stays on the
 /// image. The disks come back in their order, as the run left them.
@@ -181,16 +244,16 @@ pub fn run_stdio<I: Source, O: Sink, D: Disk + Drop, C: Clock>(
 ) -> Status
     ensures ran { Ran words.now D.seen disks.old.items (side I.left I.read_faults input.old) (side O.sent O.write_faults output.old) result
         disks.new.items (side I.left I.read_faults input.new) (side O.sent O.write_faults output.new) }
-    // A valid stream is served to its end, unless memory is refused or a side fails.
+    // A valid stream of requests is served to its end, unless memory is refused or a side fails.
     ensures complete { (stream : List ℕ) → I.left input.old ≡ Some stream → IsValidStream stream → (told : Told) → command words.now ≡ Some told →
-        IsImage (map D.seen disks.old.items) → ¬ Rose (I.read_faults input.old) (I.read_faults input.new) →
+        told.transmission ≡ true → IsImage (map D.seen disks.old.items) → ¬ Rose (I.read_faults input.old) (I.read_faults input.new) →
         ¬ Rose (O.write_faults output.old) (O.write_faults output.new) → IsServed result }
     // A fault is told only where its count rose.
     ensures cause { Rises (side_of result) (I.read_faults input.old) (I.read_faults input.new)
         (O.write_faults output.old) (O.write_faults output.new) }
 {
     match stdio_words(words) {
-        Some(told) => serve_disks(alloc, told.read_only, input, output, disks, clock),
+        Some(told) => serve_disks(alloc, &told, input, output, disks, clock),
         None => Status::Usage,
     }
 }

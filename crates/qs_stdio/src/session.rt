@@ -58,11 +58,19 @@ impl Session {
     pub fn new(alloc: Global, mode: Mode) -> Result<Self, Memory>
         ensures { IfOk result (λ s. (s.reader ≡ between mode.structured) × (s.stream ≡ new_buffers)) }
     {
-        Ok(Session {
+        Ok(Session::over(alloc, mode, Stream::new(alloc)?))
+    }
+
+    /// A session over a stream, whose first request is awaited. It takes no memory.
+    pub fn over(alloc: Global, mode: Mode, stream: Stream) -> Self
+        ensures reader { result.reader ≡ between mode.structured }
+        ensures stream { result.stream ≡ stream }
+    {
+        Session {
             reader: Transmission::new(mode),
-            stream: Stream::new(alloc)?,
+            stream,
             spare: Vec::new(alloc),
-        })
+        }
     }
 
     /// The next request, between requests.

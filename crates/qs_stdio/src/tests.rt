@@ -99,6 +99,87 @@ fn run_words(
     ))
 }
 
+/// A client's flags, and GO to the export `disk`; with STRUCTURED_REPLY before it.
+const GOES: &[u8] = b"\0\0\0\x03IHAVEOPT\0\0\0\x07\0\0\0\x0a\0\0\0\x04disk\0\0";
+
+const GOES_STRUCTURED: &[u8] = b"\0\0\0\x03IHAVEOPT\0\0\0\x08\0\0\0\0\
+IHAVEOPT\0\0\0\x07\0\0\0\x0a\0\0\0\x04disk\0\0";
+
+/// The greeting and the answers to them, over an image of 4,096 bytes, and what stands before the bytes of
+/// the second request, a READ.
+const GONE: &[u8] =
+    b"NBDMAGICIHAVEOPT\0\x03\0\x03\xe8\x89\x04\x55\x65\xa9\0\0\0\x07\0\0\0\x03\0\0\0\x0c\
+\0\0\0\0\0\0\0\0\x10\0\x01\x6d\0\x03\xe8\x89\x04\x55\x65\xa9\0\0\0\x07\0\0\0\x01\0\0\0\0";
+
+const GONE_STRUCTURED: &[u8] =
+    b"NBDMAGICIHAVEOPT\0\x03\0\x03\xe8\x89\x04\x55\x65\xa9\0\0\0\x08\0\0\0\x01\0\0\0\0\
+\0\x03\xe8\x89\x04\x55\x65\xa9\0\0\0\x07\0\0\0\x03\0\0\0\x0c\0\0\0\0\0\0\0\0\x10\0\x01\xed\
+\0\x03\xe8\x89\x04\x55\x65\xa9\0\0\0\x07\0\0\0\x01\0\0\0\0";
+
+const CHUNK: &[u8] = b"\x66\x8e\x33\xef\0\x01\0\x01\0\0\0\0\0\0\0\x02\0\0\x02\x08\0\0\0\0\0\0\0\0";
+
+/// A run with these words over an image of 4,096 zero bytes, with reads of at most `cut` bytes.
+fn run_by(
+    alloc: Global,
+    words: &[&str],
+    input: &[u8],
+    cut: usize,
+) -> Result<(Status, Vec<u8>), Memory> {
+    let mut cuts = Vec::new(alloc);
+    cuts.resize(input.len(), cut)?;
+    let input = Bytes::of(Vec::from_slice(alloc, input)?);
+    let mut source = MemSource::new(input, cuts, Vec::new(alloc));
+    let mut sink = MemSink::new(alloc, 1 << 18, Vec::new(alloc))?;
+    let status = run_words(alloc, words, &mut source, &mut sink, 8, 4096)?;
+    Ok((status, Vec::from_slice(alloc, sink.sent())?))
+}
+
+/// The server greets, and serves behind GO, however the input is cut.
+#[test]
+fn a_client_is_greeted_and_served(rt: HostRuntime) -> Result<(), Failure> {
+    let alloc = rt.alloc();
+    let (requests, _) = worked(alloc)?;
+    for (hello, answers, head) in [
+        (GOES, GONE, READ_BACK.as_slice()),
+        (GOES_STRUCTURED, GONE_STRUCTURED, CHUNK),
+    ] {
+        let mut input = Vec::from_slice(alloc, hello)?;
+        input.extend_from_slice(requests.as_slice())?;
+        let mut output = Vec::from_slice(alloc, answers)?;
+        output.extend_from_slice(&WRITTEN)?;
+        output.extend_from_slice(head)?;
+        output.extend_from_slice(&[0x11; 512])?;
+        for cut in [1, 65_536] {
+            let (status, sent) = run_by(alloc, &["disk.img"], input.as_slice(), cut)?;
+            assert_eq!(rt; status, Status::Done);
+            assert_eq!(rt; sent.as_slice(), output.as_slice());
+        }
+    }
+    Ok(())
+}
+
+/// A handshake that doesn't come to requests ends the run as it says.
+#[test]
+fn a_handshake_ends_a_run(rt: HostRuntime) -> Result<(), Failure> {
+    for (input, status) in [
+        (b"".as_slice(), Status::Done),
+        (b"\0\0", Status::Ended(SessionEnd::Truncated)),
+        (b"\0\0\0\x04", Status::Ended(SessionEnd::BadFlags(4))),
+        (
+            b"\0\0\0\x01IHAVEOPT\0\0\0\x01\0\0\0\x03foo",
+            Status::Ended(SessionEnd::NoExport),
+        ),
+        (
+            b"\0\0\0\x01IHAVEOPT\0\0\0\x02\0\0\0\0",
+            Status::Ended(SessionEnd::Aborted),
+        ),
+    ] {
+        let (told, _) = run_by(rt.alloc(), &["disk.img"], input, 7)?;
+        assert_eq!(rt; told, status);
+    }
+    Ok(())
+}
+
 /// Between requests the end of the input is the end of the run; within one it cuts it.
 #[test]
 fn each_front_of_the_input_has_its_end(rt: HostRuntime) -> Result<(), Failure> {
@@ -154,29 +235,31 @@ fn what_is_no_request_ends_the_run(rt: HostRuntime) -> Result<(), Failure> {
     Ok(())
 }
 
-/// Words, and the number of the image's word, the bytes of a block, and whether the export is read-only.
-type Told = (&'static [&'static str], Option<(usize, u32, bool)>);
+/// Words, and the number of the image's word, the bytes of a block, whether the export is read-only, and
+/// whether requests come at once.
+type Told = (&'static [&'static str], Option<(usize, u32, bool, bool)>);
 
-const TOLD: [Told; 16] = [
-    (GOOD, Some((1, 512, false))),
+const TOLD: [Told; 17] = [
+    (GOOD, Some((1, 512, false, true))),
     (
         &["--transmission", "--read-only", "a"],
-        Some((2, 512, true)),
+        Some((2, 512, true, true)),
     ),
     (
         &["--read-only", "--transmission", "a"],
-        Some((2, 512, true)),
+        Some((2, 512, true, true)),
     ),
     (
         &["--align", "4096", "--transmission", "a"],
-        Some((3, 4096, false)),
+        Some((3, 4096, false, true)),
     ),
     (
         &["--transmission", "--align", "512", "--read-only", "-"],
-        Some((4, 512, true)),
+        Some((4, 512, true, true)),
     ),
     (&[], None),
-    (&["a"], None),
+    (&["a"], Some((0, 512, false, false))),
+    (&["--read-only", "a"], Some((1, 512, true, false))),
     (&["--transmission"], None),
     (&["--transmission", "--align"], None),
     (&["--transmission", "--align", "a"], None),
@@ -196,11 +279,11 @@ fn words_tell_each_option_once(rt: HostRuntime) -> Result<(), Failure> {
     let alloc = rt.alloc();
     for (words, told) in TOLD {
         let texts = words_of(alloc, words)?;
-        let expected = told.map(|(image, align, read_only)| StdioWords {
+        let expected = told.map(|(image, align, read_only, transmission)| StdioWords {
             image,
             align,
             read_only,
-            transmission: true,
+            transmission,
         });
         assert_eq!(rt; stdio_words(texts.as_slice()), expected);
     }
@@ -221,7 +304,7 @@ const CASES: [Case; 7] = [
         544,
         Status::Usage,
     ),
-    (&["disk.img"], 8, 4096, None, 544, Status::Usage),
+    (&["--unknown"], 8, 4096, None, 544, Status::Usage),
     (GOOD, 7, 4096, None, 544, Status::OpenBad(OpenBad::Count(7))),
     (
         GOOD,

@@ -108,11 +108,11 @@ impl Reading {
         ensures { result ≡ whole count self }
     {
         match (self.next, count) {
-            (Expected::Nothing, 1..) if self.transmission => Some(StdioWords {
+            (Expected::Nothing, 1..) => Some(StdioWords {
                 image: count - 1,
                 align: self.align.unwrap_or(512),
                 read_only: self.read_only,
-                transmission: true,
+                transmission: self.transmission,
             }),
             _ => None,
         }
@@ -120,7 +120,7 @@ impl Reading {
 }
 
 /// What the words behind the program's name tell; `None` exactly where they aren't
-/// `--transmission [--read-only] [--align N] IMAGE`, with the options in any order, each at most once, and
+/// `[--transmission] [--read-only] [--align N] IMAGE`, with the options in any order, each at most once, and
 /// an IMAGE that doesn't begin with `--`. N is 512 or 4096, and 512 without it: the bytes of a block.
 pub fn stdio_words(words: &[String]) -> Option<StdioWords>
     ensures { result ≡ command words.now }

@@ -1,0 +1,5 @@
+pub mod Events
+pub mod Telling
+pub mod Options
+pub mod Turns
+pub mod Openings

@@ -1,0 +1,9 @@
+//! The opening of a client's session over a byte stream: the server greets, answers the client's options by
+//! what the core's exports are, and attaches the session, up to where requests follow or the session ends.
+#![tactic(auto)]
+
+mod opening;
+mod turn;
+
+pub use opening::open_session;
+pub use turn::Opened;
