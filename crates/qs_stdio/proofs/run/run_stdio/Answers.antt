@@ -21,3 +21,13 @@ returns-in-Some-clause-complete g c = λ stream left valid told command at_once 
 pub returns-in-None-clause-complete : goal.returns-in-None-clause-complete
 returns-in-None-clause-complete g c = λ stream left valid told command at_once image read write.
     absurd (none-some told (sym (sym c.stdio_words.ensures ∙ c.in-None.is) ∙ command))
+
+pub returns-in-Some-clause-cause : goal.returns-in-Some-clause-cause
+returns-in-Some-clause-cause g c =
+    let seen = g.D.Disk.seen in
+    let input = side g.I.Source.left g.I.Source.read_faults c.args.input.now in
+    let output = side g.O.Sink.sent g.O.Sink.write_faults c.args.output.now in
+    let input' = side g.I.Source.left g.I.Source.read_faults c.serve_disks.new.input in
+    let output' = side g.O.Sink.sent g.O.Sink.write_faults c.serve_disks.new.output in
+    rises_of seen c.args.words.now c.args.disks.now.items input output c.serve_disks.result c.serve_disks.new.disks.items input' output'
+    (ran_of seen c.args.words.now c.args.disks.now.items input output c.serve_disks.result c.serve_disks.new.disks.items input' output' c.in-Some.told (sym c.stdio_words.ensures ∙ c.in-Some.is) c.serve_disks.ensures)
