@@ -1,6 +1,7 @@
 -- The first session of a core that was just opened.
-use Rattle.std.proofs.Common.{◌≡◌, ◌↔◌, ℕ, ◌+◌, ◌≤◌, Bool, true, not, List, [], ◌∷◌, refl, sym, ap, subst, ◌∙◌, codes, arith}
-use Rattle.std.specs.Prelude.{Some, None, map, position}
+use Rattle.std.proofs.Common.{◌≡◌, ◌↔◌, ℕ, ◌+◌, ◌≤◌, Bool, true, false, not, List, [], ◌∷◌, refl, sym, ap, subst, ◌∙◌, codes, arith}
+use Rattle.std.specs.Prelude.{Option, Some, None, map, option_map, position}
+use Rattle.std.specs.Str.{bytes_eq}
 use Rattle.qs_outside.specs.Blocks.{Seen}
 use Rattle.qs_image.specs.Image.{align_of, size_of}
 use Rattle.qs_image.specs.Opening.{IsImage}
@@ -30,6 +31,7 @@ use Rattle.qs_calls.specs.Calls.{Happened, Plays}
 use Rattle.qs_calls.specs.Runs.{Begins, export, opened}
 use Rattle.qs_calls.proofs.Plays.{plays_of, plays_one}
 use Rattle.qs_calls.proofs.Runs.{Starts, starts}
+use Rattle.qs_single.specs.Joining.{Names}
 use Rattle.qs_single.specs.Resting.{Attaches}
 use Rattle.qs_single.proofs.Answering.{none_left}
 
@@ -80,21 +82,21 @@ module _ {D : Type 0} (seen : D → Seen) (disks : List D) (read_only : Bool) (w
   model_graph = begun.stands.graph ∙ graph_is
 
   -- the export is found, and has no client
-  pub none_refused : (session : ℕ) (out : Outcome) (w' : WorldValue D) → Steps seen w (Attach session (codes "disk")) out w' → ((info : ExportInfo) → out ≡ Attached info → ⊥) → ⊥
-  none_refused session out w' step never = go step.element step.answers_event step.outcome_is (step.does m begun.stands).0
+  pub none_refused : (asked : List ℕ) (named : found_at (with_export size read_only).places asked ≡ Some 0) (session : ℕ) (out : Outcome) (w' : WorldValue D) → Steps seen w (Attach session asked) out w' → ((info : ExportInfo) → out ≡ Attached info → ⊥) → ⊥
+  none_refused asked named session out w' step never = go step.element step.answers_event step.outcome_is (step.does m begun.stands).0
     where
       none_some : (n : ℕ) → None ≡ Some n → ⊥
       none_some n e = cc
 
-      go : (e : Element) → IsEvent (Attach session (codes "disk")) e → outcome_of w.shape.align e ≡ Some out → May w.shape.align m e → ⊥
+      go : (e : Element) → IsEvent (Attach session asked) e → outcome_of w.shape.align e ≡ Some out → May w.shape.align m e → ⊥
       go (AttachedStep s name info) is told may = never info (one told)
         where
           one : Some (Attached info) ≡ Some out → out ≡ Attached info
           one f = cc
       go (NoExport s name) is told may =
-          none_some 0 (sym may.1 ∙ ap (λ (g : GraphValue). found_at g.places name) model_graph ∙ ap (found_at (with_export size read_only).places) (sym is.1) ∙ found size read_only)
+          none_some 0 (sym may.1 ∙ ap (λ (g : GraphValue). found_at g.places name) model_graph ∙ ap (found_at (with_export size read_only).places) (sym is.1) ∙ named)
       go (Crowded s name) is told may =
-          let place : may.1.0 ≡ 0 = one (sym may.1.1.0 ∙ ap (λ (g : GraphValue). found_at g.places name) model_graph ∙ ap (found_at (with_export size read_only).places) (sym is.1) ∙ found size read_only) in
+          let place : may.1.0 ≡ 0 = one (sym may.1.1.0 ∙ ap (λ (g : GraphValue). found_at g.places name) model_graph ∙ ap (found_at (with_export size read_only).places) (sym is.1) ∙ named) in
           let many : 1024 ≤ clients_of (export_at (with_export size read_only).places 0) =
           subst (λ (p : ℕ). 1024 ≤ clients_of (export_at (with_export size read_only).places p)) place
           (subst (λ (g : GraphValue). 1024 ≤ clients_of (export_at g.places may.1.0)) model_graph may.1.1.1) in
@@ -112,36 +114,36 @@ module _ {D : Type 0} (seen : D → Seen) (disks : List D) (read_only : Bool) (w
       go (Crashed left) is told may = is
 
   -- the step by which a session was attached
-  comes : (session : ℕ) (info : ExportInfo) (A : ℕ) (e : Element) → IsEvent (Attach session (codes "disk")) e → outcome_of A e ≡ Some (Attached info) →
-      e ≡ AttachedStep session (codes "disk") info
-  comes session info A (AttachedStep s name given) is told =
+  comes : (asked : List ℕ) (session : ℕ) (info : ExportInfo) (A : ℕ) (e : Element) → IsEvent (Attach session asked) e → outcome_of A e ≡ Some (Attached info) →
+      e ≡ AttachedStep session asked info
+  comes asked session info A (AttachedStep s name given) is told =
       ap (λ (x : ExportInfo). AttachedStep s name x) (one told) ∙ ap (λ (n : ℕ). AttachedStep n name info) (sym is.0) ∙ ap (λ (n : List ℕ). AttachedStep session n info) (sym is.1)
     where
       one : Some (Attached given) ≡ Some (Attached info) → given ≡ info
       one f = cc
-  comes session info A (NoExport s name) is told = absurd (cc)
-  comes session info A (Crowded s name) is told = absurd (cc)
-  comes session info A (Left s e) is told = absurd is
-  comes session info A (Detached s e) is told = absurd is
-  comes session info A (NotAttached s e) is told = absurd is
-  comes session info A (Asked r c) is told = absurd is
-  comes session info A (Did r q act) is told = absurd is
-  comes session info A (Exported op e) is told = absurd is
-  comes session info A (Planned j fail) is told = absurd is
-  comes session info A (Crashed left) is told = absurd is
+  comes asked session info A (NoExport s name) is told = absurd (cc)
+  comes asked session info A (Crowded s name) is told = absurd (cc)
+  comes asked session info A (Left s e) is told = absurd is
+  comes asked session info A (Detached s e) is told = absurd is
+  comes asked session info A (NotAttached s e) is told = absurd is
+  comes asked session info A (Asked r c) is told = absurd is
+  comes asked session info A (Did r q act) is told = absurd is
+  comes asked session info A (Exported op e) is told = absurd is
+  comes asked session info A (Planned j fail) is told = absurd is
+  comes asked session info A (Crashed left) is told = absurd is
 
-  pub attaches : (session : ℕ) (info : ExportInfo) (w' : WorldValue D) → Steps seen w (Attach session (codes "disk")) (Attached info) w' →
-      HasCause seen w (Attached info) w' → Plays seen w (Happened (Attach session (codes "disk")) (Attached info) ∷ []) w' →
-      Attaches seen session (not read_only) w (codes "disk") info w'
-  attaches session info w' step cause plays =
+  pub attaches : (asked : List ℕ) (named : found_at (with_export size read_only).places asked ≡ Some 0) (session : ℕ) (info : ExportInfo) (w' : WorldValue D) → Steps seen w (Attach session asked) (Attached info) w' →
+      HasCause seen w (Attached info) w' → Plays seen w (Happened (Attach session asked) (Attached info) ∷ []) w' →
+      Attaches seen session (not read_only) w asked info w'
+  attaches asked named session info w' step cause plays =
       let A : ℕ = align_of (map seen disks) in
-      let e : Element = AttachedStep session (codes "disk") info in
-      let e_is : step.element ≡ e = comes session info w.shape.align step.element step.answers_event step.outcome_is in
+      let e : Element = AttachedStep session asked info in
+      let e_is : step.element ≡ e = comes asked session info w.shape.align step.element step.answers_event step.outcome_is in
       let does : May w.shape.align m e × Stands seen w' (happens w.shape.align m e) =
       subst (λ (x : Element). May w.shape.align m x × Stands seen w' (happens w.shape.align m x)) e_is (step.does m begun.stands) in
       let did : May A m e × Stands seen w' (happens A m e) = subst (λ (a : ℕ). May a m e × Stands seen w' (happens a m e)) begun.align does in
       let m' : World = happens A m e in
-      let place : info.e ≡ 0 = one (sym did.0.1.0 ∙ ap (λ (g : GraphValue). found_at g.places (codes "disk")) model_graph ∙ found size read_only) in
+      let place : info.e ≡ 0 = one (sym did.0.1.0 ∙ ap (λ (g : GraphValue). found_at g.places asked) model_graph ∙ named) in
       let info_is : info ≡ info_at (with_export size read_only) 0 =
       did.0.1.1 ∙ ap (λ (g : GraphValue). info_at g info.e) model_graph ∙ ap (info_at (with_export size read_only)) place in
       let disks_same : disks_of seen w' ≡ disks_of seen w = ap (λ (ss : List (StripeState D)). map seen (map (λ (s : StripeState D). s.disk) ss)) (cause.rest refl) in
@@ -177,17 +179,56 @@ module _ {D : Type 0} (seen : D → Seen) (disks : List D) (read_only : Bool) (w
       one : Some info.e ≡ Some 0 → info.e ≡ 0
       one f = cc
 
+-- whether it has a name that no free place has
+abbrev has_it : Bool → Option Export → Bool
+has_it same None = false
+has_it same (Some x) = same
+
+-- the one export is the only one that a name can mean
+pub only_place : (extent : ℕ) (read_only : Bool) (name : List ℕ) (e : ℕ) → found_at (with_export extent read_only).places name ≡ Some e → e ≡ 0
+only_place extent read_only [] e is = cc
+only_place extent read_only (byte ∷ bytes) e is = go (bytes_eq (codes "disk") (byte ∷ bytes)) is
+  where
+    go : (same : Bool) → position (has_it same) (with_export extent read_only).places ≡ Some e → e ≡ 0
+    go true is = cc
+    go false is = absurd (none_some e is)
+      where
+        none_some : (n : ℕ) → None ≡ Some n → ⊥
+        none_some n f = cc
+
+-- the place of what is told of it
+place_of : (v : GraphValue) (at : Option ℕ) (info : ExportInfo) → option_map (info_at v) at ≡ Some info → (e : ℕ) × (at ≡ Some e)
+place_of v None info is = absurd (cc)
+place_of v (Some e) info is = (e, refl)
+
+-- a name that means an export means that one
+named_at : {D : Type 0} (seen : D → Seen) (disks : List D) (read_only : Bool) (w : WorldValue D) → Begins seen disks read_only w → (name : List ℕ) → Names w name →
+    found_at (with_export (size_of (map seen disks)) read_only).places name ≡ Some 0
+named_at seen disks read_only w begins name names =
+    let at = place_of w.graph (found_at w.graph.places name) names.0 names.1 in
+    let here : found_at (with_export (size_of (map seen disks)) read_only).places name ≡ Some at.0 =
+    sym (ap (λ (g : GraphValue). found_at g.places name) (graph_is seen disks read_only w begins)) ∙ at.1 in
+    here ∙ ap Some (only_place (size_of (map seen disks)) read_only name at.0 here)
+
+-- `disk` means it
+pub disk_named : {D : Type 0} (seen : D → Seen) (disks : List D) (read_only : Bool) (w : WorldValue D) → Begins seen disks read_only w → Names w (codes "disk")
+disk_named seen disks read_only w begins = (
+  info_at w.graph 0,
+  ap (λ (at : Option ℕ). option_map (info_at w.graph) at)
+      (ap (λ (g : GraphValue). found_at g.places (codes "disk")) (graph_is seen disks read_only w begins) ∙ found (size_of (map seen disks)) read_only),
+)
+
 -- it is attached, unless memory is refused
 pub never_refused : {D : Type 0} (seen : D → Seen) (disks : List D) (read_only : Bool) (w : WorldValue D) → Begins seen disks read_only w → (session : ℕ) (name : List ℕ) (out : Outcome) (w' : WorldValue D) →
-    name ≡ codes "disk" → StepsTo seen w (Attach session name) out w' → (out ≡ NotNext) ↔ IsNotNext w (Attach session name) → HasCause seen w out w' →
+    Names w name → StepsTo seen w (Attach session name) out w' → (out ≡ NotNext) ↔ IsNotNext w (Attach session name) → HasCause seen w out w' →
     ((info : ExportInfo) → out ≡ Attached info → ⊥) → (out ≡ Memory → ⊥) → ⊥
-never_refused {D} seen disks read_only w begins session name out w' same steps iff cause not_attached not_memory =
+never_refused {D} seen disks read_only w begins session name out w' names steps iff cause not_attached not_memory =
     let step = (plays_of seen w (Attach session name) out w' (λ e. (iff.0 e) (away seen disks read_only w begins session)) not_memory steps cause).0 in
-    none_refused seen disks read_only w begins session out w' (subst (λ (n : List ℕ). Steps seen w (Attach session n) out w') same step) not_attached
+    none_refused seen disks read_only w begins name (named_at seen disks read_only w begins name names) session out w' step not_attached
 
 pub was_attached : {D : Type 0} (seen : D → Seen) (disks : List D) (read_only : Bool) (w : WorldValue D) → Begins seen disks read_only w → (session : ℕ) (name : List ℕ) (info : ExportInfo) (w' : WorldValue D) →
-    name ≡ codes "disk" → Steps seen w (Attach session name) (Attached info) w' → HasCause seen w (Attached info) w' →
-    Attaches seen session (not read_only) w (codes "disk") info w'
-was_attached {D} seen disks read_only w begins session name info w' same step cause =
-    let here : Steps seen w (Attach session (codes "disk")) (Attached info) w' = subst (λ (n : List ℕ). Steps seen w (Attach session n) (Attached info) w') same step in
-    attaches seen disks read_only w begins session info w' here cause (plays_one seen w (Happened (Attach session (codes "disk")) (Attached info)) w' (here, cause))
+    Names w name → Steps seen w (Attach session name) (Attached info) w' → HasCause seen w (Attached info) w' →
+    Attaches seen session (not read_only) w name info w'
+was_attached {D} seen disks read_only w begins session name info w' names step cause =
+    attaches seen disks read_only w begins name (named_at seen disks read_only w begins name names) session info w' step cause
+    (plays_one seen w (Happened (Attach session name) (Attached info)) w' (step, cause))

@@ -1,3 +1,4 @@
 pub mod Service
 pub mod Resting
 pub mod Remaining
+pub mod Joining

@@ -6,4 +6,4 @@ mod asking;
 mod joining;
 
 pub use asking::answer;
-pub use joining::attach;
+pub use joining::{attach, attach_by};
