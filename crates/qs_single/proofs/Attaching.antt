@@ -26,6 +26,8 @@ use Rattle.qs_world.specs.Events.{HasCause, IsNotNext, Steps, StepsTo}
 use Rattle.qs_world.specs.Openings.{opening_over}
 use Rattle.qs_world.specs.Stands.{Stands}
 use Rattle.qs_world.specs.Values.{WorldValue, disks_of, session_at}
+use Rattle.qs_world.specs.Running.{meant}
+use Rattle.qs_world.proofs.Meant.{meant_cause, meant_steps, own}
 use Rattle.qs_calls.specs.Calls.{Happened, Plays}
 use Rattle.qs_calls.specs.Runs.{Begins, export, opened}
 use Rattle.qs_calls.proofs.Plays.{plays_of, plays_one}
@@ -131,7 +133,7 @@ module _ {D : Type 0} (seen : D → Seen) (disks : List D) (read_only : Bool) (w
   comes session info A (Crashed left) is told = absurd is
 
   pub attaches : (session : ℕ) (info : ExportInfo) (w' : WorldValue D) → Steps seen w (Attach session (codes "disk")) (Attached info) w' →
-      HasCause seen w (Attached info) w' → Plays seen w (Happened (Attach session (codes "disk")) (Attached info) ∷ []) w' →
+      HasCause seen w (Attached info) w' → Plays own (meant seen w) (Happened (Attach session (codes "disk")) (Attached info) ∷ []) (meant seen w') →
       Attaches seen session (not read_only) w (codes "disk") info w'
   attaches session info w' step cause plays =
       let A : ℕ = align_of (map seen disks) in
@@ -190,4 +192,6 @@ pub was_attached : {D : Type 0} (seen : D → Seen) (disks : List D) (read_only 
     Attaches seen session (not read_only) w (codes "disk") info w'
 was_attached {D} seen disks read_only w begins session name info w' same step cause =
     let here : Steps seen w (Attach session (codes "disk")) (Attached info) w' = subst (λ (n : List ℕ). Steps seen w (Attach session n) (Attached info) w') same step in
-    attaches seen disks read_only w begins session info w' here cause (plays_one seen w (Happened (Attach session (codes "disk")) (Attached info)) w' (here, cause))
+    attaches seen disks read_only w begins session info w' here cause
+    (plays_one own (meant seen w) (Happened (Attach session (codes "disk")) (Attached info)) (meant seen w')
+    (meant_steps seen w w' (Attach session (codes "disk")) (Attached info) here, meant_cause seen w w' (Attached info) cause))
