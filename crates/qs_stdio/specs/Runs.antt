@@ -14,6 +14,7 @@ use Rattle.qs_world.specs.Values.{WorldValue, disks_of}
 use Rattle.qs_calls.specs.Calls.{Happened, Plays}
 use Rattle.qs_calls.specs.Runs.{Begins, HasRun}
 use Rattle.qs_single.specs.Remaining.{IsCleanSettled, IsSettled}
+use Rattle.qs_world.specs.Running.{meant}
 use Rattle.qs_single.specs.Resting.{Attaches}
 use Rattle.qs_stream.specs.declared.state.State.{State}
 use Rattle.qs_stream.specs.declared.state.State.TheVariants as state
@@ -67,7 +68,7 @@ pub record Sitting {D : Type 0} (seen : D → Seen) (session : ℕ) (writable st
   pub called : CalledAll (disks_in seen before) exchanges (disks_in seen after)
   -- and so does what a crash may leave, where it leaves of each clean stripe what its blocks hold
   pub outlasts : AllTell (disks_in seen before) → IsCleanSettled seen before.world → OutlastsAll (disks_in seen before) exchanges (disks_in seen after)
-  pub plays : Plays seen before.world (rounds exchanges) after.world
+  pub plays : Plays (λ d. d) (meant seen before.world) (rounds exchanges) (meant seen after.world)
   pub same : SameDisks (disks_in seen before) (disks_in seen after)
   pub ends : Ends result budget exchanges after.flow rest
 
@@ -92,7 +93,7 @@ pub record Sits {D : Type 0} (seen : D → Seen) (disks : List D) (read_only : B
   pub attaches : Attaches seen 0 (not read_only) start (codes "disk") info begun
   pub stream : Buffers
   pub sits : Sitting seen 0 (not read_only) false budget (first input output begun) (last_scene input' output' stream new) result
-  pub run : HasRun seen (map seen disks) read_only start (Happened (Attach 0 (codes "disk")) (Attached info) ∷ rounds sits.exchanges) new
+  pub run : HasRun (λ d. d) (map seen disks) read_only (meant seen start) (Happened (Attach 0 (codes "disk")) (Attached info) ∷ rounds sits.exchanges) (meant seen new)
 
 -- One client was served over a core that was just opened; or memory was refused before, and nothing was read or written.
 abbrev pub ServesStream : {D : Type 0} → (D → Seen) → List D → Bool → ℕ → Side → Side → WorldValue D → Status → Side → Side → WorldValue D → Type 0
