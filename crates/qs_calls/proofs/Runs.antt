@@ -18,6 +18,8 @@ use Rattle.qs_world.specs.Events.{Does}
 use Rattle.qs_world.specs.Openings.{opening_over}
 use Rattle.qs_world.specs.Stands.{Stands}
 use Rattle.qs_world.specs.Values.{WorldValue}
+use Rattle.qs_world.specs.Running.{meant}
+use Rattle.qs_world.proofs.Meant.{meant_stands, own}
 use Rattle.qs_calls.specs.Calls.{Call, Plays}
 use Rattle.qs_calls.specs.Runs.{Begins, HasRun, export, opened}
 use Rattle.qs_calls.proofs.Plays.{leads}
@@ -46,26 +48,39 @@ starts {D} seen disks read_only w begins =
     (does (opened (map seen disks) read_only) begins.opened.stands) in
     record { align = ap (λ (v : WorldValue D). v.shape.align) begins.exports.same ∙ align; may = first.0; stands = first.1 }
 
-pub has_run : {D : Type 0} (seen : D → Seen) (disks : List D) (read_only : Bool) (start w : WorldValue D) (calls : List Call) → Begins seen disks read_only start →
-    Plays seen start calls w → HasRun seen (map seen disks) read_only start calls w
-has_run {D} seen disks read_only start w calls begins plays =
-    let A : ℕ = align_of (map seen disks) in
-    let place : ℕ = begins.exports.place in
-    let s : Starts seen disks read_only place start = starts seen disks read_only start begins in
-    let on = leads seen A start calls w (happens A (opened (map seen disks) read_only) (Exported (export read_only) place)) s.align s.stands plays in
-    let o : OpenedOver = opening_over (map seen disks) (codes "file0") read_only in
+-- calls from a core that stands for the opening and the making of its export
+run_from : {D : Type 0} (seen : D → Seen) (disks : List Seen) (read_only : Bool) (place : ℕ) (start w : WorldValue D) (calls : List Call) → 0 < align_of disks →
+    start.shape.align ≡ align_of disks → May (align_of disks) (opened disks read_only) (Exported (export read_only) place) →
+    Stands seen start (happens (align_of disks) (opened disks read_only) (Exported (export read_only) place)) → Plays seen start calls w → HasRun seen disks read_only start calls w
+run_from {D} seen disks read_only place start w calls some align may stands plays =
+    let A : ℕ = align_of disks in
+    let on = leads seen A start calls w (happens A (opened disks read_only) (Exported (export read_only) place)) align stands plays in
+    let o : OpenedOver = opening_over disks (codes "file0") read_only in
     let steps : List Element = Exported (export read_only) place ∷ on.elements in
-    let some : 0 < A = positive A begins.opened.image.1.0 in
     record {
       place = place;
       elements = on.elements;
       fulls = on.fulls;
       are = on.are;
       walked = on.walked;
-      run = (s.may, on.run);
-      headline = headline A o steps some (s.may, on.run);
-      besides = besides A o steps some (s.may, on.run);
-      judged = judged A o steps some (s.may, on.run);
-      durable = λ tells settled. durable A o steps some tells settled (s.may, on.run);
+      run = (may, on.run);
+      headline = headline A o steps some (may, on.run);
+      besides = besides A o steps some (may, on.run);
+      judged = judged A o steps some (may, on.run);
+      durable = λ tells settled. durable A o steps some tells settled (may, on.run);
       stands = on.stands;
     }
+
+pub has_run : {D : Type 0} (seen : D → Seen) (disks : List D) (read_only : Bool) (start w : WorldValue D) (calls : List Call) → Begins seen disks read_only start →
+    Plays seen start calls w → HasRun seen (map seen disks) read_only start calls w
+has_run {D} seen disks read_only start w calls begins plays =
+    let s : Starts seen disks read_only begins.exports.place start = starts seen disks read_only start begins in
+    run_from seen (map seen disks) read_only begins.exports.place start w calls (positive (align_of (map seen disks)) begins.opened.image.1.0) s.align s.may s.stands plays
+
+-- and so over what the disks mean
+pub has_run_meant : {D : Type 0} (seen : D → Seen) (disks : List D) (read_only : Bool) (start w : WorldValue D) (calls : List Call) → Begins seen disks read_only start →
+    Plays own (meant seen start) calls (meant seen w) → HasRun own (map seen disks) read_only (meant seen start) calls (meant seen w)
+has_run_meant {D} seen disks read_only start w calls begins plays =
+    let s : Starts seen disks read_only begins.exports.place start = starts seen disks read_only start begins in
+    run_from own (map seen disks) read_only begins.exports.place (meant seen start) (meant seen w) calls (positive (align_of (map seen disks)) begins.opened.image.1.0)
+    s.align s.may (meant_stands seen start _ s.stands) plays

@@ -103,7 +103,11 @@ fn stopped(alloc: Global, steps: u32, crash: &[u8]) -> Result<(Status, Vec<u8>),
     let mut text = Vec::from_slice(alloc, b"session A disk\n")?;
     let mut left = steps;
     for (asks, step, count) in [
-        (b"write A 1 0 11*512\n".as_slice(), b"step A.1\n".as_slice(), 6),
+        (
+            b"write A 1 0 11*512\n".as_slice(),
+            b"step A.1\n".as_slice(),
+            6,
+        ),
         (b"flush A 2\n", b"step A.2\n", 11),
         (b"write A 3 0 22*512\n", b"step A.3\n", 6),
     ] {

@@ -23,7 +23,7 @@ option_within : (r : Reading) (word : List ℕ) → IsWithin r → IfSome (with_
 option_within r word within =
     let P : Option Reading → Type 0 = λ o. IfSome o IsWithin in
     let one = λ (told : Bool) (n : Expected).
-        by_if P told None (Some (record r { next = n })) tt (record { blocks = within.blocks; align = within.align }) in
+    by_if P told None (Some (record r { next = n })) tt (record { blocks = within.blocks; align = within.align }) in
     by_if P (bytes_eq word (codes "--blocks")) _ _ (one (is_some r.blocks) Blocks)
     (by_if P (bytes_eq word (codes "--align")) _ _ (one (is_some r.align) BlockSize)
     (by_if P (bytes_eq word (codes "--generate")) _ _ (one (is_some r.generate) Seed) tt))

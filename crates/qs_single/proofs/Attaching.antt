@@ -27,6 +27,8 @@ use Rattle.qs_world.specs.Events.{HasCause, IsNotNext, Steps, StepsTo}
 use Rattle.qs_world.specs.Openings.{opening_over}
 use Rattle.qs_world.specs.Stands.{Stands}
 use Rattle.qs_world.specs.Values.{WorldValue, disks_of, session_at}
+use Rattle.qs_world.specs.Running.{meant}
+use Rattle.qs_world.proofs.Meant.{meant_cause, meant_steps, own}
 use Rattle.qs_calls.specs.Calls.{Happened, Plays}
 use Rattle.qs_calls.specs.Runs.{Begins, export, opened}
 use Rattle.qs_calls.proofs.Plays.{plays_of, plays_one}
@@ -133,7 +135,7 @@ module _ {D : Type 0} (seen : D → Seen) (disks : List D) (read_only : Bool) (w
   comes asked session info A (Crashed left) is told = absurd is
 
   pub attaches : (asked : List ℕ) (named : found_at (with_export size read_only).places asked ≡ Some 0) (session : ℕ) (info : ExportInfo) (w' : WorldValue D) → Steps seen w (Attach session asked) (Attached info) w' →
-      HasCause seen w (Attached info) w' → Plays seen w (Happened (Attach session asked) (Attached info) ∷ []) w' →
+      HasCause seen w (Attached info) w' → Plays own (meant seen w) (Happened (Attach session asked) (Attached info) ∷ []) (meant seen w') →
       Attaches seen session (not read_only) w asked info w'
   attaches asked named session info w' step cause plays =
       let A : ℕ = align_of (map seen disks) in
@@ -231,4 +233,5 @@ pub was_attached : {D : Type 0} (seen : D → Seen) (disks : List D) (read_only 
     Attaches seen session (not read_only) w name info w'
 was_attached {D} seen disks read_only w begins session name info w' names step cause =
     attaches seen disks read_only w begins name (named_at seen disks read_only w begins name names) session info w' step cause
-    (plays_one seen w (Happened (Attach session name) (Attached info)) w' (step, cause))
+    (plays_one own (meant seen w) (Happened (Attach session name) (Attached info)) (meant seen w')
+    (meant_steps seen w w' (Attach session name) (Attached info) step, meant_cause seen w w' (Attached info) cause))

@@ -2,9 +2,9 @@ ghost use Rattle.std.specs.Prelude.{◌≡◌, ◌-◌, ◌^◌, ◌<◌, Bool, 
 ghost use Rattle.qs_single.specs.Resting.{Exchanged, IsBody, IsResting};
 
 use qs_bytes::{Ask, Bytes, Verdict};
-use qs_calls::run_out;
+use qs_calls::run_blocks;
 use qs_outside::Disk;
-use qs_part::event::{Actor, Event, Outcome};
+use qs_part::event::{Event, Outcome};
 use qs_world::world::World;
 
 /// Answers one request of the session: it is asked, with its body, and does its steps one behind the other,
@@ -32,7 +32,7 @@ pub fn answer<D: Disk + Drop>(
         Outcome::Memory => return None,
         _ => unreachable!(),
     };
-    let Some(last) = run_out(world, Actor::Request(number), now) else {
+    let Some(last) = run_blocks(world, number, now) else {
         unreachable!();
     };
     match last {

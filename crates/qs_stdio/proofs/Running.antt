@@ -21,8 +21,10 @@ use Rattle.qs_part.specs.declared.event.Outcome.TheVariants.{Attached}
 use Rattle.qs_part.specs.declared.graph.ExportInfo.{ExportInfo}
 use Rattle.qs_calls.specs.Calls.{Call, Happened, Plays}
 use Rattle.qs_calls.specs.Runs.{Begins, ComesBack}
+use Rattle.qs_world.specs.Running.{meant}
+use Rattle.qs_world.proofs.Meant.{own}
 use Rattle.qs_calls.proofs.Plays.{plays_more}
-use Rattle.qs_calls.proofs.Runs.{has_run}
+use Rattle.qs_calls.proofs.Runs.{has_run_meant}
 use Rattle.qs_single.specs.Remaining.{IsSettled}
 use Rattle.qs_single.specs.Resting.{Attaches}
 use Rattle.qs_single.proofs.Attaching.{disks_are}
@@ -57,8 +59,8 @@ sits_of {D} seen disks read_only transmission budget input output start begun na
       comes = comes;
       stream = stream;
       sits = sits;
-      run = has_run seen disks read_only start new (Happened (Attach 0 name) (Attached info) ∷ rounds sits.exchanges) begins
-          (plays_more seen start attach begun (rounds sits.exchanges) new attaches.plays sits.plays);
+      run = has_run_meant seen disks read_only start new (Happened (Attach 0 name) (Attached info) ∷ rounds sits.exchanges) begins
+          (plays_more own (meant seen start) attach (meant seen begun) (rounds sits.exchanges) (meant seen new) attaches.plays sits.plays);
     })
 
 -- requests followed a handshake

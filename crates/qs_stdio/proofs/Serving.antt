@@ -18,6 +18,8 @@ use Rattle.qs_stream.proofs.Moves.{moved_on, moved_none}
 use Rattle.qs_stream.proofs.Calls.{write_failed}
 use Rattle.qs_world.specs.Values.{WorldValue, disks_of}
 use Rattle.qs_calls.specs.Calls.{Call, Plays}
+use Rattle.qs_world.specs.Running.{meant}
+use Rattle.qs_world.proofs.Meant.{own}
 use Rattle.qs_calls.proofs.Plays.{plays_more}
 use Rattle.qs_single.specs.Resting.{IsResting}
 use Rattle.qs_single.specs.Remaining.{IsCleanSettled, Outlasts}
@@ -40,7 +42,7 @@ pub record Served {D : Type 0} (seen : D → Seen) (session : ℕ) (writable str
   pub called : CalledAll (disks_in seen before) exchanges (disks_in seen now)
   pub outlasts : AllTell (disks_in seen before) → IsCleanSettled seen before.world →
       OutlastsAll (disks_in seen before) exchanges (disks_in seen now) × IsCleanSettled seen now.world
-  pub plays : Plays seen before.world (rounds exchanges) now.world
+  pub plays : Plays own (meant seen before.world) (rounds exchanges) (meant seen now.world)
   pub same : SameDisks (disks_in seen before) (disks_in seen now)
   pub counted : length exchanges ≡ count
   pub rests : IsResting seen session writable now.world
@@ -122,8 +124,9 @@ served_more {D} seen session writable structured before mid now count served one
                 so_far.0 here.0 one.1.left_is,
             here.1,
           );
-      plays = subst (λ (cs : List Call). Plays seen before.world cs now.world) (sym (rounds_more xs x))
-          (plays_more seen before.world (rounds xs) mid.world x.calls now.world served.plays (subst (λ (cs : List Call). Plays seen mid.world cs now.world) (sym one.1.calls_are) did.plays));
+      plays = subst (λ (cs : List Call). Plays own (meant seen before.world) cs (meant seen now.world)) (sym (rounds_more xs x))
+          (plays_more own (meant seen before.world) (rounds xs) (meant seen mid.world) x.calls (meant seen now.world) served.plays
+          (subst (λ (cs : List Call). Plays own (meant seen mid.world) cs (meant seen now.world)) (sym one.1.calls_are) did.plays));
       same = same_disks_trans (disks_in seen before) (disks_in seen mid) (disks_in seen now) served.same did.called.same;
       counted = simp length-append (ap (λ (n : ℕ). n + 1) served.counted);
       rests = one.1.does.rests;
@@ -205,7 +208,7 @@ module _ {D : Type 0} (seen : D → Seen) (session : ℕ) (writable structured :
         service = calls_lead (disks_in seen before) (disks_in seen final) xs called;
         called = called;
         outlasts = λ told clean. subst (λ (w : WorldValue D). OutlastsAll (disks_in seen before) xs (disks_of seen w)) (sym world) (served.outlasts told clean).0;
-        plays = subst (λ (w : WorldValue D). Plays seen before.world (rounds xs) w) (sym world) served.plays;
+        plays = subst (λ (w : WorldValue D). Plays own (meant seen before.world) (rounds xs) (meant seen w)) (sym world) served.plays;
         same = subst (λ (w : WorldValue D). SameDisks (disks_in seen before) (disks_of seen w)) (sym world) served.same;
         ends = ends;
       }

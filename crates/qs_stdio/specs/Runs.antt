@@ -20,6 +20,7 @@ use Rattle.qs_world.specs.Values.{WorldValue, disks_of}
 use Rattle.qs_calls.specs.Calls.{Happened, Plays}
 use Rattle.qs_calls.specs.Runs.{Begins, HasRun}
 use Rattle.qs_single.specs.Remaining.{IsCleanSettled, IsSettled}
+use Rattle.qs_world.specs.Running.{meant}
 use Rattle.qs_single.specs.Resting.{Attaches}
 use Rattle.qs_stream.specs.declared.state.State.{State}
 use Rattle.qs_stream.specs.declared.state.State.TheVariants as state
@@ -73,7 +74,7 @@ pub record Sitting {D : Type 0} (seen : D → Seen) (session : ℕ) (writable st
   pub called : CalledAll (disks_in seen before) exchanges (disks_in seen after)
   -- and so does what a crash may leave, where it leaves of each clean stripe what its blocks hold
   pub outlasts : AllTell (disks_in seen before) → IsCleanSettled seen before.world → OutlastsAll (disks_in seen before) exchanges (disks_in seen after)
-  pub plays : Plays seen before.world (rounds exchanges) after.world
+  pub plays : Plays (λ d. d) (meant seen before.world) (rounds exchanges) (meant seen after.world)
   pub same : SameDisks (disks_in seen before) (disks_in seen after)
   pub ends : Ends result budget exchanges after.flow rest
 
@@ -109,7 +110,7 @@ pub record Sits {D : Type 0} (seen : D → Seen) (disks : List D) (read_only tra
   pub comes : ComesTo seen transmission read_only budget input output start name mode flow begun
   pub stream : Buffers
   pub sits : Sitting seen 0 (not read_only) mode.structured budget (record { flow = flow; world = begun }) (last_scene input' output' stream new) result
-  pub run : HasRun seen (map seen disks) read_only start (Happened (Attach 0 name) (Attached info) ∷ rounds sits.exchanges) new
+  pub run : HasRun (λ d. d) (map seen disks) read_only (meant seen start) (Happened (Attach 0 name) (Attached info) ∷ rounds sits.exchanges) (meant seen new)
 
 -- The answers that waited were written, and the session ends as it was told; or a side failed.
 abbrev pub EndsAs : Status → Status → Buffers → Type 0
