@@ -1,7 +1,7 @@
 //! Serves one NBD client on standard input and output over a raw image file.
 //!
-//! `qsd_stdio --transmission [--read-only] [--align N] IMAGE`: the input is a stream of requests, the output
-//! that of replies.
+//! `qsd_stdio [--transmission] [--read-only] [--align N] IMAGE`: the input is what the client sends, the output
+//! what answers it.
 #![tactic(auto)]
 
 mod opening;

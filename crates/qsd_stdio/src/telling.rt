@@ -5,24 +5,27 @@ use qs_stdio::stdio_words;
 use std::fmt;
 
 /// The command's form.
-const USAGE: &str = "usage: qsd_stdio --transmission [--read-only] [--align N] IMAGE";
+const USAGE: &str = "usage: qsd_stdio [--transmission] [--read-only] [--align N] IMAGE";
 
 /// What `--help` prints.
 pub const HELP: &str = "\
-usage: qsd_stdio --transmission [--read-only] [--align N] IMAGE
+usage: qsd_stdio [--transmission] [--read-only] [--align N] IMAGE
        qsd_stdio --help | --version
 
-Serves one NBD client on standard input and output over a raw image: the input is a stream of requests
-without a handshake, the output that of simple replies. READ, WRITE, WRITE_ZEROES, TRIM and FLUSH are
-served, at any offset and length. IMAGE is a file or a block device, which is locked while it is served.
+Serves one NBD client on standard input and output over a raw image, under the export `disk`: greets,
+answers the client's options, and then READ, WRITE, WRITE_ZEROES, TRIM and FLUSH at any offset and length.
+IMAGE is a file or a block device, which is locked while it is served.
 
-  --read-only  refuse what would change the image, which need not be writable
-  --align N    read and write the image in blocks of N bytes, 512 (the default) or 4096
+  --transmission  the client sends requests at once, without a handshake
+  --read-only     refuse what would change the image, which need not be writable
+  --align N       read and write the image in blocks of N bytes, 512 (the default) or 4096
 
-Exit statuses: 0 after a DISC or the input's end between requests; 2 for other words; 3 where the
-image's length isn't right; 4, 5 where the input couldn't be read, the output not be written; 8 after
-2^32 requests; 9 where memory was refused; 10 at the input's end within a request; 11 at a request
-without its magic number; 14 at a WRITE that is too long; 18 where the image can't be opened.";
+Exit statuses: 0 after a DISC, an ABORT or the input's end between messages; 2 for other words; 3 where
+the image's length isn't right; 4, 5 where the input couldn't be read, the output not be written; 8 after
+2^32 options or requests; 9 where memory was refused; 10 at the input's end within a message; 11 at a
+message without its magic number; 12 at flags of the client that aren't known; 13 at an option that they
+don't allow; 14 at a WRITE or an option that is too long; 15 at EXPORT_NAME of no export; 18 where the
+image can't be opened.";
 
 /// What `--version` prints.
 pub const VERSION: &str = "qsd_stdio 1.0.0";
