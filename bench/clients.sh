@@ -45,6 +45,15 @@ through() {
     nbdkit -U - nbd "command=$program" "arg=$1" --run "$2"
 }
 
+# The python that has libnbd.
+python=
+for each in python3 /usr/bin/python3; do
+    if "$each" -c 'import nbd' 2>/dev/null; then
+        python=$each
+        break
+    fi
+done
+
 truncate -s 64M disk.img
 head -c 67108864 /dev/urandom >source.img
 
@@ -66,7 +75,7 @@ fi
 
 # libnbd with the program on its standard streams, with structured replies and without.
 session() {
-    python3 - "$program" "$1" <<'PYTHON'
+    "$python" - "$program" "$1" <<'PYTHON'
 import errno, sys
 import nbd
 
@@ -117,12 +126,12 @@ assert h.pread(size, 0) == image
 h.shutdown()
 PYTHON
 }
-if python3 -c 'import nbd' 2>/dev/null; then
+if [ -n "$python" ]; then
     for mode in structured simple; do
         session $mode
         told "libnbd: odd offsets, zeroes, trims, flushes and refusals, $mode replies" $?
     done
-    if python3 - "$program" <<'PYTHON'; then
+    if "$python" - "$program" <<'PYTHON'; then
 import errno, sys
 import nbd
 
