@@ -34,6 +34,12 @@ abbrev pub status_at : SessionEnd → Status
 status_at end.Done = Done
 status_at other = Ended other
 
+-- whether options go on behind an answer
+abbrev pub turn_at : HandStep → Turn
+turn_at Stay = turn.Stays
+turn_at (TransmitStep mode) = turn.Over (Transmit mode)
+turn_at (Close how) = turn.Over (Ends (status_at how))
+
 -- the input ended between options, or within one
 pub record IsCut (fixed : Bool) (status : Status) (rest : List ℕ) (after : Flow) : Type 0 where
   pub status_is : status ≡ status_at (end_at (InOption rest))

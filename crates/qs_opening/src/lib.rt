@@ -2,8 +2,14 @@
 //! what the core's exports are, and attaches the session, up to where requests follow or the session ends.
 #![tactic(auto)]
 
+mod answer;
+mod event;
 mod opening;
+mod telling;
 mod turn;
 
 pub use opening::open_session;
 pub use turn::Opened;
+
+#[cfg(test)]
+mod tests;

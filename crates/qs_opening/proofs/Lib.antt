@@ -1,0 +1,9 @@
+pub mod Sought
+pub mod Coming
+pub mod Brought
+pub mod Listing
+pub mod Attaching
+pub mod Answering
+pub mod Continuing
+pub mod Conversing
+pub mod Beginning
