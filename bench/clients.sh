@@ -1,11 +1,11 @@
 #!/usr/bin/env bash
-# Real clients against qsd_stdio: libnbd's nbdsh runs it on its standard streams, and nbdkit's nbd plugin
-# stands between it and the tools that want a socket.
+# Real clients against qsd_stdio: libnbd runs it on its standard streams, and socat stands between it and the
+# tools that want a socket.
 #
 #     bench/clients.sh [PROGRAM]
 #
 # One line a step, and the status is 1 where one isn't as it should be. A step whose tool is missing is
-# skipped. Debian's packages: libnbd-bin, python3-libnbd, nbdkit, socat, fio, qemu-utils.
+# skipped. Debian's packages: libnbd-bin, python3-libnbd, socat, fio, qemu-utils.
 set -u
 cd "$(dirname "$0")/.."
 program=$(realpath "${1:-crates/qsd_stdio/out/qsd_stdio}")
@@ -40,9 +40,22 @@ told() {
     fi
 }
 
-# Runs a command with $uri, the address of the program over an image, served through nbdkit.
+# Runs a command with $uri, the address of a socket whose clients are each served by a program of their own
+# over an image.
 through() {
-    nbdkit -U - nbd "command=$program" "arg=$1" --run "$2"
+    local server status
+    rm -f nbd.sock
+    socat "UNIX-LISTEN:nbd.sock,fork" "EXEC:$program $1" 2>>socat.log &
+    server=$!
+    for _ in $(seq 100); do
+        [ -S nbd.sock ] && break
+        sleep 0.05
+    done
+    uri="nbd+unix:///disk?socket=$folder/nbd.sock" timeout 120 bash -c "$2"
+    status=$?
+    kill $server
+    wait $server 2>/dev/null
+    return $status
 }
 
 # The python that has libnbd.
@@ -57,7 +70,7 @@ done
 truncate -s 64M disk.img
 head -c 67108864 /dev/urandom >source.img
 
-if has nbdkit nbdinfo; then
+if has socat nbdinfo; then
     through disk.img 'nbdinfo "$uri"' >info 2>&1
     told "nbdinfo" $?
     grep -E 'export-size|is_read_only|can_flush|can_fua|can_trim|can_zero|can_df' info
@@ -66,10 +79,10 @@ if has nbdkit nbdinfo; then
     grep -E 'export=' list
 fi
 
-if has nbdkit nbdcopy; then
-    through disk.img "nbdcopy $folder/source.img \"\$uri\"" >copied 2>&1 && cmp -s source.img disk.img
+if has socat nbdcopy; then
+    through disk.img "nbdcopy --connections=1 $folder/source.img \"\$uri\"" >copied 2>&1 && cmp -s source.img disk.img
     told "nbdcopy into the image, compared byte for byte" $?
-    through disk.img "nbdcopy \"\$uri\" $folder/out.img" >>copied 2>&1 && cmp -s source.img out.img
+    through disk.img "nbdcopy --connections=1 \"\$uri\" $folder/out.img" >>copied 2>&1 && cmp -s source.img out.img
     told "nbdcopy out of it" $?
 fi
 
@@ -88,7 +101,13 @@ h.connect_command([program, "--align", "4096", "disk.img"])
 size = h.get_size()
 assert size == 64 << 20, size
 assert h.get_structured_replies_negotiated() == structured
-image = bytearray(h.pread(size, 0))
+
+
+def whole():
+    return b"".join(h.pread(1 << 24, at) for at in range(0, size, 1 << 24))
+
+
+image = bytearray(whole())
 
 
 def put(data, at, flags=0):
@@ -122,7 +141,7 @@ refused(lambda: h.pread(2, size - 1), errno.EINVAL)
 refused(lambda: h.pwrite(b"ab", size - 1), errno.ENOSPC)
 refused(lambda: h.zero(2, size - 1), errno.ENOSPC)
 refused(lambda: h.trim(2, size - 1), errno.EINVAL)
-assert h.pread(size, 0) == image
+assert whole() == image
 h.shutdown()
 PYTHON
 }
@@ -165,14 +184,14 @@ else
     echo "skipped, python3-libnbd isn't there"
 fi
 
-if has nbdkit qemu-img qemu-io; then
+if has socat qemu-img qemu-io; then
     through disk.img 'qemu-img info "$uri"' >qemu 2>&1 && grep -q 'virtual size: 64 MiB' qemu
     told "qemu-img info" $?
     through disk.img 'qemu-io -f raw -c "write -P 0x5a 1M 3M" -c "flush" -c "read -P 0x5a 1M 3M" -c "write -z 2M 64k" -c "read -P 0 2M 64k" "$uri"' >>qemu 2>&1
     told "qemu-io" $?
 fi
 
-if has nbdkit fio && fio --enghelp 2>/dev/null | grep -qw nbd; then
+if has socat fio && fio --enghelp 2>/dev/null | grep -qw nbd; then
     through disk.img 'fio --name=verify --ioengine=nbd --uri="$uri" --rw=randwrite --bs=512-64k --bs_unaligned --size=16M --iodepth=16 --verify=crc32c --do_verify=1' >fio.out 2>&1
     told "fio: random writes, verified" $?
 else
