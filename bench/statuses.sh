@@ -49,6 +49,10 @@ head_of 00000002 0000000000000000 00000000 >disc
 head -c 27 read >cut
 printf '\x25\x60\x95\x14' >magic
 head_of 00000001 0000000000000000 02000001 >long
+printf '\0\0\0\x04' >flags
+printf '\0\0\0\0IHAVEOPT\0\0\0\x03\0\0\0\0' >unfixed
+printf '\0\0\0\x01IHAVEOPT\0\0\0\x01\0\0\0\x03foo' >other
+printf '\0\0\0\x01IHAVEOPT\0\0\0\x02\0\0\0\0' >abort
 words=(--transmission disk.img)
 
 try 0 "a DISC" disc output "${words[@]}"
@@ -66,6 +70,10 @@ try 4 "an input that can't be read" . output "${words[@]}"
 try 5 "an output that can't be written" read /dev/full "${words[@]}"
 try 10 "the input's end within a request" cut output "${words[@]}"
 try 11 "a wrong magic" magic output "${words[@]}"
+try 0 "an ABORT" abort output disk.img
+try 12 "flags that aren't known" flags output disk.img
+try 13 "an option of a client without fixed newstyle" unfixed output disk.img
+try 15 "EXPORT_NAME of another export" other output disk.img
 try 14 "a WRITE that is too long" long output "${words[@]}"
 try 18 "no such file" empty output --transmission missing.img
 try 18 "a folder for an image" empty output --transmission .
