@@ -10,13 +10,13 @@ fn source(alloc: Global, count: usize, fails: &[u64]) -> Result<MemSource, Memor
     Ok(MemSource::new(bytes, Vec::new(alloc), Vec::from_slice(alloc, fails)?))
 }
 
-/// What was put leaves where there would be more than 65,536 bytes, and at a flush.
+/// What was put leaves where there would be more than 65,536 bytes, where it is as many itself, and at a flush.
 #[test]
 fn bytes_wait_until_they_are_many(rt: HostRuntime) -> Result<(), Fail> {
     let alloc = rt.alloc();
     let cases: [(&[usize], usize); 5] = [
-        (&[65_536], 0),
-        (&[65_536, 1], 65_536),
+        (&[65_535, 1], 0),
+        (&[65_536], 65_536),
         (&[65_537], 65_537),
         (&[40_000, 40_000], 40_000),
         (&[1, 65_537, 1], 65_538),
