@@ -9,7 +9,7 @@ use Rattle.qs_part.specs.declared.event.Event.TheVariants.{Step as StepEvent}
 use Rattle.qs_part.specs.declared.event.Outcome.{Outcome}
 use Rattle.qs_part.specs.declared.stripe.Side.{Side}
 use Rattle.qs_part.specs.declared.stripe.Side.TheVariants.{Head, Tail}
-use Rattle.qs_request.specs.declared.shape.Shape.{Shape}
+use Rattle.qs_request_state.specs.declared.shape.Shape.{Shape}
 use Rattle.qs_model.specs.Requests.{Client, Pads, Req, Step, Stage, ToList, ToStart, ToHold, ToStore, ToFree, ToEnd, Entering, In}
 use Rattle.qs_model.specs.Requests.{edge, has, is_flush, is_trim, reads, wants_writable, routed, held, started, loaded, stored, syncs, synced, to_sync, hold_failed, store_failed}
 use Rattle.qs_model.specs.Worlds.{World}

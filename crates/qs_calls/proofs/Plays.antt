@@ -14,7 +14,7 @@ use Rattle.qs_model.specs.Worlds.{World}
 use Rattle.qs_world.specs.Events.{Does, HasCause, IsAsPlanned, Steps, StepsTo}
 use Rattle.qs_world.specs.Stands.{Stands}
 use Rattle.qs_world.specs.Values.{WorldValue}
-use Rattle.qs_request.specs.declared.shape.Shape.{Shape}
+use Rattle.qs_request_state.specs.declared.shape.Shape.{Shape}
 use Rattle.qs_calls.specs.Calls.{AreCalls, Call, Happened, Rigged, PowerFailed, ExportMade, MakesExport, Makes, MakesStep, Plays, Walks, full_at}
 
 pub runs_more : (A : ℕ) (w : World) (es fs : List Element) → Runs A w es → Runs A (after A w es) fs → Runs A w (es ++ fs)

@@ -13,7 +13,7 @@ use Rattle.qs_model.specs.Worlds.{Opening as OpenedOver}
 use Rattle.qs_verdicts.proofs.Judged.{judged}
 use Rattle.qs_durable.proofs.Durable.{durable}
 use Rattle.qs_part.specs.declared.graph.GraphOp.TheVariants.{ExportAdd}
-use Rattle.qs_request.specs.declared.shape.Shape.{Shape}
+use Rattle.qs_request_state.specs.declared.shape.Shape.{Shape}
 use Rattle.qs_world.specs.Events.{Does}
 use Rattle.qs_world.specs.Openings.{opening_over}
 use Rattle.qs_world.specs.Stands.{Stands}

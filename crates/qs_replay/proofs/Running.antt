@@ -14,7 +14,7 @@ use Rattle.qs_model.proofs.Headline.{besides, headline}
 use Rattle.qs_model.specs.Worlds.{Opening as OpenedOver}
 use Rattle.qs_verdicts.proofs.Judged.{judged}
 use Rattle.qs_part.specs.declared.graph.GraphOp.TheVariants.{ExportAdd}
-use Rattle.qs_request.specs.declared.shape.Shape.{Shape}
+use Rattle.qs_request_state.specs.declared.shape.Shape.{Shape}
 use Rattle.qs_stream.specs.declared.state.State.{State}
 use Rattle.qs_stream.specs.declared.state.State.TheVariants.{Open}
 use Rattle.qs_stream.specs.Buffers.{Buffers, new_buffers}

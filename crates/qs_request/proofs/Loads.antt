@@ -11,13 +11,13 @@ use Rattle.qs_model.specs.Requests.{Client, Step, In, ToLoad, ToEnd, edge, is_re
 use Rattle.qs_model.proofs.Basics.{blocks_lt}
 use Rattle.qs_model.proofs.Machine.{length-piece, other_block}
 use Rattle.qs_model.proofs.Geometry.{head_low, tail_low, tail_high, same_eqb}
-use Rattle.qs_request.specs.declared.stage.Ending.TheVariants.{Success}
-use Rattle.qs_request.specs.declared.stage.Stage.{Stage}
-use Rattle.qs_request.specs.declared.stage.Stage.TheVariants.{In as InAt}
-use Rattle.qs_request.specs.declared.stage.Step.{Step as Next}
-use Rattle.qs_request.specs.declared.stage.Step.TheVariants.{Load as LoadNext, End as EndNext}
+use Rattle.qs_request_state.specs.declared.stage.Ending.TheVariants.{Success}
+use Rattle.qs_request_state.specs.declared.stage.Stage.{Stage}
+use Rattle.qs_request_state.specs.declared.stage.Stage.TheVariants.{In as InAt}
+use Rattle.qs_request_state.specs.declared.stage.Step.{Step as Next}
+use Rattle.qs_request_state.specs.declared.stage.Step.TheVariants.{Load as LoadNext, End as EndNext}
 use Rattle.qs_request.specs.declared.machine.Machine.{Machine}
-use Rattle.qs_request.specs.Shapes.{IsShape}
+use Rattle.qs_request_state.specs.Shapes.{IsShape}
 use Rattle.qs_request.specs.Inside.{IsLoading, IsPlaced, HasBuffers, before, client_of, stage_of, step_of, way_of}
 use Rattle.qs_request.specs.Value.{bytes_of}
 use Rattle.qs_request.proofs.Reached.{some_bytes, reaches, placed, one_more}

@@ -8,12 +8,12 @@ use Rattle.qs_bytes.specs.declared.ask.Kind.{Kind}
 use Rattle.qs_bytes.specs.declared.ask.Kind.TheVariants.{Read, Write, Zero, Trim, Flush, Unknown}
 use Rattle.qs_model.specs.Requests.{Client, Pads, Req, Ready, Entering, Stage, asked, brings_bytes, form_error, is_read, no_route, stores_bytes, takes_body, wants_buffers}
 use Rattle.qs_model.proofs.Kept.{kind_of}
-use Rattle.qs_request.specs.declared.shape.Blocks.{Blocks}
-use Rattle.qs_request.specs.declared.stage.Ending.TheVariants.{Failed}
-use Rattle.qs_request.specs.declared.stage.Stage.{Stage as At}
-use Rattle.qs_request.specs.declared.stage.Stage.TheVariants.{Ready as ReadyAt, Entering as EnteringAt}
+use Rattle.qs_request_state.specs.declared.shape.Blocks.{Blocks}
+use Rattle.qs_request_state.specs.declared.stage.Ending.TheVariants.{Failed}
+use Rattle.qs_request_state.specs.declared.stage.Stage.{Stage as At}
+use Rattle.qs_request_state.specs.declared.stage.Stage.TheVariants.{Ready as ReadyAt, Entering as EnteringAt}
 use Rattle.qs_request.specs.declared.machine.Machine.{Machine}
-use Rattle.qs_request.specs.Shapes.{IsShape}
+use Rattle.qs_request_state.specs.Shapes.{IsShape}
 use Rattle.qs_request.specs.Value.{bytes_of, given_bytes, has_buffers, client_for}
 use Rattle.qs_request.specs.Inside.{IsFree, IsAtStage, client_of, first_stage, request_of, stage_of}
 

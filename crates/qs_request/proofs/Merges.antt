@@ -7,7 +7,7 @@ use Rattle.qs_padding.specs.Padding.{merged_at as merged_place}
 use Rattle.qs_model.specs.Requests.{edge, has, span_of, covers, body_at, pad}
 use Rattle.qs_model.proofs.Geometry.{outside}
 use Rattle.qs_request.specs.declared.machine.Machine.{Machine}
-use Rattle.qs_request.specs.Shapes.{IsShape}
+use Rattle.qs_request_state.specs.Shapes.{IsShape}
 use Rattle.qs_request.specs.Table.{IsMerged}
 use Rattle.qs_request.specs.Value.{bytes_of}
 use Rattle.qs_request.specs.Inside.{IsStoring, client_of}

@@ -5,9 +5,9 @@ use Rattle.qs_part.specs.declared.stripe.Side.TheVariants.{Head, Tail}
 use Rattle.qs_model.specs.Requests.{edge, span_of}
 use Rattle.qs_model.proofs.Basics.{blocks_le, block_at}
 use Rattle.qs_model.proofs.Geometry.{Reaches, head_high, tail_low, head_reached}
-use Rattle.qs_request.specs.declared.shape.Shape.{Shape}
+use Rattle.qs_request_state.specs.declared.shape.Shape.{Shape}
 use Rattle.qs_request.specs.declared.machine.Machine.{Machine}
-use Rattle.qs_request.specs.Shapes.{IsShape}
+use Rattle.qs_request_state.specs.Shapes.{IsShape}
 use Rattle.qs_bytes.specs.Geometry.{stripe_of}
 use Rattle.qs_request.specs.Table.{FitsBlock}
 use Rattle.qs_request.specs.Inside.{IsGoing, IsReached, IsPlaced, client_of}

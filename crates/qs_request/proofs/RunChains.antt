@@ -16,14 +16,14 @@ use Rattle.qs_part.specs.declared.stripe.StripeReply.TheVariants.{Filled, Fault,
 use Rattle.qs_stripe.specs.Runs.{Loaded, NotLoaded, NotStored, StoredAt, Waits, block_in, load_at, store_at}
 use Rattle.qs_stripe.specs.Table.{StripeValue}
 use Rattle.qs_model.specs.Requests.{Req, In, ToStore}
-use Rattle.qs_request.specs.declared.shape.Shape.{Shape}
+use Rattle.qs_request_state.specs.declared.shape.Shape.{Shape}
 use Rattle.qs_request.specs.declared.todo.PartReply.TheVariants.{Stripe as ByStripe}
 use Rattle.qs_request.specs.declared.todo.Todo.TheVariants.{Stripe}
 use Rattle.qs_request.specs.declared.whole_run.WholeRun.{WholeRun}
 use Rattle.qs_request.specs.RunSteps.{Both, DoesOne, GoesOn, RanOut}
 use Rattle.qs_request.specs.Table.{FitsBlock, IsMerged, Wants, followed}
 use Rattle.qs_request.specs.Value.{IsReady}
-use Rattle.qs_request.specs.WholeRuns.{IsReadingRun, IsWholeRun, IsWritingRun, behind_loads, behind_stores}
+use Rattle.qs_request.specs.WholeRuns.{IsReadingRun, IsWritingRun, behind_loads, behind_stores}
 use Rattle.qs_request.proofs.WholeReads.{loads-before}
 use Rattle.qs_request.proofs.WholeWrites.{stores-before}
 

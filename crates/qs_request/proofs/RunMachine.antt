@@ -1,5 +1,5 @@
 -- The fields of a request behind a run of whole blocks.
-use Rattle.std.proofs.Common.{◌≡◌, ◌≢◌, ℕ, zero, suc, ◌+◌, ◌-◌, ◌*◌, max, ◌<◌, ◌≤◌, Bool, true, false, ◌==◌, ◌&&◌, cond, List, length, take, refl, sym, ap, ◌∙◌, subst, arith, true≢false}
+use Rattle.std.proofs.Common.{◌≡◌, ℕ, suc, ◌+◌, ◌-◌, ◌*◌, ◌<◌, ◌≤◌, Bool, true, false, ◌==◌, ◌&&◌, cond, List, length, take, refl, sym, ap, ◌∙◌, subst, arith}
 use Rattle.std.proofs.lemmas.List.{take_all}
 use Rattle.std.specs.Prelude.{[], Some}
 use Rattle.qs_bytes.specs.Geometry.{stripe_of}
@@ -18,20 +18,19 @@ use Rattle.qs_request.specs.Table.{IsMerged, followed}
 use Rattle.qs_request.proofs.RunChains.{both, loads-end, loads-ran, note_for, stores-end, stores-ran, stores-wait}
 use Rattle.qs_request.proofs.WholeWrites.{store-done, stores-fail, stores-held, whole-merged}
 use Rattle.qs_bytes.specs.declared.ask.Kind.{Kind}
-use Rattle.qs_bytes.specs.declared.ask.Kind.TheVariants.{Read, Write}
-use Rattle.qs_bytes.specs.declared.ask.Verdict.{Verdict}
+use Rattle.qs_bytes.specs.declared.ask.Kind.TheVariants.{Write}
 use Rattle.qs_bytes.specs.declared.ask.Verdict.TheVariants.{Got, Fine, Refused}
 use Rattle.qs_part.specs.declared.stripe.Side.TheVariants.{Head, Tail}
 use Rattle.qs_stripe.specs.Runs.{IsOver, Loaded, NotLoaded, NotStored, StoredAt, Waits, block_in, run_answers}
-use Rattle.qs_model.specs.Requests.{Client, Req, Stage, Step, In, ToEnd, ToLoad, ToStore, brings_bytes, edge, is_read, span_of, store_failed, stored, success, takes_body}
+use Rattle.qs_model.specs.Requests.{Client, Req, Step, In, ToEnd, ToLoad, ToStore, brings_bytes, edge, is_read, span_of, store_failed, stored, success, takes_body}
 use Rattle.qs_model.proofs.Basics.{blocks_lt}
 use Rattle.qs_model.proofs.Geometry.{head_low, tail_high}
 use Rattle.qs_request.specs.declared.machine.Machine.{Machine}
-use Rattle.qs_request.specs.declared.stage.Ending.TheVariants.{Success, Failed, Dropped as Left}
-use Rattle.qs_request.specs.declared.stage.Stage.{Stage as At}
-use Rattle.qs_request.specs.declared.stage.Stage.TheVariants.{In as InAt}
-use Rattle.qs_request.specs.declared.stage.Step.{Step as Next}
-use Rattle.qs_request.specs.declared.stage.Step.TheVariants.{Route as RouteNext, List as ListNext, Start as StartNext, Load as LoadNext, Hold as HoldNext, Store as StoreNext, Sync as SyncNext, Free as FreeNext, End as EndNext}
+use Rattle.qs_request_state.specs.declared.stage.Ending.TheVariants.{Success, Failed, Dropped as Left}
+use Rattle.qs_request_state.specs.declared.stage.Stage.{Stage as At}
+use Rattle.qs_request_state.specs.declared.stage.Stage.TheVariants.{In as InAt}
+use Rattle.qs_request_state.specs.declared.stage.Step.{Step as Next}
+use Rattle.qs_request_state.specs.declared.stage.Step.TheVariants.{Route as RouteNext, List as ListNext, Start as StartNext, Load as LoadNext, Hold as HoldNext, Store as StoreNext, Sync as SyncNext, Free as FreeNext, End as EndNext}
 use Rattle.qs_request.specs.declared.whole_run.WholeRun.{WholeRun}
 use Rattle.qs_request.specs.Inside.{Goes, HasBuffers, IsAtStage, IsFree, IsGoing, IsLoading, IsReached, IsStoring, before, client_of, lends_at, request_of, stage_of, step_of}
 use Rattle.qs_request.specs.Value.{bytes_of}

@@ -1,5 +1,5 @@
 -- A WRITE_ZEROES behind a run of whole blocks that are stored from zeros.
-use Rattle.std.proofs.Common.{◌≡◌, ℕ, zero, suc, ◌+◌, ◌-◌, ◌*◌, ◌<◌, ◌≤◌, Bool, true, false, ◌==◌, cond, List, [], get_or, length, take, drop, replicate, refl, sym, ap, ◌∙◌, subst, arith, true≢false}
+use Rattle.std.proofs.Common.{◌≡◌, ℕ, zero, suc, ◌+◌, ◌-◌, ◌*◌, ◌<◌, ◌≤◌, false, ◌==◌, cond, List, [], get_or, length, drop, replicate, refl, sym, ap, ◌∙◌, subst, arith, true≢false}
 use Rattle.std.specs.Prelude.{Some}
 use Rattle.std.proofs.Math.Nat.{mul-le-mul_right}
 use Rattle.std.proofs.lemmas.List.{ext_get_or, get_or-take, get_or-drop, length-drop, length-replicate, length-take-le}
@@ -17,11 +17,11 @@ use Rattle.qs_part.specs.declared.stripe.StripeOp.TheVariants.{Store}
 use Rattle.qs_part.specs.declared.stripe.StripeReply.TheVariants.{Done, Fault, HeldBy}
 use Rattle.qs_stripe.specs.Runs.{NotStored, StoredAt, Waits, block_in, run_answers}
 use Rattle.qs_stripe.specs.Table.{StripeValue, answers}
-use Rattle.qs_model.specs.Requests.{Client, Pads, Req, Step, In, ToStore, body_at, brings_bytes, edge, pad, span_of, store_failed, stored}
+use Rattle.qs_model.specs.Requests.{Req, Step, In, ToStore, body_at, brings_bytes, edge, pad, span_of, store_failed, stored}
 use Rattle.qs_request.specs.declared.machine.Machine.{Machine}
-use Rattle.qs_request.specs.declared.stage.Stage.TheVariants.{In as InAt}
-use Rattle.qs_request.specs.declared.stage.Step.{Step as Next}
-use Rattle.qs_request.specs.declared.stage.Step.TheVariants.{Store as StoreNext}
+use Rattle.qs_request_state.specs.declared.stage.Stage.TheVariants.{In as InAt}
+use Rattle.qs_request_state.specs.declared.stage.Step.{Step as Next}
+use Rattle.qs_request_state.specs.declared.stage.Step.TheVariants.{Store as StoreNext}
 use Rattle.qs_request.specs.declared.whole_run.WholeRun.{WholeRun}
 use Rattle.qs_request.specs.Inside.{IsFree, client_of, request_of, step_of}
 use Rattle.qs_request.specs.RunSteps.{AreZeros, RanOut}

@@ -13,7 +13,7 @@ use Rattle.qs_part.specs.declared.stripe.StripeReply.{StripeReply}
 use Rattle.qs_part.specs.declared.stripe.StripeReply.TheVariants.{Filled, Fault, HeldBy, Taken, Done, Freed, NotHeld, Clean, Synced}
 use Rattle.qs_model.specs.Requests.{Client, Pads, Req, Stage, ToRoute, ToList, ToStart, ToLoad, ToHold, ToStore, ToSync, ToFree, ToEnd, Ready, Entering, In, edge, span_of, serial}
 use Rattle.qs_bytes.specs.Geometry.{stripe_of}
-use Rattle.qs_request.specs.declared.shape.Shape.{Shape}
+use Rattle.qs_request_state.specs.declared.shape.Shape.{Shape}
 use Rattle.qs_request.specs.declared.todo.Todo.{Todo}
 use Rattle.qs_request.specs.declared.todo.Todo.TheVariants.{Tracker, Route, Stripe, Answer}
 use Rattle.qs_request.specs.declared.todo.PartReply.{PartReply}

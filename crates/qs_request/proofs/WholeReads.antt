@@ -1,13 +1,11 @@
 -- A READ's loads of a run of whole blocks.
-use Rattle.std.proofs.Common.{◌≡◌, ◌≢◌, ℕ, zero, suc, ◌+◌, ◌-◌, ◌*◌, ◌%◌, max, min, ◌<◌, ◌≤◌, Bool, true, false, ◌==◌, cond, List, ◌++◌, length, take, drop, refl, sym, ap, ◌∙◌, subst, inl, inr, arith, true≢false}
+use Rattle.std.proofs.Common.{◌≡◌, ◌≢◌, ℕ, zero, suc, ◌+◌, ◌-◌, ◌*◌, max, min, ◌<◌, ◌≤◌, Bool, true, false, ◌==◌, cond, List, ◌++◌, length, take, drop, refl, sym, ap, ◌∙◌, inl, inr, arith, true≢false}
 use Rattle.std.specs.Prelude.{Some}
 use Rattle.std.proofs.Math.Nat.{mul-le-mul_right}
 use Rattle.std.proofs.Math.Seq.{take-add}
 use Rattle.std.proofs.lemmas.Bool.{eq-eqb, ne_eqb}
 use Rattle.std.proofs.lemmas.Bool.Decides.{eqb_tells}
 use Rattle.std.proofs.lemmas.List.{length-drop, length-take-le, take_all}
-use Rattle.qs_bytes.specs.Pieces.{part}
-use Rattle.qs_bytes.specs.Spans.{Places}
 use Rattle.qs_bytes.specs.declared.ask.Errno.TheVariants.{Io}
 use Rattle.qs_bytes.specs.declared.ask.Verdict.TheVariants.{Got, Refused}
 use Rattle.qs_part.specs.declared.stripe.Side.TheVariants.{Tail}
@@ -17,7 +15,7 @@ use Rattle.qs_model.proofs.Geometry.{tail_low, tail_high}
 use Rattle.qs_request.specs.declared.todo.PartReply.TheVariants.{Stripe as ByStripe}
 use Rattle.qs_request.specs.declared.whole_run.WholeRun.{WholeRun}
 use Rattle.qs_request.specs.Table.{followed}
-use Rattle.qs_request.specs.WholeRuns.{IsReadingRun, IsWholeRun, behind_loads, block_of, next_read}
+use Rattle.qs_request.specs.WholeRuns.{IsReadingRun, behind_loads, block_of, next_read}
 
 -- block i of a run begins where the span has it, and ends in the span
 pub run-ends : (A b n i : ℕ) → i < n → (b + i) * A + A ≤ (b + n) * A

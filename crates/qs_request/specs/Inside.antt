@@ -10,15 +10,15 @@ use Rattle.qs_part.specs.declared.graph.Route.{Route}
 use Rattle.qs_part.specs.declared.stripe.Side.{Side}
 use Rattle.qs_part.specs.declared.stripe.Side.TheVariants.{Head, Tail}
 use Rattle.qs_model.specs.Requests.{Client, Req, Step, Stage, ToRoute, ToList, ToStart, ToLoad, ToHold, ToStore, ToSync, ToFree, ToEnd, Ready, Entering, In, edge, has, span_of, pad, no_route, success, form_error, is_flush, is_known, is_read, stores_bytes, takes_body, wants_buffers}
-use Rattle.qs_request.specs.declared.stage.Ending.{Ending}
-use Rattle.qs_request.specs.declared.stage.Ending.TheVariants.{Success, Failed, Dropped as Left}
-use Rattle.qs_request.specs.declared.stage.Step.{Step as Next}
-use Rattle.qs_request.specs.declared.stage.Step.TheVariants.{Route as RouteNext, List as ListNext, Start as StartNext, Load as LoadNext, Hold as HoldNext, Store as StoreNext, Sync as SyncNext, Free as FreeNext, End as EndNext}
-use Rattle.qs_request.specs.declared.stage.Stage.{Stage as At}
-use Rattle.qs_request.specs.declared.stage.Stage.TheVariants.{Ready as ReadyAt, Entering as EnteringAt, In as InAt}
+use Rattle.qs_request_state.specs.declared.stage.Ending.{Ending}
+use Rattle.qs_request_state.specs.declared.stage.Ending.TheVariants.{Success, Failed, Dropped as Left}
+use Rattle.qs_request_state.specs.declared.stage.Step.{Step as Next}
+use Rattle.qs_request_state.specs.declared.stage.Step.TheVariants.{Route as RouteNext, List as ListNext, Start as StartNext, Load as LoadNext, Hold as HoldNext, Store as StoreNext, Sync as SyncNext, Free as FreeNext, End as EndNext}
+use Rattle.qs_request_state.specs.declared.stage.Stage.{Stage as At}
+use Rattle.qs_request_state.specs.declared.stage.Stage.TheVariants.{Ready as ReadyAt, Entering as EnteringAt, In as InAt}
 use Rattle.qs_request.specs.declared.machine.Machine.{Machine}
 use Rattle.qs_request.specs.declared.todo.PartReply.{PartReply}
-use Rattle.qs_request.specs.Shapes.{IsShape}
+use Rattle.qs_request_state.specs.Shapes.{IsShape}
 use Rattle.qs_request.specs.Table.{MayAnswer, followed}
 use Rattle.qs_request.specs.Value.{RequestValue, bytes_of}
 

@@ -10,7 +10,7 @@ use Rattle.qs_part.specs.declared.stripe.StripeOp.{StripeOp}
 use Rattle.qs_part.specs.declared.stripe.StripeOp.TheVariants.{Load, Hold, Store, Free, Sync}
 use Rattle.qs_part.specs.declared.stripe.StripeReply.{StripeReply}
 use Rattle.qs_part.specs.declared.stripe.StripeReply.TheVariants.{Filled, Fault, HeldBy, Taken, Done, Freed, NotHeld, Clean, Synced}
-use Rattle.qs_request.specs.declared.shape.Shape.{Shape}
+use Rattle.qs_request_state.specs.declared.shape.Shape.{Shape}
 use Rattle.qs_request.specs.declared.todo.Todo.{Todo}
 use Rattle.qs_request.specs.declared.todo.Todo.TheVariants.{Tracker, Route, Stripe}
 use Rattle.qs_request.specs.declared.todo.PartReply.{PartReply}

@@ -1,5 +1,5 @@
 -- A run of a request on its stripe: the request's single operations, one after the other.
-use Rattle.std.specs.Prelude.{◌≡◌, ℕ, suc, ◌+◌, ◌<◌, ◌≤◌, ◌⊎◌, List, length, get_or, Option, Some}
+use Rattle.std.specs.Prelude.{◌≡◌, ℕ, suc, ◌<◌, ◌≤◌, List, length, get_or, Some}
 use Rattle.qs_outside.specs.Runs.{EndsAt}
 use Rattle.qs_part.specs.declared.event.Note.{Note}
 use Rattle.qs_part.specs.declared.event.NoteReply.{NoteReply}
@@ -14,7 +14,7 @@ use Rattle.qs_stripe.specs.declared.geometry.Geometry.{Geometry}
 use Rattle.qs_stripe.specs.Table.{StripeValue, answers}
 use Rattle.qs_bytes.specs.Geometry.{stripe_of}
 use Rattle.qs_model.specs.Requests.{Req, Stage, ToLoad, ToStore, In, span_of}
-use Rattle.qs_request.specs.declared.shape.Shape.{Shape}
+use Rattle.qs_request_state.specs.declared.shape.Shape.{Shape}
 use Rattle.qs_request.specs.declared.todo.Todo.TheVariants.{Stripe}
 use Rattle.qs_request.specs.declared.todo.PartReply.TheVariants.{Stripe as ByStripe}
 use Rattle.qs_request.specs.declared.whole_run.WholeRun.{WholeRun}

@@ -4,8 +4,8 @@ use Rattle.qs_bytes.specs.declared.ask.Ask.{Ask}
 use Rattle.qs_bytes.specs.declared.ask.Kind.{Kind}
 use Rattle.qs_bytes.specs.declared.ask.Kind.TheVariants.{Write}
 use Rattle.qs_model.specs.Requests.{Client, Req, Stage, Ready, no_route, takes_body, wants_buffers}
-use Rattle.qs_request.specs.declared.shape.Shape.{Shape}
-use Rattle.qs_request.specs.declared.shape.Blocks.{Blocks}
+use Rattle.qs_request_state.specs.declared.shape.Shape.{Shape}
+use Rattle.qs_request_state.specs.declared.shape.Blocks.{Blocks}
 use Rattle.qs_request.specs.declared.todo.Todo.{Todo}
 use Rattle.qs_request.specs.declared.todo.Todo.TheVariants.{Answer}
 

@@ -3,7 +3,7 @@ ghost use Rattle.qs_model.specs.Requests.{Req as Request};
 ghost use Rattle.qs_model.specs.Acts.{Act};
 ghost use Rattle.qs_model.specs.Steps.{moved};
 ghost use Rattle.qs_model.specs.Histories.{answer_of};
-ghost use Rattle.qs_request.specs.declared.shape.Shape.{Shape};
+ghost use Rattle.qs_request_state.specs.declared.shape.Shape.{Shape};
 ghost use Rattle.qs_request.specs.declared.todo.Todo.{Todo};
 ghost use Rattle.qs_request.specs.declared.todo.PartReply.{PartReply};
 ghost use Rattle.qs_request.specs.Operations.{MayReplyTo};

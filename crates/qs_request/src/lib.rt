@@ -2,23 +2,17 @@
 //! does next on a part of the daemon, and what the part's answer makes of it.
 #![tactic(auto)]
 
-mod kinds;
 pub mod laws;
 mod machine;
 mod making;
 mod moves;
-mod pads;
 mod replies;
 pub mod req;
 pub mod run_laws;
 mod runs;
-pub mod shape;
-mod stage;
-mod stripes;
 pub mod todo;
 mod whole_run;
 
 pub use req::Req;
-pub use shape::{Blocks, Shape};
 pub use todo::{PartReply, Todo};
 pub use whole_run::WholeRun;

@@ -1,22 +1,18 @@
-ghost use Rattle.std.specs.Prelude.{◌≡◌, ℕ, ◌+◌, ◌*◌, ◌<◌, ◌==◌, if◌then◌else◌, [], length, true, false};
-ghost use Rattle.std.specs.List.{slice_index_or};
-ghost use Rattle.qs_padding.specs.Padding.{merged_at};
+ghost use Rattle.std.specs.Prelude.{◌≡◌, [], length, true, false};
 ghost use Rattle.qs_model.specs.Requests.{abandon, brings_bytes};
-ghost use Rattle.qs_request.specs.Shapes.{IsShape};
+ghost use Rattle.qs_request_state.specs.Shapes.{IsShape};
 ghost use Rattle.qs_request.specs.Table.{FitsPart, IsMerged, WantsAt};
 ghost use Rattle.qs_request.specs.Value.{Gave};
 ghost use Rattle.qs_request.specs.Inside.{Goes, HasBuffers, IsFree, IsGoing, IsLoading, IsSound, IsStoring, client_of, lends, request_of, stage_of, value_of, verdict_of};
 
-use crate::kinds::{brings_bytes, is_flush, is_read};
-use crate::pads::PadBuffer;
-use crate::shape::{Blocks, Shape};
-use crate::stage::{Ending, Stage, Step};
 use crate::todo::Todo;
-use qs_bytes::{Ask, Bytes, Span, Verdict, stripe_of};
-use qs_padding::padding::{clear, merge};
+use qs_bytes::{Ask, Bytes, Verdict, stripe_of};
 use qs_part::graph::Route;
 use qs_part::stripe::{Side, StripeOp};
 use qs_part::tracker::TrackerOp;
+use qs_request_state::{
+    Blocks, Ending, PadBuffer, Shape, Stage, Step, brings_bytes, cleared, is_flush, is_read, merged,
+};
 use std::alloc::Global;
 use std::mem;
 
@@ -43,66 +39,6 @@ pub struct Machine {
     pub answered: bool,
     /// Makes buffers of no bytes, which take no memory.
     pub alloc: Global,
-}
-
-/// Puts the pad over the block, if there is one.
-fn pad_over(block: &mut [u8], pad: &[u8])
-    ensures { block.new ≡ (if length pad.now == length block.old then pad.now else block.old) }
-{
-    if pad.len() == block.len() {
-        block.copy_from_slice(pad);
-    }
-}
-
-/// The same over the bytes of a vector.
-fn pad_into(block: &mut Vec<u8>, pad: &[u8])
-    ensures { block.new.items ≡ (if length pad.now == length block.old.items then pad.now else block.old.items) }
-{
-    pad_over(block.as_mut_slice(), pad);
-}
-
-/// Merges the covered bytes of block `b` into the bytes of a vector.
-fn merge_into(block: &mut Vec<u8>, b: u64, span: &Span, bytes: &[u8])
-    requires { span.now.lo + length bytes.now ≡ span.now.hi }
-    ensures len { length block.new.items ≡ length block.old.items }
-    ensures merged { (i : ℕ) → i < length block.old.items →
-        slice_index_or block.new.items i 0 ≡ merged_at span.now bytes.now (b * length block.old.items + i) (slice_index_or block.old.items i 0) }
-{
-    merge(block.as_mut_slice(), b, span, bytes);
-}
-
-/// The block with the pad over it and the covered bytes merged.
-fn merged(work: Bytes, pad: &[u8], b: u64, span: &Span, bytes: &[u8]) -> Bytes
-    requires { span.now.lo + length bytes.now ≡ span.now.hi }
-    ensures len { length result ≡ length work }
-    ensures merged { (i : ℕ) → i < length work →
-        slice_index_or result i 0 ≡ merged_at span.now bytes.now (b * length work + i) (slice_index_or (if length pad.now == length work then pad.now else work) i 0) }
-{
-    let mut block = work.into_vec();
-    pad_into(&mut block, pad);
-    merge_into(&mut block, b, span, bytes);
-    Bytes::of(block)
-}
-
-/// Clears the covered bytes of block `b` in the bytes of a vector.
-fn clear_in(block: &mut Vec<u8>, b: u64, span: &Span)
-    ensures len { length block.new.items ≡ length block.old.items }
-    ensures cleared { (i : ℕ) → i < length block.old.items →
-        slice_index_or block.new.items i 0 ≡ merged_at span.now [] (b * length block.old.items + i) (slice_index_or block.old.items i 0) }
-{
-    clear(block.as_mut_slice(), b, span);
-}
-
-/// The block with the pad over it and the covered bytes cleared.
-fn cleared(work: Bytes, pad: &[u8], b: u64, span: &Span) -> Bytes
-    ensures len { length result ≡ length work }
-    ensures cleared { (i : ℕ) → i < length work →
-        slice_index_or result i 0 ≡ merged_at span.now [] (b * length work + i) (slice_index_or (if length pad.now == length work then pad.now else work) i 0) }
-{
-    let mut block = work.into_vec();
-    pad_into(&mut block, pad);
-    clear_in(&mut block, b, span);
-    Bytes::of(block)
 }
 
 /// The next operations.

@@ -1,26 +1,17 @@
 ghost use Rattle.std.specs.Prelude.{◌≡◌, [], length, IsSome};
 ghost use Rattle.std.specs.Option.{ForSome};
-ghost use Rattle.qs_model.specs.Requests.{asked, form_error};
-ghost use Rattle.qs_request.specs.Shapes.{IsShape, IsRoom};
+ghost use Rattle.qs_model.specs.Requests.{asked};
+ghost use Rattle.qs_request_state.specs.Shapes.{IsShape, IsRoom};
 ghost use Rattle.qs_request.specs.Value.{client_for, given_bytes, has_buffers};
 ghost use Rattle.qs_request.specs.Inside.{IsFree, first_stage, request_of};
-ghost use Rattle.qs_request.specs.Kept.{no_pads};
+ghost use Rattle.qs_request_state.specs.Kept.{no_pads};
 
-use crate::kinds::{brings_bytes, is_known, is_read, stores_bytes};
 use crate::machine::Machine;
-use crate::pads::PadBuffer;
-use crate::shape::{Blocks, Shape};
-use crate::stage::{Ending, Stage};
-use qs_bytes::{Ask, Bytes, Errno, MAX_PAYLOAD};
+use qs_bytes::{Ask, Bytes, Errno};
+use qs_request_state::{
+    Blocks, Ending, PadBuffer, Shape, Stage, brings_bytes, is_form_error, is_read, stores_bytes,
+};
 use std::alloc::Global;
-
-/// Whether a request is refused by its form alone.
-fn is_form_error(ask: Ask) -> bool
-    ensures { result ≡ form_error ask }
-{
-    let long = is_read(ask.kind) && ask.length > MAX_PAYLOAD;
-    !is_known(ask.kind) || !ask.flags_fit || long
-}
 
 fn first_stage(ask: Ask, buffered: bool) -> Stage
     ensures { result ≡ first_stage ask buffered }

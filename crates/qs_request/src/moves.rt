@@ -3,17 +3,17 @@ ghost use Rattle.std.specs.Prelude.{nat_lt, is_some, ◌*◌, ◌==◌, if◌the
 ghost use Rattle.qs_bytes.specs.Spans.{aligned_out};
 ghost use Rattle.qs_part.specs.declared.stripe.Side.TheVariants.{Head as HeadSide, Tail as TailSide};
 ghost use Rattle.qs_model.specs.Requests.{edge, has, held, hold_failed, is_flush, is_read, routed, serial, span_of, started, store_failed, stored, stores_bytes, syncs, synced, to_sync, ToStore};
-ghost use Rattle.qs_request.specs.Shapes.{IsShape};
+ghost use Rattle.qs_request_state.specs.Shapes.{IsShape};
 ghost use Rattle.qs_request.specs.Inside.{Goes, HasKeptTo, HasPads, IsAsked, IsGoing, IsLoading, IsPlaced, IsReached, IsStoring, IsSyncing, client_of, step_of, way_of};
 
-use crate::kinds::{is_flush, is_read, is_trim, stores_bytes, wants_writable};
 use crate::machine::Machine;
-use crate::stage::{Ending, Step};
-use crate::stripes::touches;
 use qs_bytes::{Errno, STRIPES, Span};
 use qs_padding::padding::plan;
 use qs_padding::planned::Plan;
 use qs_part::stripe::Side;
+use qs_request_state::{
+    Ending, Step, is_flush, is_read, is_trim, stores_bytes, touches, wants_writable,
+};
 
 /// Whether the bytes from an offset on pass a size. A sum above 2^64 - 1 passes each.
 fn passes(offset: u64, length: u64, size: u64) -> bool

@@ -4,15 +4,15 @@ ghost use Rattle.qs_part.specs.declared.stripe.StripeReply.{StripeReply as Reply
 ghost use Rattle.qs_model.specs.Requests.{held, keep, loaded, piece, In as InFlight};
 ghost use Rattle.qs_request.specs.Table.{MayTrack, after_tracker};
 ghost use Rattle.qs_request.specs.Inside.{AwaitsReply, TakesReply, Goes, HasBuffers, IsHolding, IsLoading, IsSound, IsAtStage, before, client_of, stage_of, step_of};
-ghost use Rattle.qs_request.specs.Shapes.{IsShape};
+ghost use Rattle.qs_request_state.specs.Shapes.{IsShape};
 
 use crate::machine::Machine;
-use crate::stage::{Ending, Stage, Step};
 use crate::todo::PartReply;
 use qs_bytes::{Bytes, Errno, write_over};
 use qs_part::graph::GraphReply;
 use qs_part::stripe::{Side, StripeReply};
 use qs_part::tracker::TrackerReply;
+use qs_request_state::{Ending, Stage, Step};
 
 /// Where the covered bytes of a block are: at `from` to `to` in the block, and from `at` on in the
 /// bytes that the request covers.

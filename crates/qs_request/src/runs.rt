@@ -7,17 +7,16 @@ ghost use Rattle.qs_stripe.specs.Table.{geometry, value_of as stripe_value};
 ghost use Rattle.qs_request.specs.declared.whole_run.WholeRun.{WholeRun as Run};
 ghost use Rattle.qs_request.specs.Inside.{IsFree, IsReached, client_of, request_of};
 ghost use Rattle.qs_request.specs.RunSteps.{AreZeros, IsNextRun, RanOut, geometry_for};
-ghost use Rattle.qs_request.specs.Shapes.{IsShape};
+ghost use Rattle.qs_request_state.specs.Shapes.{IsShape};
 ghost use Rattle.qs_request.specs.WholeRuns.{IsNotWhole, IsWholeRun};
 
-use crate::kinds::brings_bytes;
 use crate::machine::Machine;
-use crate::stage::{Ending, Stage, Step};
 use crate::whole_run::WholeRun;
 use qs_bytes::{Bytes, Errno};
 use qs_outside::Disk;
 use qs_part::event::{Note, NoteReply, OpKind, StripeNote};
 use qs_part::runs::{RunOp, RunReply};
+use qs_request_state::{Ending, Stage, Step, brings_bytes};
 use qs_stripe::stripe::Stripe;
 use std::mem;
 

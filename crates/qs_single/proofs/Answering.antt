@@ -24,7 +24,7 @@ use Rattle.qs_model.specs.Requests.{Client, Req, edge, is_flush, stores_bytes}
 use Rattle.qs_model.specs.Steps.{Runs, after, happens}
 use Rattle.qs_model.specs.Worlds.{Image, Live, Opening, Session, World}
 use Rattle.qs_model.proofs.Basics.{block_high, block_low, blocks_le, put_here}
-use Rattle.qs_request.specs.declared.shape.Shape.{Shape}
+use Rattle.qs_request_state.specs.declared.shape.Shape.{Shape}
 use Rattle.qs_stripe.specs.Table.{StripeState}
 use Rattle.qs_verdicts.specs.Stories.{Given, Way, route_by}
 use Rattle.qs_verdicts.specs.Verdicts.{IsAnswered, Meets, reply_of}

@@ -20,7 +20,7 @@ use Rattle.qs_model.specs.Guards.{May}
 use Rattle.qs_model.specs.Steps.{Runs, after, happens}
 use Rattle.qs_model.specs.Worlds.{Away, Live, World}
 use Rattle.qs_model.proofs.Basics.{put_here}
-use Rattle.qs_request.specs.declared.shape.Shape.{Shape}
+use Rattle.qs_request_state.specs.declared.shape.Shape.{Shape}
 use Rattle.qs_stripe.specs.Table.{StripeState}
 use Rattle.qs_world.specs.declared.live.Member.{Member}
 use Rattle.qs_world.specs.Events.{HasCause, IsNotNext, Steps, StepsTo}

@@ -16,7 +16,7 @@ use Rattle.qs_model.specs.Steps.{happens}
 use Rattle.qs_model.specs.Worlds.{Hold}
 use Rattle.qs_model.proofs.Basics.{same_or}
 use Rattle.qs_part.specs.declared.stripe.Side.{Side}
-use Rattle.qs_request.specs.declared.shape.Shape.{Shape}
+use Rattle.qs_request_state.specs.declared.shape.Shape.{Shape}
 use Rattle.qs_stripe.specs.Table.{Opened, StripeState, StripeValue, value_of as stripe_value}
 use Rattle.qs_tracker.specs.Table.{TrackerValue, fresh as fresh_tracker}
 use Rattle.qs_world.specs.Crashing.{Crashed, StripeCrashes, StripesCrash, left_at}

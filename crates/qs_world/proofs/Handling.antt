@@ -26,7 +26,7 @@ use Rattle.qs_part.specs.declared.graph.GraphReply.{GraphReply}
 use Rattle.qs_part.specs.declared.graph.GraphReply.TheVariants.{Attached as AttachedReply, NoExport as NoExportReply, Crowded as CrowdedReply}
 use Rattle.qs_graph.specs.Table.{GraphValue, May as MayGraph, answers as graph_answers}
 use Rattle.qs_graph.proofs.Rows.{after_length}
-use Rattle.qs_request.specs.declared.shape.Shape.{Shape}
+use Rattle.qs_request_state.specs.declared.shape.Shape.{Shape}
 use Rattle.qs_world.specs.Notes.{detach_note}
 use Rattle.qs_world.proofs.Coming.{Keeps, attached_does, no_export_does, crowded_does, left_does, detached_does, not_attached_does}
 use Rattle.qs_world.proofs.SameDisks.{uncalled}

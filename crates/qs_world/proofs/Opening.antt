@@ -22,7 +22,7 @@ use Rattle.qs_graph.proofs.Standing.{nobody as no_export}
 use Rattle.qs_model.specs.Worlds.{Hold}
 use Rattle.qs_bytes.specs.Geometry.{stripe_of}
 use Rattle.qs_model.specs.Laws.{opening}
-use Rattle.qs_request.specs.declared.shape.Shape.{Shape}
+use Rattle.qs_request_state.specs.declared.shape.Shape.{Shape}
 use Rattle.qs_stripe.specs.Table.{StripeState, value_of as stripe_value, Opened}
 use Rattle.qs_tracker.specs.Table.{TrackerValue, fresh as fresh_tracker}
 use Rattle.qs_world.specs.Images.{stripe_at, all_tell}

@@ -24,7 +24,7 @@ use Rattle.qs_part.specs.declared.tracker.TrackerReply.{TrackerReply}
 use Rattle.qs_model.specs.Requests.{Client, Pads, Stage, Ready}
 use Rattle.qs_model.proofs.Basics.{same_or}
 use Rattle.qs_graph.specs.Table.{answers as graph_answers}
-use Rattle.qs_request.specs.declared.shape.Shape.{Shape}
+use Rattle.qs_request_state.specs.declared.shape.Shape.{Shape}
 use Rattle.qs_request.specs.declared.todo.PartReply.{PartReply}
 use Rattle.qs_request.specs.declared.todo.PartReply.TheVariants.{Tracker as ByTracker, Graph as ByGraph, Stripe as ByStripe}
 use Rattle.qs_request.specs.declared.todo.Todo.TheVariants.{Tracker as OnTracker, Route as OnRoute, Stripe as OnStripe, Answer}

@@ -18,7 +18,7 @@ use Rattle.qs_part.specs.declared.tracker.TrackerReply.TheVariants.{Entered, Qui
 use Rattle.qs_model.specs.Requests.{Client, Pads, Stage, ToRoute, ToList, ToStart, ToLoad, ToHold, ToStore, ToSync, ToFree, ToEnd, Ready, Entering, In, edge, span_of, serial}
 use Rattle.qs_bytes.specs.Geometry.{stripe_of}
 use Rattle.qs_graph.specs.Table.{GraphValue, May as MayGraph, answers as graph_answers}
-use Rattle.qs_request.specs.declared.shape.Shape.{Shape}
+use Rattle.qs_request_state.specs.declared.shape.Shape.{Shape}
 use Rattle.qs_request.specs.declared.todo.Todo.TheVariants.{Tracker as OnTracker, Route as OnRoute, Stripe as OnStripe, Answer}
 use Rattle.qs_request.specs.Table.{WantsAt, FitsStripe, MayTrack, MayRoute, MayStripe}
 use Rattle.qs_stripe.specs.Table.{StripeValue, Fits as FitsHere, answers as stripe_answers}

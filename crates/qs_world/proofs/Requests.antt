@@ -14,7 +14,7 @@ use Rattle.qs_model.specs.Requests.{Client, asked, brings_bytes, is_read, stores
 use Rattle.qs_model.specs.Worlds.{Live as LiveAt}
 use Rattle.qs_model.specs.Acts.{Asked}
 use Rattle.qs_model.specs.Events.{Brings, HasNone}
-use Rattle.qs_request.specs.declared.shape.Blocks.{Blocks}
+use Rattle.qs_request_state.specs.declared.shape.Blocks.{Blocks}
 use Rattle.qs_request.proofs.Made.{body_works, brings_takes, brought, given_length, unbrought}
 use Rattle.qs_request.specs.Value.{RequestValue, client_for, given_bytes, bytes_of, has_buffers}
 use Rattle.qs_world.specs.declared.live.Live.{Live}

@@ -23,7 +23,7 @@ use Rattle.qs_part.specs.declared.stripe.StripeReply.{StripeReply}
 use Rattle.qs_part.specs.declared.stripe.StripeReply.TheVariants.{Filled, Fault, HeldBy, Done}
 use Rattle.qs_model.specs.Requests.{Req}
 use Rattle.qs_model.proofs.Basics.{same_or}
-use Rattle.qs_request.specs.declared.shape.Shape.{Shape}
+use Rattle.qs_request_state.specs.declared.shape.Shape.{Shape}
 use Rattle.qs_request.specs.declared.todo.PartReply.TheVariants.{Stripe as ByStripe}
 use Rattle.qs_request.specs.RunSteps.{Both, DoesOne, RanOut}
 use Rattle.qs_request.specs.RunSteps.{IsTold as IsNoted}

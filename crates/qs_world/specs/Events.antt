@@ -20,7 +20,7 @@ use Rattle.qs_model.specs.Acts.{Act, StoreFails, Element, Did, block_of}
 use Rattle.qs_model.specs.Guards.{May}
 use Rattle.qs_model.specs.Steps.{happens}
 use Rattle.qs_model.specs.Events.{IsEvent, outcome_of}
-use Rattle.qs_request.specs.declared.shape.Shape.{Shape}
+use Rattle.qs_request_state.specs.declared.shape.Shape.{Shape}
 use Rattle.qs_image.specs.Image.{SameDisks}
 use Rattle.qs_stripe.specs.Table.{StripeValue}
 use Rattle.qs_world.specs.Images.{stripe_at}

@@ -3,8 +3,8 @@ use Rattle.std.specs.Prelude.{◌≡◌, ℕ, ◌<◌, false, length}
 use Rattle.std.specs.List.{AllByRecursion}
 use Rattle.qs_outside.specs.Blocks.{Seen}
 use Rattle.qs_model.specs.Worlds.{World}
-use Rattle.qs_request.specs.declared.shape.Shape.{Shape}
-use Rattle.qs_request.specs.Shapes.{IsShape}
+use Rattle.qs_request_state.specs.declared.shape.Shape.{Shape}
+use Rattle.qs_request_state.specs.Shapes.{IsShape}
 use Rattle.qs_stripe.specs.Table.{geometry}
 use Rattle.qs_world.specs.declared.live.Live.{Live}
 use Rattle.qs_world.specs.Keyed.{AreDistinct}

@@ -4,7 +4,7 @@ use Rattle.qs_outside.specs.Blocks.{Seen}
 use Rattle.qs_model.specs.Requests.{Req}
 use Rattle.qs_model.specs.Worlds.{Session, Away, Live as LiveAt, Leaving}
 use Rattle.qs_graph.specs.Table.{GraphValue}
-use Rattle.qs_request.specs.declared.shape.Shape.{Shape}
+use Rattle.qs_request_state.specs.declared.shape.Shape.{Shape}
 use Rattle.qs_stripe.specs.Table.{StripeState, StripeValue, value_of}
 use Rattle.qs_tracker.specs.Table.{TrackerValue}
 use Rattle.qs_world.specs.Keyed.{find_by}

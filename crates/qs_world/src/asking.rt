@@ -3,7 +3,7 @@ ghost use Rattle.std.specs.Option.{ForSome};
 ghost use Rattle.std.specs.Vec.{vec_len, vec_capacity};
 ghost use Rattle.qs_part.specs.declared.event.Event.TheVariants.{Ask as AskEvent};
 ghost use Rattle.qs_part.specs.declared.event.Outcome.TheVariants.{Made};
-ghost use Rattle.qs_request.specs.Shapes.{IsRoom};
+ghost use Rattle.qs_request_state.specs.Shapes.{IsRoom};
 ghost use Rattle.qs_world.specs.Bodies.{fitted};
 ghost use Rattle.qs_world.specs.Cores.{Handles, value_of};
 ghost use Rattle.qs_world.specs.Sound.{IsSound};
@@ -14,7 +14,8 @@ use crate::spare::Spare;
 use qs_bytes::{Ask, Bytes, Kind};
 use qs_outside::Disk;
 use qs_part::event::Outcome;
-use qs_request::{Blocks, Req};
+use qs_request::Req;
+use qs_request_state::Blocks;
 use std::alloc::Global;
 
 /// The body, if it is of the length that is asked for.

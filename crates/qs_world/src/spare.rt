@@ -1,9 +1,10 @@
 ghost use Rattle.std.specs.Prelude.{◌≡◌, IfOk};
 ghost use Rattle.std.specs.Option.{ForSome};
-ghost use Rattle.qs_request.specs.Shapes.{IsRoom};
+ghost use Rattle.qs_request_state.specs.Shapes.{IsRoom};
 
 use qs_bytes::{Bytes, Memory};
-use qs_request::{Blocks, Req};
+use qs_request::Req;
+use qs_request_state::Blocks;
 use std::alloc::Global;
 use std::mem;
 

@@ -19,7 +19,7 @@ use qs_graph::graph::Graph;
 use qs_image::open_fault;
 use qs_outside::{CrashChoice, Disk, Fail, RiggedDisk};
 use qs_part::event::{Event, Outcome};
-use qs_request::Shape;
+use qs_request_state::Shape;
 use qs_status::OpenBad;
 use qs_tracker::tracker::Tracker;
 use std::alloc::Global;

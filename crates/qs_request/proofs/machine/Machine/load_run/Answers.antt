@@ -1,4 +1,4 @@
-use Rattle.std.proofs.Common.{◌+◌, ◌-◌, ◌<◌, ap, arith, sym, ◌∙◌}
+use Rattle.std.proofs.Common.{◌+◌, ◌<◌, ap, arith, sym, ◌∙◌}
 use Rattle.qs_part.specs.declared.event.OpKind.TheVariants.{Load as LoadKind}
 use Rattle.qs_part.specs.declared.event.StripeNote.TheVariants as told
 use Rattle.qs_stripe.specs.declared.geometry.Geometry.{Geometry}

@@ -1,5 +1,5 @@
 use Rattle.std.proofs.Common.{None, false, refl, ap, ◌∙◌, sym, List, ℕ, length}
-use Rattle.qs_request.specs.Kept.{KeptPads}
+use Rattle.qs_request_state.specs.Kept.{KeptPads}
 use Rattle.qs_request.proofs.Made.{made_request, made_client, made_free, given_length, some_blocks}
 use Rattle.qs_request.proofs.machine.Machine.new.Goals as goal
 

@@ -1,8 +1,6 @@
-use Rattle.std.proofs.Common.{◌≡◌, ◌+◌, ◌*◌, ◌-◌, ◌<◌, List, ℕ, ap, arith, subst, sym, ◌∙◌}
+use Rattle.std.proofs.Common.{◌+◌, ◌*◌, ◌-◌, ◌<◌, List, ℕ, ap, arith, subst, sym, ◌∙◌}
 use Rattle.qs_part.specs.declared.event.OpKind.TheVariants.{Store as StoreKind}
 use Rattle.qs_part.specs.declared.event.StripeNote.TheVariants as told
-use Rattle.qs_part.specs.declared.runs.RunOp.TheVariants.{Store as StoreRun}
-use Rattle.qs_part.specs.declared.runs.RunReply.TheVariants.{Done as RunDone, Fault as RunFault, HeldBy as RunHeldBy}
 use Rattle.qs_stripe.specs.declared.geometry.Geometry.{Geometry}
 use Rattle.qs_request.specs.RunSteps.{AreZeros}
 use Rattle.qs_request.proofs.RunChains.{note_for}

@@ -2,7 +2,7 @@ use Rattle.std.proofs.Common.{◌≡◌, ℕ, ◌<◌, ◌∙◌, length, refl, 
 use Rattle.std.specs.List.{slice_set}
 use Rattle.qs_bytes.specs.Geometry.{stripe_of}
 use Rattle.qs_part.specs.declared.event.Outcome.TheVariants.{Moved}
-use Rattle.qs_request.specs.declared.shape.Shape.{Shape}
+use Rattle.qs_request_state.specs.declared.shape.Shape.{Shape}
 use Rattle.qs_request.specs.RunSteps.{RanOut, geometry_for}
 use Rattle.qs_request.specs.Value.{RequestValue}
 use Rattle.qs_stripe.specs.declared.geometry.Geometry.{Geometry}

@@ -1,7 +1,7 @@
 -- The image that requests go to, and the memory that one works in.
 use Rattle.std.specs.Prelude.{◌≡◌, ℕ, ◌%◌, ◌^◌, ◌≤◌, ◌⊎◌, length}
-use Rattle.qs_request.specs.declared.shape.Shape.{Shape}
-use Rattle.qs_request.specs.declared.shape.Blocks.{Blocks}
+use Rattle.qs_request_state.specs.declared.shape.Shape.{Shape}
+use Rattle.qs_request_state.specs.declared.shape.Blocks.{Blocks}
 
 -- blocks of 512 or 4096 bytes; the image is whole blocks, and of at most 2^40 bytes
 pub record IsShape (s : Shape) : Type 0 where

@@ -1,7 +1,7 @@
 ghost use Rattle.std.specs.Prelude.{◌≡◌};
-ghost use Rattle.qs_model.specs.Requests.{brings_bytes, is_flush, is_known, is_read, is_trim, stores_bytes, wants_writable};
+ghost use Rattle.qs_model.specs.Requests.{brings_bytes, form_error, is_flush, is_known, is_read, is_trim, stores_bytes, wants_writable};
 
-use qs_bytes::Kind;
+use qs_bytes::{Ask, Kind, MAX_PAYLOAD};
 
 /// Whether there is such a request.
 pub fn is_known(kind: Kind) -> bool
@@ -47,4 +47,12 @@ pub fn wants_writable(kind: Kind) -> bool
     ensures { result ≡ wants_writable kind }
 {
     matches!(kind, Kind::Write | Kind::Zero | Kind::Trim)
+}
+
+/// Whether a request is refused by its form alone.
+pub fn is_form_error(ask: Ask) -> bool
+    ensures { result ≡ form_error ask }
+{
+    let long = is_read(ask.kind) && ask.length > MAX_PAYLOAD;
+    !is_known(ask.kind) || !ask.flags_fit || long
 }

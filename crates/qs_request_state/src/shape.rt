@@ -1,5 +1,5 @@
 ghost use Rattle.std.specs.Prelude.{◌≡◌, ◌⊎◌, ◌↔◌, length, IfOk, IsTrue};
-ghost use Rattle.qs_request.specs.Shapes.{IsRoom};
+ghost use Rattle.qs_request_state.specs.Shapes.{IsRoom};
 
 use qs_bytes::{Bytes, Memory};
 use std::alloc::Global;

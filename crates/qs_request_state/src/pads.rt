@@ -1,6 +1,6 @@
 ghost use Rattle.std.specs.Prelude.{◌≡◌, length};
 ghost use Rattle.qs_model.specs.Requests.{keep, pad};
-ghost use Rattle.qs_request.specs.Kept.{no_pads};
+ghost use Rattle.qs_request_state.specs.Kept.{no_pads};
 
 use qs_bytes::Bytes;
 use qs_part::stripe::Side;
@@ -20,7 +20,7 @@ pub struct PadBuffer {
 
 impl Model for PadBuffer {
     ghost use Rattle.std.specs.Prelude.{◌≡◌, [], length, if◌then◌else◌};
-    ghost use Rattle.qs_request.specs.Kept.{KeptPads};
+    ghost use Rattle.qs_request_state.specs.Kept.{KeptPads};
 
     ghost Value = { KeptPads };
 
