@@ -1,9 +1,8 @@
 -- The next event of the input.
 use Rattle.std.specs.Prelude.{◌≡◌, ℕ, List, [], ◌++◌, Option, None, Some, IfNone, Result, Ok, Err}
-use Rattle.std.specs.Io.KnownBytes.{IsAtEnd}
 use Rattle.qs_nbd_handshake.specs.Phases.{Reader, Reaches}
 use Rattle.qs_nbd_handshake.specs.declared.event.HandEvent.{HandEvent}
-use Rattle.qs_stream.specs.Flows.{Flow, Moved, Tells}
+use Rattle.qs_stream.specs.Flows.{Flow, IsUsedUp, Moved, Tells}
 
 -- the handshake took a front of the bytes that wait, all of them where it found nothing
 pub record Feeds (old : Reader) (waiting : List ℕ) (found : Option HandEvent) (new : Reader) (waiting' : List ℕ) : Type 0 where
@@ -11,10 +10,6 @@ pub record Feeds (old : Reader) (waiting : List ℕ) (found : Option HandEvent) 
   pub joined : waiting ≡ taken ++ waiting'
   pub reaches : Reaches old taken found new
   pub whole : IfNone found (waiting' ≡ [])
-
--- the input has no byte more
-abbrev pub IsUsedUp : Flow → Type 0
-IsUsedUp flow = IsAtEnd flow.input.bytes × (flow.stream.waiting ≡ [])
 
 -- Bytes lead on; at their end the event, or the input's end. Where the stream failed, no event came.
 abbrev pub Finds : {E : Type 0} → Reader → List ℕ → Result (Option HandEvent) E → Reader → Flow → Type 0

@@ -12,11 +12,10 @@ use Rattle.qs_nbd_handshake.specs.declared.stage.Terms.{Terms}
 use Rattle.qs_nbd_handshake.specs.Phases.{Reader, InFlags, InOption, end_at}
 use Rattle.qs_nbd_handshake.specs.Sessions.{bytes_of}
 use Rattle.qs_stream.specs.declared.state.State.TheVariants.{Open}
-use Rattle.qs_stream.specs.Flows.{Flow, Moved}
+use Rattle.qs_stream.specs.Flows.{Flow, IsUsedUp, Moved}
 use Rattle.qs_world.specs.Values.{WorldValue}
 use Rattle.qs_opening.specs.declared.turn.Opened.{Opened}
 use Rattle.qs_opening.specs.declared.turn.Opened.TheVariants.{Ends}
-use Rattle.qs_opening.specs.Events.{IsUsedUp}
 use Rattle.qs_opening.specs.Options.{AllStay, answers_to, terms_after}
 use Rattle.qs_opening.specs.Turns.{Concludes, Fails, status_at}
 

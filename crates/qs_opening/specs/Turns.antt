@@ -17,7 +17,7 @@ use Rattle.qs_nbd_handshake.specs.Sessions.{IsOption, IsRefused}
 use Rattle.qs_nbd_handshake.specs.Wishes.{want_of}
 use Rattle.qs_stream.specs.Buffers.{Buffers}
 use Rattle.qs_stream.specs.declared.state.State.TheVariants.{Open}
-use Rattle.qs_stream.specs.Flows.{Flow, Moved, Puts, Side}
+use Rattle.qs_stream.specs.Flows.{Flow, IsUsedUp, Moved, Puts, Side}
 use Rattle.qs_world.specs.Values.{WorldValue}
 use Rattle.qs_opening.specs.declared.turn.Came.{Came}
 use Rattle.qs_opening.specs.declared.turn.Came.TheVariants as came
@@ -25,7 +25,6 @@ use Rattle.qs_opening.specs.declared.turn.Opened.{Opened}
 use Rattle.qs_opening.specs.declared.turn.Opened.TheVariants.{Transmit, Ends}
 use Rattle.qs_opening.specs.declared.turn.Turn.{Turn}
 use Rattle.qs_opening.specs.declared.turn.Turn.TheVariants as turn
-use Rattle.qs_opening.specs.Events.{IsUsedUp}
 use Rattle.qs_opening.specs.Options.{step_for, terms_behind, text_for}
 use Rattle.qs_opening.specs.Telling.{Changes, told_of}
 

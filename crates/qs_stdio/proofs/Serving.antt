@@ -13,7 +13,7 @@ use Rattle.qs_image.proofs.Striped.{same_disks_refl, same_disks_trans, still_tel
 use Rattle.qs_stream.specs.declared.state.State.{State}
 use Rattle.qs_stream.specs.declared.state.State.TheVariants as state
 use Rattle.qs_stream.specs.Buffers.{Buffers}
-use Rattle.qs_stream.specs.Flows.{Side, Flow, Moved, Puts, Tells}
+use Rattle.qs_stream.specs.Flows.{Flow, IsUsedUp, Moved, Puts, Side, Tells}
 use Rattle.qs_stream.proofs.Moves.{moved_on, moved_none}
 use Rattle.qs_stream.proofs.Calls.{write_failed}
 use Rattle.qs_world.specs.Values.{WorldValue, disks_of}
@@ -25,7 +25,6 @@ use Rattle.qs_single.specs.Resting.{IsResting}
 use Rattle.qs_single.specs.Remaining.{IsCleanSettled, Outlasts}
 use Rattle.qs_single.specs.Service.{Called, MayGet}
 use Rattle.qs_stdio.specs.Service.{Exchange, AllFit, CalledAll, Chained, Fits, LeadsAll, OutlastsAll, ask, asked, answered, reply, rounds}
-use Rattle.qs_stdio.specs.Events.{IsUsedUp}
 use Rattle.qs_stdio.specs.Scenes.{Scene, IsFront, Ending, Exchanges, Stops, disks_in}
 use Rattle.qs_stdio.specs.Runs.{Ends, Sitting, side_of, fault_at, status_by}
 use Rattle.qs_stdio.specs.Turns.{ServesMessage, between}

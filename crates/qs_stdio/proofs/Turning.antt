@@ -15,7 +15,7 @@ use Rattle.qs_nbd_transmission.specs.Replies.{reply_of}
 use Rattle.qs_nbd_transmission.proofs.Reading.{has_data-ask_of}
 use Rattle.qs_outside.specs.Blocks.{Seen}
 use Rattle.qs_stream.specs.Buffers.{Buffers}
-use Rattle.qs_stream.specs.Flows.{Side, Flow, Moved}
+use Rattle.qs_stream.specs.Flows.{Flow, IsUsedUp, Moved, Side}
 use Rattle.qs_stream.proofs.Moves.{moved_none, moved_on}
 use Rattle.qs_stdio.specs.declared.session.Came.{Came}
 use Rattle.qs_stdio.specs.declared.session.Came.TheVariants as came
@@ -25,7 +25,6 @@ use Rattle.qs_stdio.specs.Service.{Exchange}
 use Rattle.qs_stdio.specs.Calls.{Answers}
 use Rattle.qs_stdio.specs.Scenes.{Scene, IsCutWrite, IsWhole, Ending, Exchanges, Stops, disks_in}
 use Rattle.qs_stdio.specs.Turns.{Answered, AnswersBare, AwaitsRoom, Brings, Comes, Finishes, HasRoom, IsData, ServesMessage, awaited, between}
-use Rattle.qs_stdio.specs.Events.{IsUsedUp}
 use Rattle.qs_stream.specs.declared.state.State.TheVariants.{Open}
 use Rattle.qs_world.specs.Values.{WorldValue}
 use Rattle.qs_calls.specs.Calls.{Happened}

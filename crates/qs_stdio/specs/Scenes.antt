@@ -8,8 +8,7 @@ use Rattle.qs_nbd_wire.specs.Requests.{request_magic, head_of, IsHead, disc, is_
 use Rattle.qs_nbd_transmission.specs.Heads.{IsHeadFront}
 use Rattle.qs_outside.specs.Blocks.{Seen}
 use Rattle.qs_stream.specs.Buffers.{Buffers}
-use Rattle.qs_stream.specs.Flows.{Flow, Moved, flow as stream_flow}
-use Rattle.qs_stdio.specs.Events.{IsUsedUp}
+use Rattle.qs_stream.specs.Flows.{Flow, flow as stream_flow, IsUsedUp, Moved}
 use Rattle.qs_part.specs.declared.event.Event.TheVariants.{Ask as AskEvent}
 use Rattle.qs_part.specs.declared.event.Outcome.TheVariants.{Made}
 use Rattle.qs_calls.specs.Calls.{Happened}

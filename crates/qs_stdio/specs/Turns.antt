@@ -12,7 +12,7 @@ use Rattle.qs_nbd_transmission.specs.declared.event.Room.TheVariants.{Keep, Drop
 use Rattle.qs_nbd_transmission.specs.Phases.{Phase, Reader, InHead, Wants, Fills, Skips, IsServed}
 use Rattle.qs_nbd_transmission.specs.Replies.{reply_of}
 use Rattle.qs_stream.specs.declared.state.State.TheVariants.{Open}
-use Rattle.qs_stream.specs.Flows.{Flow, Moved, Tells}
+use Rattle.qs_stream.specs.Flows.{Flow, IsUsedUp, Moved, Tells}
 use Rattle.qs_stdio.specs.declared.session.Came.{Came}
 use Rattle.qs_stdio.specs.declared.session.Came.TheVariants as came
 use Rattle.qs_stdio.specs.declared.serve.Progress.{Progress}
@@ -23,7 +23,6 @@ use Rattle.qs_stream.specs.Buffers.{Buffers}
 use Rattle.qs_stream.specs.Flows.{Side}
 use Rattle.qs_world.specs.Values.{WorldValue}
 use Rattle.qs_stdio.specs.Calls.{Answers, Does}
-use Rattle.qs_stdio.specs.Events.{IsUsedUp}
 use Rattle.qs_stdio.specs.Scenes.{Scene, IsFront, Ending, Exchanges, Stops}
 
 -- the status of a session that ended so

@@ -52,6 +52,10 @@ pub record Moved (taken given : List ℕ) (old new : Flow) : Type 0 where
   pub waits : new.stream.state ≡ Open → rest ≡ new.stream.held
   pub runs : Proceeds old.stream.state new.stream.state old new
 
+-- the input has no byte more
+abbrev pub IsUsedUp : Flow → Type 0
+IsUsedUp flow = IsAtEnd flow.input.bytes × (flow.stream.waiting ≡ [])
+
 -- a call failed exactly where the stream failed, in that call or before
 abbrev pub Tells : {T E : Type 0} → Result T E → State → Type 0
 Tells (Ok x) state = state ≡ Open
