@@ -1,11 +1,6 @@
-pub mod Playing
-pub mod Happening
 pub mod Coming
 pub mod Replaying
 pub mod Turning
 pub mod Reaching
 pub mod Running
-pub mod Known
-pub mod Lives
 pub mod ZeroDisks
-pub mod Cutting

@@ -8,10 +8,10 @@ use Rattle.qs_status.specs.declared.status.Status.TheVariants as status
 use Rattle.qs_script.specs.Cuts.{longest}
 use Rattle.qs_script.specs.Finds.{HasNo}
 use Rattle.qs_world.specs.Values.{WorldValue}
-use Rattle.qs_replay.specs.declared.stop.Stop.TheVariants as stop
+use Rattle.qs_replay_lines.specs.declared.stop.Stop.TheVariants as stop
 use Rattle.qs_calls.specs.Calls.{Call}
 use Rattle.qs_replay.specs.Readings.{IsText, IsUsedUp}
-use Rattle.qs_replay.specs.Tables.{Names}
+use Rattle.qs_replay_lines.specs.Tables.{Names}
 use Rattle.qs_stream.specs.Bytes.{Takes}
 use Rattle.qs_replay.specs.Scripts.{AllDone, BreaksOff, Ends, IsBad, IsFront, IsLine, IsNextLine, IsScript, IsUntimely, ReachesLine, Replays}
 use Rattle.qs_replay.specs.Scripts.{Scene, lines_from, lines_of, spelled}

@@ -3,18 +3,18 @@ use Rattle.std.proofs.Common.{◌≡◌, ℕ, ◌+◌, ◌<◌, ◌≤◌, lengt
 use Rattle.std.specs.Prelude.{Option, Result, Ok, Err}
 use Rattle.qs_script.specs.Lines.{Reads}
 use Rattle.qs_script.specs.declared.line.Line.{Line}
-use Rattle.qs_replay.specs.declared.desk.Desk.{Desk}
-use Rattle.qs_replay.specs.declared.stop.Stop.{Stop}
-use Rattle.qs_replay.specs.Effects.{PlaysLine}
+use Rattle.qs_replay_lines.specs.declared.desk.Desk.{Desk}
+use Rattle.qs_replay_lines.specs.declared.stop.Stop.{Stop}
+use Rattle.qs_replay_lines.specs.Effects.{PlaysLine}
 use Rattle.qs_outside.specs.Blocks.{Seen}
 use Rattle.qs_status.specs.declared.status.Status.{Status}
 use Rattle.qs_status.specs.declared.status.Status.TheVariants as status
 use Rattle.qs_world.specs.Values.{WorldValue}
-use Rattle.qs_replay.specs.declared.stop.Stop.TheVariants as stop
+use Rattle.qs_replay_lines.specs.declared.stop.Stop.TheVariants as stop
 use Rattle.qs_replay.specs.declared.replay.Turn.{Turn}
 use Rattle.qs_replay.specs.declared.replay.Turn.TheVariants as turn
 use Rattle.qs_calls.specs.Calls.{Call, Plays}
-use Rattle.qs_replay.specs.Tables.{Names}
+use Rattle.qs_replay_lines.specs.Tables.{Names}
 use Rattle.qs_stream.specs.declared.state.State.{State}
 use Rattle.qs_stream.specs.declared.state.State.TheVariants as state
 use Rattle.qs_stream.specs.Buffers.{Buffers}

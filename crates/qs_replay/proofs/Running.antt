@@ -28,7 +28,7 @@ use Rattle.qs_calls.specs.Calls.{Call, Plays}
 use Rattle.qs_calls.specs.Runs.{Begins, ComesBack}
 use Rattle.qs_replay.specs.Runs.{IsReplayed, Opening, first_scene, most_lines, no_names}
 use Rattle.qs_replay.specs.Scripts.{AllDone, Replays, Scene, SoFar, side_of}
-use Rattle.qs_replay.specs.Tables.{Names}
+use Rattle.qs_replay_lines.specs.Tables.{Names}
 use Rattle.qs_calls.proofs.Plays.{plays_more}
 use Rattle.qs_calls.proofs.Runs.{has_run}
 use Rattle.qs_replay.proofs.Reaching.{reaches}

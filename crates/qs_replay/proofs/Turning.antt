@@ -10,14 +10,14 @@ use Rattle.qs_stream.specs.Buffers.{Buffers}
 use Rattle.qs_stream.specs.Flows.{Flow, Moved, Proceeds, Puts, Side}
 use Rattle.qs_stream.proofs.Moves.{moved_on, moved_none}
 use Rattle.qs_world.specs.Values.{WorldValue}
-use Rattle.qs_replay.specs.declared.desk.Desk.{Desk}
+use Rattle.qs_replay_lines.specs.declared.desk.Desk.{Desk}
 use Rattle.qs_replay.specs.declared.lines.Came.TheVariants as came
-use Rattle.qs_replay.specs.declared.stop.Stop.{Stop}
-use Rattle.qs_replay.specs.declared.stop.Stop.TheVariants as stop
+use Rattle.qs_replay_lines.specs.declared.stop.Stop.{Stop}
+use Rattle.qs_replay_lines.specs.declared.stop.Stop.TheVariants as stop
 use Rattle.qs_replay.specs.declared.replay.Turn.{Turn}
 use Rattle.qs_replay.specs.declared.replay.Turn.TheVariants as turn
 use Rattle.qs_replay.specs.Readings.{IsUsedUp, Seeks}
-use Rattle.qs_replay.specs.Tables.{Names}
+use Rattle.qs_replay_lines.specs.Tables.{Names}
 use Rattle.qs_replay.specs.Scripts.{DoesText, IsTaken, PlaysText, PutsText, Turns, fault_turn}
 
 -- a put is no fault of the input

@@ -1,5 +1,3 @@
-pub mod Tables
-pub mod Effects
 pub mod Readings
 pub mod Scripts
 pub mod Runs

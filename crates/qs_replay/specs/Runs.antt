@@ -14,7 +14,7 @@ use Rattle.qs_calls.specs.Runs.{Begins, HasRun}
 use Rattle.qs_replay.specs.Scripts.{ReachesLine, Replays, Scene, lines_of}
 use Rattle.std.specs.FinMap.{empty as no_requests}
 use Rattle.std.specs.FinSet.{empty as no_cookies}
-use Rattle.qs_replay.specs.Tables.{Names}
+use Rattle.qs_replay_lines.specs.Tables.{Names}
 use Rattle.qs_replay_words.specs.Words.{Tells}
 
 abbrev pub no_names : Names

@@ -12,15 +12,15 @@ use Rattle.qs_stream.specs.declared.state.State.TheVariants as state
 use Rattle.qs_stream.specs.Buffers.{Buffers}
 use Rattle.qs_stream.specs.Flows.{Flow, Moved, Puts, Side, flow as stream_flow}
 use Rattle.qs_world.specs.Values.{WorldValue}
-use Rattle.qs_replay.specs.declared.desk.Desk.{Desk}
-use Rattle.qs_replay.specs.declared.stop.Stop.{Stop}
-use Rattle.qs_replay.specs.declared.stop.Stop.TheVariants as stop
+use Rattle.qs_replay_lines.specs.declared.desk.Desk.{Desk}
+use Rattle.qs_replay_lines.specs.declared.stop.Stop.{Stop}
+use Rattle.qs_replay_lines.specs.declared.stop.Stop.TheVariants as stop
 use Rattle.qs_replay.specs.declared.replay.Turn.{Turn}
 use Rattle.qs_replay.specs.declared.replay.Turn.TheVariants as turn
 use Rattle.qs_calls.specs.Calls.{Call, Plays}
-use Rattle.qs_replay.specs.Effects.{CannotCome, DrivesNotLive, IsCut, IsPlayed, UsesAgain}
+use Rattle.qs_replay_lines.specs.Effects.{CannotCome, DrivesNotLive, IsCut, IsPlayed, UsesAgain}
 use Rattle.qs_replay.specs.Readings.{AllSent, IsText, IsUsedUp}
-use Rattle.qs_replay.specs.Tables.{Names}
+use Rattle.qs_replay_lines.specs.Tables.{Names}
 
 -- it is too long, or no line is spelled, or one that uses a cookie again
 abbrev pub IsBad : Names → List ℕ → Type 0

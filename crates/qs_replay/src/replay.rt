@@ -4,11 +4,10 @@ ghost use Rattle.qs_stream.specs.declared.state.State.TheVariants.{Open};
 ghost use Rattle.qs_stream.specs.Flows.{Puts, side};
 ghost use Rattle.qs_replay.specs.Scripts.{Finishes, PlaysText, PutsText, Replays, Turns, fault_turn, is_silent as the_silent, scene, status_of};
 
-use crate::desk::Desk;
 use crate::lines::{Came, next_line};
-use crate::stop::Stop;
 use qs_bytes::Bytes;
 use qs_outside::{RiggedDisk, Sink, Source};
+use qs_replay_lines::{Desk, Stop};
 use qs_script::{LineCutter, LineFault, read_line};
 use qs_status::Status;
 use qs_stream::{State, Stream};

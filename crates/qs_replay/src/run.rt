@@ -2,12 +2,11 @@ ghost use Rattle.qs_stream.specs.Flows.{Rises};
 ghost use Rattle.qs_replay.specs.Runs.{Opening, Ran};
 ghost use Rattle.qs_replay.specs.Scripts.{side_of};
 
-use crate::desk::Desk;
 use crate::replay::replay;
-use crate::table::Table;
 use qs_bytes::Bytes;
 use qs_calls::open_core;
 use qs_outside::{RiggedDisk, Sink, Source};
+use qs_replay_lines::{Desk, Table};
 use qs_replay_words::replay_words;
 use qs_script::LineCutter;
 use qs_status::Status;

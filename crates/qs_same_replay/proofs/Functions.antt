@@ -17,7 +17,7 @@ use Rattle.qs_calls.specs.Runs.{export, exported, opened}
 use Rattle.qs_replay.specs.Runs.{IsReplayed, most_lines, no_names, first_scene}
 use Rattle.qs_same_replay.specs.Same.{AreCalm, AreComparable, AreSame, IsSmooth}
 use Rattle.qs_replay.specs.Scripts.{AllDone, Ends, ReachesLine, Replays, lines_of}
-use Rattle.qs_replay.specs.Tables.{Names}
+use Rattle.qs_replay_lines.specs.Tables.{Names}
 use Rattle.qs_replay.proofs.Reaching.{splits_of}
 use Rattle.qs_calls.proofs.Runs.{Starts, starts}
 use Rattle.qs_same_replay.proofs.Calm.{undisturbed}

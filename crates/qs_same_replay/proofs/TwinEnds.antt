@@ -27,12 +27,12 @@ use Rattle.qs_world.specs.Events.{IsNotNext}
 use Rattle.qs_world.specs.Stands.{Stands}
 use Rattle.qs_world.specs.Values.{WorldValue, request_at, session_at}
 use Rattle.qs_calls.specs.Calls.{Call, Happened}
-use Rattle.qs_replay.specs.Effects.{Acts, CallsOf, Does, DrivesNotLive, IsActor, IsEventOf, IsNotLive, Adds, AskedBy, UsesAgain, bytes_or, flush_ask, read_ask, trim_ask, write_ask, zero_ask}
+use Rattle.qs_replay_lines.specs.Effects.{Acts, CallsOf, Does, DrivesNotLive, IsActor, IsEventOf, IsNotLive, Adds, AskedBy, UsesAgain, bytes_or, flush_ask, read_ask, trim_ask, write_ask, zero_ask}
 use Rattle.qs_calls.specs.Goings.{GoesOn}
 use Rattle.qs_replay.specs.Readings.{IsText}
 use Rattle.qs_replay.specs.Scripts.{DoesText, IsBad, IsUntimely}
-use Rattle.qs_replay.specs.Tables.{IsUsed, Names}
-use Rattle.qs_replay.proofs.Playing.{asks_once}
+use Rattle.qs_replay_lines.specs.Tables.{IsUsed, Names}
+use Rattle.qs_replay_lines.proofs.Playing.{asks_once}
 use Rattle.qs_same_replay.proofs.TwinEvents.{actor_one, gives_one}
 use Rattle.qs_same_replay.proofs.Twins.{CalmStep, Calmly}
 

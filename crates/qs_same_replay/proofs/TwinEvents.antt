@@ -18,9 +18,9 @@ use Rattle.qs_model.specs.Events.{IsEvent}
 use Rattle.qs_model.specs.Requests.{form_error, wants_body}
 use Rattle.qs_model.proofs.Basics.{either}
 use Rattle.qs_same_replay.specs.Same.{IsGiven}
-use Rattle.qs_replay.specs.Effects.{Adds, IsActor, IsKey, IsRoom, Notes, Settles, bytes_or, read_ask, write_ask}
-use Rattle.qs_replay.specs.Tables.{Gives, Names, settled}
-use Rattle.qs_replay.proofs.Playing.{gives_number, known_one}
+use Rattle.qs_replay_lines.specs.Effects.{Adds, IsActor, IsKey, IsRoom, Notes, Settles, bytes_or, read_ask, write_ask}
+use Rattle.qs_replay_lines.specs.Tables.{Gives, Names, settled}
+use Rattle.qs_replay_lines.proofs.Playing.{gives_number, known_one}
 
 -- a name has one number
 pub gives_one : (t a b : Names) (s : List ℕ) (n m : ℕ) → Gives t s n a → Gives t s m b → (m ≡ n) × (b ≡ a)

@@ -10,11 +10,11 @@ use Rattle.qs_model.specs.Worlds.{World}
 use Rattle.qs_world.specs.Stands.{Stands}
 use Rattle.qs_world.specs.Values.{WorldValue}
 use Rattle.qs_calls.specs.Calls.{Call}
-use Rattle.qs_replay.specs.Effects.{UsesAgain}
+use Rattle.qs_replay_lines.specs.Effects.{UsesAgain}
 use Rattle.qs_replay.specs.Readings.{IsText}
 use Rattle.qs_same_replay.specs.Same.{IsSmooth}
 use Rattle.qs_replay.specs.Scripts.{DoesText, Ends, IsBad, IsNextLine, IsUntimely, ReachesLine, spelled}
-use Rattle.qs_replay.specs.Tables.{Names}
+use Rattle.qs_replay_lines.specs.Tables.{Names}
 use Rattle.qs_replay.proofs.Reaching.{Splits, whole_of}
 use Rattle.qs_replay.proofs.Replaying.{spelled_more}
 use Rattle.qs_same_replay.proofs.TwinEnds.{bad_never, untimely_never}

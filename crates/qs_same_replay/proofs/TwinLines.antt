@@ -23,10 +23,10 @@ use Rattle.qs_determined.specs.Determined.{Alike, Cuts, Makes}
 use Rattle.qs_calls.specs.Calls.{Call, Happened, Rigged, PowerFailed, ExportMade, anew}
 use Rattle.qs_same_replay.proofs.Calm.{IsAnew}
 use Rattle.qs_same_replay.proofs.LeftAlike.{AreLeftAlike, left_front, left_rest}
-use Rattle.qs_replay.specs.Effects.{Acts, AskedBy, Does, IsRoom, Notes, bytes_or, flush_ask, read_ask, text_of, trim_ask, write_ask, zero_ask}
+use Rattle.qs_replay_lines.specs.Effects.{Acts, AskedBy, Does, IsRoom, Notes, bytes_or, flush_ask, read_ask, text_of, trim_ask, write_ask, zero_ask}
 use Rattle.qs_calls.specs.Goings.{GoesOn, RunsOut, goes_on}
 use Rattle.qs_replay.specs.Scripts.{AllDone, DoesText}
-use Rattle.qs_replay.specs.Tables.{Names}
+use Rattle.qs_replay_lines.specs.Tables.{Names}
 use Rattle.qs_same_replay.proofs.TwinEvents.{actor_one, gives_one, notes_one, read_body, read_wants, room_of, write_body}
 use Rattle.qs_same_replay.proofs.Twins.{CalmStep, Calmly, IsTame, Twins, calm_parts, input_of, twin_call}
 

@@ -1,6 +1,6 @@
 -- The line was done and its text put, or it wasn't done to its end.
 use Rattle.std.proofs.Common.{ap, ◌∙◌}
-use Rattle.qs_replay.specs.declared.desk.Desk.{Desk}
+use Rattle.qs_replay_lines.specs.declared.desk.Desk.{Desk}
 use Rattle.qs_replay.proofs.Turning.{leaves_text, puts_text}
 use Rattle.qs_replay.proofs.replay.do_line.Goals as goal
 

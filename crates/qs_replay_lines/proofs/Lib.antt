@@ -1,0 +1,5 @@
+pub mod Playing
+pub mod Happening
+pub mod Known
+pub mod Lives
+pub mod Cutting
