@@ -230,9 +230,9 @@ module _ {D : Type 0} (seen : D → Seen) (disks : List D) (read_only : Bool) (i
       go : (opened : Result Opened Failed) → Opens {E = Failed} seen 0 (not read_only) (2 ^ 32) (first input output start).flow start opened d.flow new →
           Concludes opened result d.stream → IsServed result
       go (Ok (Transmit mode)) opens concludes = absurd concludes
-      go (Ok (Ended end)) opens (inl is) =
-          inr (is.2 ∙ ends_memory seen disks read_only 0 (not read_only) (first input output start).flow start d.flow new begins stream (at_first start) valid end opens)
-      go (Ok (Ended end)) opens (inr is) = absurd (never_failed result d.stream.state read write is.1)
+      go (Ok (Ended how)) opens (inl is) =
+          inr (is.2 ∙ ends_memory seen disks read_only 0 (not read_only) (first input output start).flow start d.flow new begins stream (at_first start) valid how opens)
+      go (Ok (Ended how)) opens (inr is) = absurd (never_failed result d.stream.state read write is.1)
       go (Err e) opens concludes = absurd (never_failed result d.stream.state read write concludes.1)
 
   -- one client

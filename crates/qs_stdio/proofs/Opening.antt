@@ -71,31 +71,37 @@ module _ {D : Type 0} (seen : D → Seen) (disks : List D) (read_only : Bool) (s
       let same : taken ≡ valid.flags = same_front taken valid.flags s.remaining _ (bad.1 ∙ sym valid.four) (sym s.whole ∙ valid.whole) in
       none-some valid.known (sym bad.2 ∙ ap (λ (xs : List ℕ). flags_of (number32 xs 0)) same ∙ valid.read)
 
+  module _ (options : List (List ℕ)) (terms : Terms) (rest given : List ℕ) (rests : Rests options terms rest) where
+    -- behind its options the session ends for want of memory alone
+    concludes_memory : (told : Status) → Concludes seen session writable terms old (Ended told) rest given after new → told ≡ status.Memory
+    concludes_memory told (inl follows) = absurd (never_transmits told follows.mode follows.opened_is)
+    concludes_memory told (inr (inl closes)) =
+        absurd (never_closes old.graph (transmits seen disks read_only old begins) (stays seen disks read_only old begins) terms closes.how (length options) (length valid.options) valid.requests
+        rest rests.remaining rests.next closes.option closes.step)
+    concludes_memory told (inr (inr (inl starves))) = told_one told status.Memory starves.opened_is
+    concludes_memory told (inr (inr (inr stops))) = absurd (elim stops.cause [
+      | inl cut ↦ next_long terms.fixed (length options) (length valid.options) valid.requests rest rests.remaining rests.next cut.short (used_up rests.remaining after rests.left cut.used_up)
+      | inr bad ↦ next_served terms.fixed (length options) (length valid.options) valid.requests rest rests.remaining bad.bad rests.next bad.refused
+    ])
+
+    -- or its requests are to come
+    concludes_requests : (mode : Mode) → Concludes seen session writable terms old (Transmit mode) rest given after new → Awaits valid.requests after
+    concludes_requests mode (inl follows) =
+        subst (λ (xs : List ℕ). Awaits xs after)
+        (requests_follow old.graph (transmits seen disks read_only old begins) (stays seen disks read_only old begins) terms follows.mode (length options) (length valid.options) valid.requests
+        rest rests.remaining rests.next follows.option follows.step) rests.left
+    concludes_requests mode (inr (inl closes)) = absurd (never_transmits (status_at closes.how) mode (sym closes.opened_is))
+    concludes_requests mode (inr (inr (inl starves))) = absurd (never_transmits status.Memory mode (sym starves.opened_is))
+    concludes_requests mode (inr (inr (inr stops))) = absurd (never_transmits stops.status mode (sym stops.opened_is))
+
   -- the handshake ends the session for want of memory alone
   pub ends_memory : {E : Type 0} (told : Status) → Opens {E = E} seen session writable (2 ^ 32) before old (Ok (Ended told)) after new → told ≡ status.Memory
-  ends_memory {E} told (inl agrees) = elim agrees.finishes [
-    | inl concludes ↦ go concludes
-    | inr spends ↦ absurd (unspent agrees.options terms agrees.rest rests spends.all)
-  ]
-    where
-      terms : Terms
-      terms = terms_after (terms_of agrees.known) agrees.options
-
-      rests : Rests agrees.options terms agrees.rest
-      unfolding terms
-      rests = rests_of {E = E} (Ok (Ended told)) agrees
-
-      go : Concludes seen session writable terms old (Ended told) agrees.rest agrees.given after new → told ≡ status.Memory
-      go (inl follows) = absurd (never_transmits told follows.mode follows.opened_is)
-      go (inr (inl closes)) =
-          absurd (never_closes old.graph (transmits seen disks read_only old begins) (stays seen disks read_only old begins) terms closes.how (length agrees.options) (length valid.options) valid.requests
-          agrees.rest rests.remaining rests.next closes.option closes.step)
-      go (inr (inr (inl starves))) = told_one told status.Memory starves.opened_is
-      go (inr (inr (inr stops))) = absurd (elim stops.cause [
-        | inl cut ↦ next_long terms.fixed (length agrees.options) (length valid.options) valid.requests agrees.rest rests.remaining rests.next cut.short
-            (used_up rests.remaining after rests.left cut.used_up)
-        | inr bad ↦ next_served terms.fixed (length agrees.options) (length valid.options) valid.requests agrees.rest rests.remaining bad.bad rests.next bad.refused
-      ])
+  ends_memory {E} told (inl agrees) =
+      let rests = rests_of {E = E} (Ok (Ended told)) agrees in
+      elim agrees.finishes [
+        | inl concludes ↦ concludes_memory agrees.options (terms_after (terms_of agrees.known) agrees.options) agrees.rest agrees.given rests told concludes
+        | inr spends ↦ absurd (unspent agrees.options (terms_after (terms_of agrees.known) agrees.options) agrees.rest rests spends.all)
+      ]
   ends_memory told (inr (inl greets)) =
       let (given, (opened_is, lacks)) = greets.fruitless in
       absurd (flags_come greets.taken given (split stream greets.taken _ before after awaits greets.moved) lacks)
@@ -107,25 +113,9 @@ module _ {D : Type 0} (seen : D → Seen) (disks : List D) (read_only : Bool) (s
   -- where requests follow, those of the session are to come
   pub requests_come : {E : Type 0} (mode : Mode) → Opens {E = E} seen session writable (2 ^ 32) before old (Ok (Transmit mode)) after new → Awaits valid.requests after
   requests_come {E} mode (inl agrees) = elim agrees.finishes [
-    | inl concludes ↦ go concludes
+    | inl concludes ↦ concludes_requests agrees.options (terms_after (terms_of agrees.known) agrees.options) agrees.rest agrees.given (rests_of {E = E} (Ok (Transmit mode)) agrees) mode concludes
     | inr spends ↦ absurd (never_transmits status.Spent mode (sym spends.opened_is))
   ]
-    where
-      terms : Terms
-      terms = terms_after (terms_of agrees.known) agrees.options
-
-      rests : Rests agrees.options terms agrees.rest
-      unfolding terms
-      rests = rests_of {E = E} (Ok (Transmit mode)) agrees
-
-      go : Concludes seen session writable terms old (Transmit mode) agrees.rest agrees.given after new → Awaits valid.requests after
-      go (inl follows) =
-          subst (λ (xs : List ℕ). Awaits xs after)
-          (requests_follow old.graph (transmits seen disks read_only old begins) (stays seen disks read_only old begins) terms follows.mode (length agrees.options) (length valid.options) valid.requests
-          agrees.rest rests.remaining rests.next follows.option follows.step) rests.left
-      go (inr (inl closes)) = absurd (never_transmits (status_at closes.how) mode (sym closes.opened_is))
-      go (inr (inr (inl starves))) = absurd (never_transmits status.Memory mode (sym starves.opened_is))
-      go (inr (inr (inr stops))) = absurd (never_transmits stops.status mode (sym stops.opened_is))
   requests_come mode (inr (inl greets)) = let (given, (opened_is, lacks)) = greets.fruitless in absurd (never_transmits given mode (sym opened_is))
   requests_come {E} mode (inr (inr forgoes)) = absurd (never forgoes.result_is)
     where
