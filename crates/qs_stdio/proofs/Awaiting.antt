@@ -2,7 +2,6 @@
 use Rattle.std.proofs.Common.{◌≡◌, ℕ, List, [], ◌++◌, refl, sym, ap, ◌∙◌, subst, append_assoc}
 use Rattle.std.specs.Prelude.{Option, None, Some}
 use Rattle.std.specs.Io.KnownBytes.{Consumes, IsAtEnd}
-use Rattle.qs_stream.specs.Bytes.{Takes}
 use Rattle.qs_stream.specs.Flows.{Flow, Moved}
 use Rattle.qs_stdio.specs.Events.{IsUsedUp}
 

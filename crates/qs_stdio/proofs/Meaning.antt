@@ -1,5 +1,5 @@
 -- What names and options mean over a core that was just opened.
-use Rattle.std.proofs.Common.{◌≡◌, ℕ, Bool, true, false, not, ◌&&◌, if◌then◌else◌, List, [], ◌∷◌, map, codes, refl, sym, ap, ◌∙◌, true≢false}
+use Rattle.std.proofs.Common.{◌≡◌, ℕ, Bool, true, false, not, if◌then◌else◌, List, [], ◌∷◌, map, codes, refl, ap, ◌∙◌}
 use Rattle.std.specs.Prelude.{Option, None, Some, option_map, position}
 use Rattle.std.specs.Str.{bytes_eq}
 use Rattle.qs_bytes.specs.declared.ask.Mode.{Mode}
@@ -8,8 +8,6 @@ use Rattle.qs_image.specs.Image.{size_of}
 use Rattle.qs_graph.specs.declared.export.Export.{Export}
 use Rattle.qs_graph.specs.Exports.{found_at}
 use Rattle.qs_graph.specs.Table.{GraphValue, info_at}
-use Rattle.qs_nbd_wire.specs.declared.export.ExportInfo2.{ExportInfo2}
-use Rattle.qs_nbd_handshake.specs.declared.event.HandStep.{HandStep}
 use Rattle.qs_nbd_handshake.specs.declared.event.HandStep.TheVariants.{Stay, Transmit}
 use Rattle.qs_nbd_handshake.specs.declared.event.Told.{Told}
 use Rattle.qs_nbd_handshake.specs.declared.event.Told.TheVariants as told
@@ -21,7 +19,7 @@ use Rattle.qs_world.specs.Values.{WorldValue}
 use Rattle.qs_calls.specs.Runs.{Begins}
 use Rattle.qs_single.proofs.Attaching.{graph_is, with_export}
 use Rattle.qs_opening.specs.Telling.{told_info, told_name, told_of}
-use Rattle.qs_stdio.specs.Sessions.{attaches, leaves, means_disk}
+use Rattle.qs_stdio.specs.Sessions.{attaches, goes_on, means_disk}
 
 -- the export has this name, and no free place has
 abbrev has_it : Bool → Option Export → Bool
@@ -61,17 +59,13 @@ module _ {D : Type 0} (seen : D → Seen) (disks : List D) (read_only : Bool) (w
   transmits mode (wish.Go inquiry) is = ap (go_step mode) (name_told inquiry.name ∙ ap (λ (b : Bool). if b then told_disk else told.Missing) is)
   transmits mode other is = absurd (cc)
 
-  not_true : (b : Bool) → (not b && true) ≡ true → b ≡ false
+  not_true : (b : Bool) → not b ≡ true → b ≡ false
   not_true true is = absurd (cc)
   not_true false is = refl
 
-  never_both : (b : Bool) → (not b && not (not b)) ≡ true → ⊥
-  never_both true is = cc
-  never_both false is = cc
-
-  -- options go on behind one that neither attaches nor ends the session
-  pub stays : (mode : Mode) (w' : Wish) → (not (attaches w') && not (leaves w')) ≡ true → step_of mode w' (told_of w.graph (want_of w')) ≡ Stay
-  stays mode (wish.Export name) is = absurd (never_both (means_disk name) is)
+  -- options go on behind others
+  pub stays : (mode : Mode) (w' : Wish) → goes_on w' ≡ true → step_of mode w' (told_of w.graph (want_of w')) ≡ Stay
+  stays mode (wish.Export name) is = absurd (cc)
   stays mode wish.Abort is = absurd (cc)
   stays mode (wish.Go inquiry) is = ap (go_step mode) (name_told inquiry.name ∙ ap (λ (b : Bool). if b then told_disk else told.Missing) (not_true (means_disk inquiry.name) is))
   stays mode other is = refl

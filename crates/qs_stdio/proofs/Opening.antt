@@ -1,7 +1,7 @@
 -- A valid session is opened, unless memory is refused: requests follow its handshake.
-use Rattle.std.proofs.Common.{◌≡◌, ℕ, ◌<◌, ◌≤◌, ◌^◌, ◌⊎◌, inl, inr, Bool, not, List, [], ◌++◌, length, refl, sym, ap, ◌∙◌, subst, append_assoc, arith}
+use Rattle.std.proofs.Common.{◌≡◌, ℕ, ◌^◌, inl, inr, Bool, List, ◌++◌, length, sym, ap, ◌∙◌, subst, append_assoc, arith}
 use Rattle.std.proofs.lemmas.Option.{none-some}
-use Rattle.std.specs.Prelude.{Option, None, Some, Result, Ok, Err}
+use Rattle.std.specs.Prelude.{Result, Ok}
 use Rattle.std.specs.List.{flat_map}
 use Rattle.std.proofs.lemmas.List.{length-append}
 use Rattle.qs_bytes.specs.Numbers.{number32}
@@ -18,7 +18,7 @@ use Rattle.qs_world.specs.Values.{WorldValue}
 use Rattle.qs_calls.specs.Runs.{Begins}
 use Rattle.qs_opening.specs.declared.turn.Opened.{Opened}
 use Rattle.qs_opening.specs.declared.turn.Opened.TheVariants.{Transmit, Ends as Ended}
-use Rattle.qs_opening.specs.Openings.{Agrees, Greets, LacksFlags, Opens, terms_of}
+use Rattle.qs_opening.specs.Openings.{Agrees, LacksFlags, Opens, terms_of}
 use Rattle.qs_opening.specs.Options.{terms_after}
 use Rattle.qs_opening.specs.Turns.{Concludes, status_at}
 use Rattle.qs_stdio.specs.Sessions.{IsValidSession}

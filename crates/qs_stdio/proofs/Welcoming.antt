@@ -1,6 +1,6 @@
 -- The handshake of a valid session is read to its end, and requests follow.
-use Rattle.std.proofs.Common.{◌≡◌, ℕ, ◌<◌, ◌≤◌, ◌⊎◌, inl, inr, Bool, true, not, ◌&&◌, List, [], ◌∷◌, ◌++◌, length, refl, sym, ap, ◌∙◌, subst, append-nil, append_assoc, arith}
-use Rattle.std.specs.Prelude.{All, Option, None, Some}
+use Rattle.std.proofs.Common.{◌≡◌, ℕ, ◌<◌, ◌≤◌, ◌⊎◌, inl, inr, Bool, true, List, [], ◌∷◌, ◌++◌, length, refl, sym, ap, ◌∙◌, subst, append-nil, append_assoc, arith}
+use Rattle.std.specs.Prelude.{All, None, Some}
 use Rattle.std.specs.List.{flat_map}
 use Rattle.std.proofs.lemmas.List.{length-append, append_cancel_left}
 use Rattle.std.proofs.lemmas.List.Elements.{All-head, All-tail}
@@ -11,9 +11,7 @@ use Rattle.qs_nbd_wire.specs.declared.opening.ClientFlags.{ClientFlags}
 use Rattle.qs_nbd_wire.specs.declared.option.OptionHead.{OptionHead}
 use Rattle.qs_nbd_wire.specs.Greetings.{flags_of}
 use Rattle.qs_nbd_wire.specs.Options.{option_head_of}
-use Rattle.qs_nbd_wire.proofs.Widths.{number32-append}
 use Rattle.qs_graph.specs.Table.{GraphValue}
-use Rattle.qs_nbd_handshake.specs.declared.event.HandStep.{HandStep}
 use Rattle.qs_nbd_handshake.specs.declared.event.HandStep.TheVariants.{Stay, Transmit as TransmitStep, Close}
 use Rattle.qs_nbd_handshake.specs.declared.stage.Terms.{Terms}
 use Rattle.qs_nbd_handshake.specs.declared.wish.Wish.{Wish}
@@ -26,7 +24,7 @@ use Rattle.qs_nbd_handshake.proofs.Sizes.{head-append, size-append, size-least}
 use Rattle.qs_opening.specs.Openings.{terms_of}
 use Rattle.qs_opening.specs.Options.{AllStay, step_for, terms_after, terms_behind}
 use Rattle.qs_opening.specs.Telling.{told_of}
-use Rattle.qs_stdio.specs.Sessions.{IsAnswered, IsValidSession, attaches, leaves}
+use Rattle.qs_stdio.specs.Sessions.{IsAnswered, IsValidSession, attaches, goes_on}
 
 -- fixed newstyle is agreed on by the flags alone
 fixed_after : (terms : Terms) (options : List (List ℕ)) → (terms_after terms options).fixed ≡ terms.fixed
@@ -43,7 +41,7 @@ pub record Next (fixed : Bool) (count most : ℕ) (requests bytes : List ℕ) : 
   pub is : IsOption fixed option
   pub whole : bytes ≡ option ++ more
   pub few : count ≤ most
-  pub which : ((not (attaches (wish_in option)) && not (leaves (wish_in option))) ≡ true) ⊎ ((attaches (wish_in option) ≡ true) × (more ≡ requests))
+  pub which : (goes_on (wish_in option) ≡ true) ⊎ ((attaches (wish_in option) ≡ true) × (more ≡ requests))
 
 -- the input doesn't end within it
 pub next_long : (fixed : Bool) (count most : ℕ) (requests rest remaining : List ℕ) → Next fixed count most requests (rest ++ remaining) → length rest < option_size fixed rest → remaining ≡ [] → ⊥
@@ -78,7 +76,7 @@ next_same fixed count most requests rest remaining next is =
     (same, append_cancel_left rest remaining next.more (next.whole ∙ ap (λ (xs : List ℕ). xs ++ next.more) (sym same)))
 
 module _ (graph : GraphValue) (transmits : (mode : Mode) (w : Wish) → attaches w ≡ true → step_of mode w (told_of graph (want_of w)) ≡ TransmitStep mode)
-    (stays : (mode : Mode) (w : Wish) → (not (attaches w) && not (leaves w)) ≡ true → step_of mode w (told_of graph (want_of w)) ≡ Stay) where
+    (stays : (mode : Mode) (w : Wish) → goes_on w ≡ true → step_of mode w (told_of graph (want_of w)) ≡ Stay) where
   -- an option that attaches doesn't stay
   never_stays : (terms : Terms) (option : List ℕ) → attaches (wish_in option) ≡ true → step_for graph terms option ≡ Stay → ⊥
   never_stays terms option attached stay = never (sym stay ∙ transmits terms.mode (wish_in option) attached)
@@ -99,7 +97,7 @@ module _ (graph : GraphValue) (transmits : (mode : Mode) (w : Wish) → attaches
         is = one.whole;
         whole = e ∙ append_assoc o (flat_map bytes_of os) (final ++ requests);
         few = omega arith;
-        which = inl one.goes_on;
+        which = inl one.on;
       }
   next_behind terms (r ∷ rs) [] final requests bytes stay each is attached e =
       let same : r ≡ final = same_option terms.fixed r final (flat_map bytes_of rs ++ bytes) requests stay.0.whole is.whole (sym (append_assoc r (flat_map bytes_of rs) bytes) ∙ e) in
@@ -137,7 +135,7 @@ module _ (graph : GraphValue) (transmits : (mode : Mode) (w : Wish) → attaches
   requests_follow terms mode count most requests rest remaining next is step =
       let same = next_same terms.fixed count most requests rest remaining next is in
       elim next.which [
-        | inl goes ↦ absurd (never (sym (stays terms.mode (wish_in rest) (subst (λ (o : List ℕ). (not (attaches (wish_in o)) && not (leaves (wish_in o))) ≡ true) (sym same.0) goes)) ∙ step))
+        | inl goes ↦ absurd (never (sym (stays terms.mode (wish_in rest) (subst (λ (o : List ℕ). goes_on (wish_in o) ≡ true) (sym same.0) goes)) ∙ step))
         | inr ends ↦ same.1 ∙ ends.1
       ]
     where
@@ -150,7 +148,7 @@ module _ (graph : GraphValue) (transmits : (mode : Mode) (w : Wish) → attaches
   never_closes terms how count most requests rest remaining next is step =
       let same = next_same terms.fixed count most requests rest remaining next is in
       elim next.which [
-        | inl goes ↦ staying (sym (stays terms.mode (wish_in rest) (subst (λ (o : List ℕ). (not (attaches (wish_in o)) && not (leaves (wish_in o))) ≡ true) (sym same.0) goes)) ∙ step)
+        | inl goes ↦ staying (sym (stays terms.mode (wish_in rest) (subst (λ (o : List ℕ). goes_on (wish_in o) ≡ true) (sym same.0) goes)) ∙ step)
         | inr ends ↦ attaching (sym (transmits terms.mode (wish_in rest) (subst (λ (o : List ℕ). attaches (wish_in o) ≡ true) (sym same.0) ends.0)) ∙ step)
       ]
     where

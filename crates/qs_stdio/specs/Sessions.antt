@@ -1,5 +1,5 @@
 -- Which input is served to its end, behind a handshake or without one.
-use Rattle.std.specs.Prelude.{◌≡◌, ℕ, ◌<◌, ◌^◌, Bool, true, false, not, ◌&&◌, List, [], ◌∷◌, ◌++◌, length, codes, All, Option, Some, None}
+use Rattle.std.specs.Prelude.{◌≡◌, ℕ, ◌<◌, ◌^◌, Bool, true, false, not, List, [], ◌∷◌, ◌++◌, length, codes, All, Option, Some, None}
 use Rattle.std.specs.List.{flat_map}
 use Rattle.std.specs.Str.{bytes_eq}
 use Rattle.qs_bytes.specs.Numbers.{number32}
@@ -11,7 +11,7 @@ use Rattle.qs_nbd_handshake.specs.Phases.{wish_in}
 use Rattle.qs_nbd_handshake.specs.Sessions.{IsOption, bytes_of}
 use Rattle.qs_stdio.specs.Streams.{IsValidStream}
 
--- the name means the export `disk`: it is `disk`, or empty, which means the only export
+-- the name means the export `disk`: it is `disk`, or it is empty, which means the first export and so the only one
 abbrev pub means_disk : Option (List ℕ) → Bool
 means_disk None = false
 means_disk (Some []) = true
@@ -23,19 +23,20 @@ attaches (wish.Export name) = means_disk name
 attaches (wish.Go inquiry) = means_disk inquiry.name
 attaches other = false
 
--- the session is over: ABORT, or EXPORT_NAME of another export
-abbrev pub leaves : Wish → Bool
-leaves (wish.Export name) = not (means_disk name)
-leaves wish.Abort = true
-leaves other = false
+-- options go on: behind all but EXPORT_NAME and ABORT, and behind GO where its name doesn't mean the export
+abbrev pub goes_on : Wish → Bool
+goes_on (wish.Export name) = false
+goes_on wish.Abort = false
+goes_on (wish.Go inquiry) = not (means_disk inquiry.name)
+goes_on other = true
 
--- a whole option that is answered, behind which options go on
+-- a whole option, behind which options go on
 pub record IsAnswered (fixed : Bool) (option : List ℕ) : Type 0 where
   pub whole : IsOption fixed option
-  pub goes_on : (not (attaches (wish_in option)) && not (leaves (wish_in option))) ≡ true
+  pub on : goes_on (wish_in option) ≡ true
 
--- The client's flags, fewer than 2^32 options, one that attaches the export, and requests (NBD proto.md, "Newstyle negotiation"
--- and "Option types").
+-- The client's flags, none of them unknown; fewer than 2^32 options behind which options go on, and one that attaches the
+-- export; and then a valid stream of requests (NBD proto.md, "Newstyle negotiation" and "Option types").
 pub record IsValidSession (stream : List ℕ) : Type 0 where
   pub flags : List ℕ
   pub known : ClientFlags
