@@ -19,16 +19,16 @@ use Rattle.qs_nbd_handshake.specs.declared.event.Want.{Want}
 use Rattle.qs_nbd_handshake.specs.declared.event.Want.TheVariants as want
 use Rattle.qs_nbd_handshake.specs.declared.stage.Terms.{Terms}
 use Rattle.qs_nbd_handshake.specs.Answers.{CanFind, CanTell, phase_behind, reader_behind}
-use Rattle.qs_nbd_handshake.specs.Phases.{Phase, Reader, InOption, Asked, Stuck, behind_flags, data_size, event_of, flags_event, opening, option_size, phase_of_option, wish_in}
+use Rattle.qs_nbd_handshake.specs.Phases.{Reader, InOption, Asked, Stuck, behind_flags, data_size, event_of, flags_event, opening, option_size, phase_of_option, wish_in}
 use Rattle.qs_nbd_handshake.specs.Sessions.{HandshakeCall, Took, CallLeads, CallsLead, IsOption, IsRefused, taken_by}
-use Rattle.qs_nbd_handshake.specs.Wishes.{fault_of, want_of}
+use Rattle.qs_nbd_handshake.specs.Wishes.{want_of}
 use Rattle.qs_nbd_handshake.proofs.Sizes.{size-long, size-least}
 use Rattle.qs_stream.specs.Flows.{Flow}
 use Rattle.qs_world.specs.Values.{WorldValue}
 use Rattle.qs_opening.specs.declared.turn.Opened.{Opened}
-use Rattle.qs_opening.specs.Openings.{Agrees, Finishes, terms_of}
+use Rattle.qs_opening.specs.Openings.{Finishes, terms_of}
 use Rattle.qs_opening.specs.Options.{AllStay, step_for, terms_after, terms_behind, told_for}
-use Rattle.qs_opening.specs.Reading.{IsRead, ReadsHandshakes, flags_call, option_calls}
+use Rattle.qs_opening.specs.Reading.{ReadsHandshakes, flags_call, option_calls}
 use Rattle.qs_opening.specs.Telling.{told_info, told_of}
 use Rattle.qs_opening.specs.Turns.{Concludes}
 

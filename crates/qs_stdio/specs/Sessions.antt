@@ -17,20 +17,20 @@ means_disk None = false
 means_disk (Some []) = true
 means_disk (Some (byte ∷ bytes)) = bytes_eq (codes "disk") (byte ∷ bytes)
 
--- requests follow: EXPORT_NAME of the export, or GO to it
+-- requests follow it: it is EXPORT_NAME of the export, or GO to it
 abbrev pub attaches : Wish → Bool
 attaches (wish.Export name) = means_disk name
 attaches (wish.Go inquiry) = means_disk inquiry.name
 attaches other = false
 
--- options go on: behind all but EXPORT_NAME and ABORT, and behind GO where its name doesn't mean the export
+-- options go on behind it: it is neither EXPORT_NAME nor ABORT, nor GO to the export
 abbrev pub goes_on : Wish → Bool
 goes_on (wish.Export name) = false
 goes_on wish.Abort = false
 goes_on (wish.Go inquiry) = not (means_disk inquiry.name)
 goes_on other = true
 
--- a whole option, behind which options go on
+-- a whole option behind which options go on
 pub record IsAnswered (fixed : Bool) (option : List ℕ) : Type 0 where
   pub whole : IsOption fixed option
   pub on : goes_on (wish_in option) ≡ true
@@ -38,16 +38,20 @@ pub record IsAnswered (fixed : Bool) (option : List ℕ) : Type 0 where
 -- The client's flags, none of them unknown; fewer than 2^32 options behind which options go on, and one that attaches the
 -- export; and then a valid stream of requests (NBD proto.md, "Newstyle negotiation" and "Option types").
 pub record IsValidSession (stream : List ℕ) : Type 0 where
+  -- the flags
   pub flags : List ℕ
   pub known : ClientFlags
   pub four : length flags ≡ 4
   pub read : flags_of (number32 flags 0) ≡ Some known
+  -- the options that are answered
   pub options : List (List ℕ)
   pub each : All (IsAnswered known.fixed) options
   pub few : length options < 2 ^ 32
+  -- the last one
   pub final : List ℕ
   pub is_final : IsOption known.fixed final
   pub attached : attaches (wish_in final) ≡ true
+  -- and what follows it
   pub requests : List ℕ
   pub valid : IsValidStream requests
   pub whole : stream ≡ flags ++ (flat_map bytes_of options ++ (final ++ requests))

@@ -245,9 +245,11 @@ pub fn run_stdio<I: Source, O: Sink, D: Disk + Drop, C: Clock>(
 ) -> Status
     ensures ran { Ran words.now D.seen disks.old.items (side I.left I.read_faults input.old) (side O.sent O.write_faults output.old) result
         disks.new.items (side I.left I.read_faults input.new) (side O.sent O.write_faults output.new) }
-    // A valid session, or a valid stream of requests alone, is served to its end, unless memory is refused or a side fails.
-    ensures complete { (stream : List ℕ) → I.left input.old ≡ Some stream → (told : Told) → command words.now ≡ Some told →
-        IsValidInput told.transmission stream → IsImage (map D.seen disks.old.items) → ¬ Rose (I.read_faults input.old) (I.read_faults input.new) →
+    // A valid session, or a valid stream of requests alone, is served to its end, unless memory is refused or a
+    // side fails.
+    ensures complete { (stream : List ℕ) → I.left input.old ≡ Some stream →
+        (told : Told) → command words.now ≡ Some told → IsValidInput told.transmission stream →
+        IsImage (map D.seen disks.old.items) → ¬ Rose (I.read_faults input.old) (I.read_faults input.new) →
         ¬ Rose (O.write_faults output.old) (O.write_faults output.new) → IsServed result }
     // A fault is told only where its count rose.
     ensures cause { Rises (side_of result) (I.read_faults input.old) (I.read_faults input.new)
