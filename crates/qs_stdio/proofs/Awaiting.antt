@@ -3,7 +3,6 @@ use Rattle.std.proofs.Common.{◌≡◌, ℕ, List, [], ◌++◌, refl, sym, ap,
 use Rattle.std.specs.Prelude.{Option, None, Some}
 use Rattle.std.specs.Io.KnownBytes.{Consumes, IsAtEnd}
 use Rattle.qs_stream.specs.Flows.{Flow, Moved}
-use Rattle.qs_stdio.specs.Events.{IsUsedUp}
 
 -- these bytes wait in the stream, or the input has them left
 pub record Awaits (bytes : List ℕ) (flow : Flow) : Type 0 where
@@ -33,7 +32,7 @@ split bytes taken given before after awaits moved =
     (subst (λ (b : Option (List ℕ)). Consumes b after.input.bytes moved.takes.more) awaits.told moved.takes.read) moved.takes.joined refl
 
 -- at the end of the input none are
-pub used_up : (bytes : List ℕ) (flow : Flow) → Awaits bytes flow → IsUsedUp flow → bytes ≡ []
+pub used_up : (bytes : List ℕ) (flow : Flow) → Awaits bytes flow → IsAtEnd flow.input.bytes × (flow.stream.waiting ≡ []) → bytes ≡ []
 used_up bytes flow awaits used =
     awaits.whole ∙ ap (λ (xs : List ℕ). xs ++ awaits.left) used.1 ∙ none flow.input.bytes awaits.told used.0
   where
