@@ -7,3 +7,4 @@ pub mod Answering
 pub mod Continuing
 pub mod Conversing
 pub mod Beginning
+pub mod Reading

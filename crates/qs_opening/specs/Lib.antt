@@ -3,3 +3,4 @@ pub mod Telling
 pub mod Options
 pub mod Turns
 pub mod Openings
+pub mod Reading

@@ -4,10 +4,12 @@
 
 mod answer;
 mod event;
+mod laws;
 mod opening;
 mod telling;
 mod turn;
 
+pub use laws::whole_handshakes;
 pub use opening::open_session;
 pub use turn::Opened;
 

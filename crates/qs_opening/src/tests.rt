@@ -1,4 +1,4 @@
-use crate::{Opened, open_session};
+use crate::{Opened, open_session, whole_handshakes};
 use qs_bytes::{Bytes, Memory, Mode};
 use qs_calls::open_core;
 use qs_outside::{Failed, MemSink, MemSource, QuietDisk};
@@ -164,6 +164,7 @@ fn open(
 #[test]
 fn each_client_is_answered_however_it_is_cut(rt: HostRuntime) -> Result<(), Fail> {
     let alloc = rt.alloc();
+    whole_handshakes::<QuietDisk>();
     for (messages, answers, opened) in ROWS {
         for cut in [1, 65_536] {
             let (told, sent, waiting) = open(alloc, joined(alloc, &[], messages)?, cut)?;

@@ -1,10 +1,9 @@
--- A valid stream is served to its end.
+-- A valid input is served to its end.
 use Rattle.std.proofs.Common.{◌≡◌, ◌≢◌, ℕ, ◌≤◌, ◌^◌, ◌⊎◌, inl, inr, Bool, true, false, not, List, [], ◌∷◌, ◌++◌, length, refl, sym, ap, ◌∙◌, subst, arith, append-nil, append_assoc, length-append, true≢false}
 use Rattle.std.proofs.lemmas.Option.{none-some}
-use Rattle.std.specs.Prelude.{Option, None, Some, String, map}
+use Rattle.std.specs.Prelude.{Option, Some, String, Result, Ok, Err, map}
 use Rattle.std.specs.Global.{Global}
 use Rattle.std.specs.List.{All, AllByRecursion, flat_map}
-use Rattle.std.specs.Io.KnownBytes.{Consumes, IsAtEnd}
 use Rattle.std.proofs.lemmas.Bool.Decides.{nat_tests}
 use Rattle.std.proofs.lemmas.List.{length-map}
 use Rattle.std.proofs.lemmas.List.Folds.{flat_map-map}
@@ -25,17 +24,25 @@ use Rattle.qs_nbd_wire.proofs.Widths.{number32-append}
 use Rattle.qs_nbd_transmission.proofs.Streams.{same_head, message_once, first_of_all, rest_of_all, one_reading, rests_begin, tells_messages}
 use Rattle.qs_outside.specs.Blocks.{Seen}
 use Rattle.qs_image.specs.Image.{size_of}
-use Rattle.qs_image.specs.Opening.{IsImage, Opens}
+use Rattle.qs_image.specs.Opening.{IsImage, Opens as OpensAs}
 use Rattle.qs_stdio.specs.declared.words.StdioWords.{StdioWords}
 use Rattle.qs_stdio.specs.Words.{command}
-use Rattle.qs_stdio.specs.Service.{Exchange, AllFit, asked}
-use Rattle.qs_stream.specs.Bytes.{Takes}
+use Rattle.qs_stdio.specs.Service.{Exchange, AllFit, answered, asked}
 use Rattle.qs_stdio.specs.Scenes.{Scene, IsCut, disks_in}
 use Rattle.qs_stdio.specs.Streams.{Leaves, IsValidStream, IsServed}
-use Rattle.qs_stream.specs.Buffers.{Buffers}
+use Rattle.qs_stdio.specs.Sessions.{IsValidInput, IsValidSession}
+use Rattle.qs_stream.specs.declared.state.State.{State}
+use Rattle.qs_stream.specs.declared.state.State.TheVariants as state
 use Rattle.qs_stream.specs.Flows.{Flow, Side}
 use Rattle.qs_world.specs.Values.{WorldValue}
-use Rattle.qs_stdio.specs.Runs.{Holds, ServesStream, Sitting, Ran, first, last_scene}
+use Rattle.qs_calls.specs.Runs.{Begins}
+use Rattle.qs_outside.specs.declared.stream.Failed.{Failed}
+use Rattle.qs_opening.specs.declared.turn.Opened.{Opened}
+use Rattle.qs_opening.specs.declared.turn.Opened.TheVariants.{Transmit, Ends as Ended}
+use Rattle.qs_opening.specs.Openings.{Opens}
+use Rattle.qs_stdio.specs.Runs.{Concludes, Declines, Holds, ServesStream, Sitting, Ran, fault_at, first, last_scene}
+use Rattle.qs_stdio.proofs.Awaiting.{Awaits, Split, split, used_up}
+use Rattle.qs_stdio.proofs.Opening.{ends_memory, requests_come}
 use Rattle.qs_stdio.proofs.Sought.{nothing_front}
 
 -- no more messages are read than the stream has
@@ -57,26 +64,6 @@ asked_is xs = flat_map-map spelling (λ (x : Exchange). x.message) xs
 each_message : (session size : ℕ) (writable structured : Bool) (xs : List Exchange) → AllFit session size writable structured xs → AllByRecursion IsMessage (map (λ (x : Exchange). x.message) xs)
 each_message session size writable structured [] fit = tt
 each_message session size writable structured (x ∷ xs) fit = (fit.0.message, each_message session size writable structured xs fit.1)
-
--- what is left of the stream behind the bytes that were taken
-record Split (stream taken : List ℕ) (left : Option (List ℕ)) (waiting : List ℕ) : Type 0 where
-  remaining : List ℕ
-  whole : stream ≡ taken ++ remaining
-  used_up : IsAtEnd left → waiting ≡ [] → remaining ≡ []
-
-split_by : (stream taken waiting more : List ℕ) (left : Option (List ℕ)) → Consumes (Some stream) left more → more ≡ taken ++ waiting →
-    Split stream taken left waiting
-split_by stream taken waiting more None consumes joined = absurd consumes
-split_by stream taken waiting more (Some rest) consumes joined = record {
-  remaining = waiting ++ rest;
-  whole = consumes ∙ ap (λ (xs : List ℕ). xs ++ rest) joined ∙ append_assoc taken waiting rest;
-  used_up = λ end empty. ap (λ (xs : List ℕ). xs ++ rest) empty ∙ end;
-}
-
-split_of : (stream taken waiting : List ℕ) (before left : Option (List ℕ)) → before ≡ Some stream → Takes before [] taken left waiting →
-    Split stream taken left waiting
-split_of stream taken waiting before left told takes =
-    split_by stream taken waiting takes.more left (subst (λ (b : Option (List ℕ)). Consumes b left takes.more) told takes.read) takes.joined
 
 -- a DISC begins with no message, and so does nothing at all
 leaves_none : (last : List ℕ) → Leaves last → BeginsNone last
@@ -157,23 +144,20 @@ long_not rest remaining last is long e (inr leaves) =
     not_long (head_of rest) (ap (λ (h : RequestHead). h.kind) same ∙ leaves.is.1) long
 
 -- disks that are an image break no rule
-opens_not : (disks : List Seen) (fault : OpenBad) → IsImage disks → Opens disks (Some fault) → ⊥
+opens_not : (disks : List Seen) (fault : OpenBad) → IsImage disks → OpensAs disks (Some fault) → ⊥
 opens_not disks (bad.Count n) is opens = opens.1 (opens.0 ∙ is.0.0)
 opens_not disks (bad.Different k) is opens = opens.3 (is.0.1 k opens.1)
 opens_not disks (bad.Align a) is opens = opens.1.1 is.1.0
 opens_not disks (bad.Length n) is opens = opens.1.2 is.1.1
 opens_not disks (bad.TooLarge n) is opens = absurd (omega (arith, opens.1.0, opens.1.3, is.1.2))
 
-module _ {D : Type 0} (seen : D → Seen) (session : ℕ) (writable structured : Bool) (stream : List ℕ) (before after : Scene D) (valid : IsValidStream stream) (told : before.flow.input.bytes ≡ Some stream) (nothing : before.flow.stream.waiting ≡ []) where
+module _ {D : Type 0} (seen : D → Seen) (session : ℕ) (writable structured : Bool) (stream : List ℕ) (before after : Scene D) (valid : IsValidStream stream) (awaits : Awaits stream before.flow) where
   abbrev Sits : Status → Type 0
   Sits s = Sitting seen session writable structured (2 ^ 32) before after s
 
-  -- what was taken, and what is left
-  parts : (s : Status) (sits : Sits s) → Split stream (asked sits.exchanges ++ sits.rest) after.flow.input.bytes after.flow.stream.waiting
-  parts s sits =
-      split_of stream (asked sits.exchanges ++ sits.rest) after.flow.stream.waiting before.flow.input.bytes after.flow.input.bytes told
-      (subst (λ (waiting : List ℕ). Takes before.flow.input.bytes waiting (asked sits.exchanges ++ sits.rest) after.flow.input.bytes after.flow.stream.waiting)
-      nothing sits.moved.takes)
+  -- what was taken, and what is to come
+  parts : (s : Status) (sits : Sits s) → Split stream (asked sits.exchanges ++ sits.rest) after.flow
+  parts s sits = split stream (asked sits.exchanges ++ sits.rest) (answered sits.exchanges) before.flow after.flow awaits sits.moved
 
   -- the rest, with what is left behind it, ends the stream
   ends_stream : (s : Status) (sits : Sits s) → BeginsNone (sits.rest ++ (parts s sits).remaining) →
@@ -183,7 +167,7 @@ module _ {D : Type 0} (seen : D → Seen) (session : ℕ) (writable structured :
       (last_none valid.last valid.ends) ((parts s sits).whole ∙ append_assoc (asked sits.exchanges) sits.rest (parts s sits).remaining) valid.whole
 
   -- the budget isn't spent
-  pub not_spent : (sits : Sits status.Spent) → ⊥
+  not_spent : (sits : Sits status.Spent) → ⊥
   not_spent sits =
       let xs : List Message = map (λ (x : Exchange). x.message) sits.exchanges in
       let behind : List ℕ = sits.rest ++ (parts status.Spent sits).remaining in
@@ -195,10 +179,10 @@ module _ {D : Type 0} (seen : D → Seen) (session : ℕ) (writable structured :
       absurd (omega (arith, fewer, length-map sits.exchanges (λ (x : Exchange). x.message), sits.ends.1, valid.few))
 
   -- and the session doesn't end by a fault of the bytes
-  pub not_ended : (e : SessionEnd) → Sits (status.Ended e) → ⊥
+  not_ended : (e : SessionEnd) → Sits (status.Ended e) → ⊥
   not_ended end.Truncated sits =
       let whole : sits.rest ++ (parts _ sits).remaining ≡ sits.rest =
-      ap (λ (xs : List ℕ). sits.rest ++ xs) ((parts _ sits).used_up sits.ends.1.0 sits.ends.1.1) ∙ append-nil sits.rest in
+      ap (λ (xs : List ℕ). sits.rest ++ xs) (used_up (parts _ sits).remaining after.flow (parts _ sits).awaits sits.ends.1) ∙ append-nil sits.rest in
       let is : sits.rest ≡ valid.last = sym whole ∙ ends_stream _ sits (subst (λ (xs : List ℕ). BeginsNone xs) (sym whole) (cut_none sits.rest sits.ends.0)) in
       cut_not sits.rest sits.ends.0 (subst (λ (xs : List ℕ). (xs ≡ []) ⊎ Leaves xs) (sym is) valid.ends)
   not_ended (end.BadMagic found) sits =
@@ -216,55 +200,71 @@ module _ {D : Type 0} (seen : D → Seen) (session : ℕ) (writable structured :
       valid.ends
   not_ended other sits = absurd sits.ends
 
--- a session that began at once sat from its first scene on
-record Sat {D : Type 0} (seen : D → Seen) (read_only : Bool) (input output : Side) (result : Status) (input' output' : Side) (new : WorldValue D) : Type 0 where
-  pub begun : WorldValue D
-  pub structured : Bool
-  pub stream : Buffers
-  pub sits : Sitting seen 0 (not read_only) structured (2 ^ 32) (first input output begun) (last_scene input' output' stream new) result
+  -- so it is served, where no side fails
+  pub sits_served : (s : Status) → Sits s → (s ≡ status.ReadFault → ⊥) → (s ≡ status.WriteFault → ⊥) → IsServed s
+  sits_served status.Done sits read write = inl refl
+  sits_served status.Memory sits read write = inr refl
+  sits_served status.ReadFault sits read write = absurd (read refl)
+  sits_served status.WriteFault sits read write = absurd (write refl)
+  sits_served status.Spent sits read write = absurd (not_spent sits)
+  sits_served (status.Ended e) sits read write = absurd (not_ended e sits)
+  sits_served other sits read write = absurd sits.ends
 
-only_sat : {D : Type 0} (seen : D → Seen) (disks : List D) (read_only transmission : Bool) (input output : Side) (start : WorldValue D) (result : Status) (input' output' : Side) (new : WorldValue D) →
-    transmission ≡ true → (result ≡ status.Memory → ⊥) → ServesStream seen disks read_only transmission (2 ^ 32) input output start result input' output' new → Sat seen read_only input output result input' output' new
-only_sat seen disks read_only true input output start result input' output' new at_once fed (inl sits) = record {
-  begun = sits.begun;
-  structured = sits.mode.structured;
-  stream = sits.stream;
-  sits = subst (λ (f : Flow). Sitting seen 0 (not read_only) sits.mode.structured (2 ^ 32) (record { flow = f; world = sits.begun }) (last_scene input' output' sits.stream new) result)
-      sits.comes.1 sits.sits;
-}
-only_sat seen disks read_only false input output start result input' output' new at_once fed (inl sits) = absurd (cc)
-only_sat seen disks read_only transmission input output start result input' output' new at_once fed (inr (inl forgoes)) = absurd (fed forgoes.result_is)
-only_sat seen disks read_only transmission input output start result input' output' new at_once fed (inr (inr declines)) = absurd (true≢false (sym at_once ∙ declines.0))
+-- no side failed
+never_failed : (result : Status) (s : State) → (result ≡ status.ReadFault → ⊥) → (result ≡ status.WriteFault → ⊥) → result ≡ fault_at s → ⊥
+never_failed result state.ReadFault read write is = read is
+never_failed result state.WriteFault read write is = write is
+never_failed result state.Open read write is = write is
 
--- a valid stream over an image, without a fault of its ends, is served
+module _ {D : Type 0} (seen : D → Seen) (disks : List D) (read_only : Bool) (input output : Side) (start : WorldValue D) (input' output' : Side) (new : WorldValue D)
+    (begins : Begins seen disks read_only start) (stream : List ℕ) (told : input.bytes ≡ Some stream) where
+  -- all of the stream is to come
+  at_first : (world : WorldValue D) → Awaits stream (first input output world).flow
+  at_first world = record { left = stream; told = told; whole = refl }
+
+  -- a handshake that ended the session
+  declines_served : (result : Status) → IsValidSession stream → (result ≡ status.ReadFault → ⊥) → (result ≡ status.WriteFault → ⊥) →
+      Declines seen read_only (2 ^ 32) input output start result input' output' new → IsServed result
+  declines_served result valid read write d = go d.opened d.opens d.concludes
+    where
+      go : (opened : Result Opened Failed) → Opens {E = Failed} seen 0 (not read_only) (2 ^ 32) (first input output start).flow start opened d.flow new →
+          Concludes opened result d.stream → IsServed result
+      go (Ok (Transmit mode)) opens concludes = absurd concludes
+      go (Ok (Ended how)) opens (inl is) =
+          inr (is.2 ∙ ends_memory seen disks read_only 0 (not read_only) (first input output start).flow start d.flow new begins stream (at_first start) valid how opens)
+      go (Ok (Ended how)) opens (inr is) = absurd (never_failed result d.stream.state read write is.1)
+      go (Err e) opens concludes = absurd (never_failed result d.stream.state read write concludes.1)
+
+  -- one client
+  serves_served : (transmission : Bool) (result : Status) → IsValidInput transmission stream → (result ≡ status.ReadFault → ⊥) → (result ≡ status.WriteFault → ⊥) →
+      ServesStream seen disks read_only transmission (2 ^ 32) input output start result input' output' new → IsServed result
+  serves_served true result valid read write (inl sits) =
+      sits_served seen 0 (not read_only) sits.mode.structured stream (record { flow = sits.flow; world = sits.begun }) (last_scene input' output' sits.stream new) valid
+      (subst (λ (f : Flow). Awaits stream f) (sym sits.comes.1) (at_first sits.begun)) result sits.sits read write
+  serves_served false result valid read write (inl sits) =
+      sits_served seen 0 (not read_only) sits.mode.structured valid.requests (record { flow = sits.flow; world = sits.begun }) (last_scene input' output' sits.stream new) valid.valid
+      (requests_come seen disks read_only 0 (not read_only) (first input output start).flow start sits.flow sits.begun begins stream (at_first start) valid sits.mode sits.comes) result sits.sits read write
+  serves_served transmission result valid read write (inr (inl forgoes)) = inr forgoes.result_is
+  serves_served true result valid read write (inr (inr declines)) = absurd (true≢false declines.0)
+  serves_served false result valid read write (inr (inr declines)) = declines_served result valid read write declines.1
+
+-- a valid input over an image, without a fault of its ends, is served
 pub complete_of : {D : Type 0} (seen : D → Seen) (words : List (String Global)) (disks disks' : List D) (input output : Side) (result : Status) (input' output' : Side) (stream : List ℕ) →
-    Ran words seen disks input output result disks' input' output' → input.bytes ≡ Some stream → IsValidStream stream → (told : StdioWords) → command words ≡ Some told → told.transmission ≡ true →
+    Ran words seen disks input output result disks' input' output' → input.bytes ≡ Some stream → (told : StdioWords) → command words ≡ Some told → IsValidInput told.transmission stream →
     IsImage (map seen disks) → (result ≡ status.ReadFault → ⊥) → (result ≡ status.WriteFault → ⊥) → IsServed result
-complete_of {D} seen words disks disks' input output result input' output' stream ran is valid told told_is at_once image read write = go result ran read write
+complete_of {D} seen words disks disks' input output result input' output' stream ran is told told_is valid image read write = go result ran read write
   where
-    same_told : (o : Option StdioWords) (a b : StdioWords) → o ≡ Some a → o ≡ Some b → b ≡ a
+    same_told : (o : Option StdioWords) (a b : StdioWords) → o ≡ Some a → o ≡ Some b → a ≡ b
     same_told o a b p q = cc
 
-    at_once_too : (other : StdioWords) → command words ≡ Some other → other.transmission ≡ true
-    at_once_too other q = ap (λ (w : StdioWords). w.transmission) (same_told (command words) told other told_is q) ∙ at_once
-
-    sat : (s : Status) (other : StdioWords) → command words ≡ Some other → (s ≡ status.Memory → ⊥) → Holds seen disks other.read_only other.transmission input output s disks' input' output' →
-        (read_only : Bool) × (new : WorldValue D) × Sat seen read_only input output s input' output' new
-    sat s other q fed holds =
-        (other.read_only, holds.new, only_sat seen disks other.read_only other.transmission input output holds.start s input' output' holds.new (at_once_too other q) fed holds.serves)
+    held : (s : Status) (other : StdioWords) → command words ≡ Some other → Holds seen disks other.read_only other.transmission input output s disks' input' output' →
+        (s ≡ status.ReadFault → ⊥) → (s ≡ status.WriteFault → ⊥) → IsServed s
+    held s other q holds read write =
+        serves_served seen disks other.read_only input output holds.start input' output' holds.new holds.begins stream is other.transmission s
+        (subst (λ (w : StdioWords). IsValidInput w.transmission stream) (same_told (command words) told other told_is q) valid) read write holds.serves
 
     go : (s : Status) → Ran words seen disks input output s disks' input' output' → (s ≡ status.ReadFault → ⊥) → (s ≡ status.WriteFault → ⊥) → IsServed s
-    go status.Done ran read write = inl refl
-    go status.Memory ran read write = inr refl
     go status.Usage ran read write = absurd (none-some told (sym ran.0 ∙ told_is))
     go (status.OpenBad fault) ran read write = absurd (opens_not (map seen disks) fault image ran.2.0)
-    go status.ReadFault ran read write = absurd (read refl)
-    go status.WriteFault ran read write = absurd (write refl)
-    go (status.BadLine n) ran read write = let (read_only, new, s) = sat (status.BadLine n) ran.0 ran.1 (λ e. cc) ran.2 in absurd s.sits.ends
-    go (status.NotNext n) ran read write = let (read_only, new, s) = sat (status.NotNext n) ran.0 ran.1 (λ e. cc) ran.2 in absurd s.sits.ends
-    go status.Spent ran read write =
-        let (read_only, new, s) = sat status.Spent ran.0 ran.1 (λ e. cc) ran.2 in
-        absurd (not_spent seen 0 (not read_only) s.structured stream (first input output s.begun) (last_scene input' output' s.stream new) valid is refl s.sits)
-    go (status.Ended e) ran read write =
-        let (read_only, new, s) = sat (status.Ended e) ran.0 ran.1 (λ e. cc) ran.2 in
-        absurd (not_ended seen 0 (not read_only) s.structured stream (first input output s.begun) (last_scene input' output' s.stream new) valid is refl e s.sits)
+    go status.Memory ran read write = inr refl
+    go other ran read write = held other ran.0 ran.1 ran.2 read write

@@ -62,7 +62,7 @@ lacks_ends : (taken : List ℕ) (told : Status) (after : Flow) → LacksFlags {E
 lacks_ends taken told after (inl cut) = subst IsEnd (sym cut.0) (how_ends _)
 lacks_ends taken told after (inr bad) = subst IsEnd (sym bad.0) tt
 
-never_transmits : (told : Status) (mode : Mode) → Ended told ≡ Transmit mode → ⊥
+pub never_transmits : (told : Status) (mode : Mode) → Ended told ≡ Transmit mode → ⊥
 never_transmits told mode e = cc
 
 module _ {D : Type 0} (seen : D → Seen) (session : ℕ) (writable : Bool) (budget : ℕ) (before : Flow) (old : WorldValue D) (after : Flow) (new : WorldValue D) where

@@ -6,4 +6,8 @@ pub mod Outliving
 pub mod Serving
 pub mod Handshaking
 pub mod Running
+pub mod Awaiting
+pub mod Meaning
+pub mod Welcoming
+pub mod Opening
 pub mod Complete

@@ -7,3 +7,4 @@ pub mod Words
 pub mod Runs
 pub mod Streams
 pub mod Surviving
+pub mod Sessions

@@ -6,7 +6,8 @@ ghost use Rattle.qs_single.specs.Resting.{IsResting};
 ghost use Rattle.qs_stream.specs.Flows.{Puts, Rises, Tells, side};
 ghost use Rattle.qs_stdio.specs.Runs.{Closes, Ran, Serves, ServesStream, Sitting, fault_at, side_of, status_by};
 ghost use Rattle.qs_stdio.specs.Scenes.{scene};
-ghost use Rattle.qs_stdio.specs.Streams.{IsServed, IsValidStream};
+ghost use Rattle.qs_stdio.specs.Sessions.{IsValidInput};
+ghost use Rattle.qs_stdio.specs.Streams.{IsServed};
 ghost use Rattle.qs_stdio.specs.Turns.{between};
 ghost use Rattle.qs_stdio.specs.Words.{command};
 ghost use Rattle.qs_stdio.specs.declared.words.StdioWords.{StdioWords as Told};
@@ -244,9 +245,11 @@ pub fn run_stdio<I: Source, O: Sink, D: Disk + Drop, C: Clock>(
 ) -> Status
     ensures ran { Ran words.now D.seen disks.old.items (side I.left I.read_faults input.old) (side O.sent O.write_faults output.old) result
         disks.new.items (side I.left I.read_faults input.new) (side O.sent O.write_faults output.new) }
-    // A valid stream of requests is served to its end, unless memory is refused or a side fails.
-    ensures complete { (stream : List ℕ) → I.left input.old ≡ Some stream → IsValidStream stream → (told : Told) → command words.now ≡ Some told →
-        told.transmission ≡ true → IsImage (map D.seen disks.old.items) → ¬ Rose (I.read_faults input.old) (I.read_faults input.new) →
+    // A valid session, or a valid stream of requests alone, is served to its end, unless memory is refused or a
+    // side fails.
+    ensures complete { (stream : List ℕ) → I.left input.old ≡ Some stream →
+        (told : Told) → command words.now ≡ Some told → IsValidInput told.transmission stream →
+        IsImage (map D.seen disks.old.items) → ¬ Rose (I.read_faults input.old) (I.read_faults input.new) →
         ¬ Rose (O.write_faults output.old) (O.write_faults output.new) → IsServed result }
     // A fault is told only where its count rose.
     ensures cause { Rises (side_of result) (I.read_faults input.old) (I.read_faults input.new)

@@ -105,6 +105,11 @@ const GOES: &[u8] = b"\0\0\0\x03IHAVEOPT\0\0\0\x07\0\0\0\x0a\0\0\0\x04disk\0\0";
 const GOES_STRUCTURED: &[u8] = b"\0\0\0\x03IHAVEOPT\0\0\0\x08\0\0\0\0\
 IHAVEOPT\0\0\0\x07\0\0\0\x0a\0\0\0\x04disk\0\0";
 
+/// INFO, GO to an unknown name, STRUCTURED_REPLY, LIST, and GO to the empty name.
+const ASKS: &[u8] = b"\0\0\0\x03IHAVEOPT\0\0\0\x06\0\0\0\x0a\0\0\0\x04disk\0\0\
+IHAVEOPT\0\0\0\x07\0\0\0\x09\0\0\0\x03foo\0\0IHAVEOPT\0\0\0\x08\0\0\0\0\
+IHAVEOPT\0\0\0\x03\0\0\0\0IHAVEOPT\0\0\0\x07\0\0\0\x06\0\0\0\0\0\0";
+
 /// The greeting and the answers to them, over an image of 4,096 bytes, and what stands before the bytes of
 /// the second request, a READ.
 const GONE: &[u8] =
@@ -113,6 +118,16 @@ const GONE: &[u8] =
 
 const GONE_STRUCTURED: &[u8] =
     b"NBDMAGICIHAVEOPT\0\x03\0\x03\xe8\x89\x04\x55\x65\xa9\0\0\0\x08\0\0\0\x01\0\0\0\0\
+\0\x03\xe8\x89\x04\x55\x65\xa9\0\0\0\x07\0\0\0\x03\0\0\0\x0c\0\0\0\0\0\0\0\0\x10\0\x01\xed\
+\0\x03\xe8\x89\x04\x55\x65\xa9\0\0\0\x07\0\0\0\x01\0\0\0\0";
+
+const ASKED: &[u8] =
+    b"NBDMAGICIHAVEOPT\0\x03\0\x03\xe8\x89\x04\x55\x65\xa9\0\0\0\x06\0\0\0\x03\0\0\0\x0c\
+\0\0\0\0\0\0\0\0\x10\0\x01\x6d\0\x03\xe8\x89\x04\x55\x65\xa9\0\0\0\x06\0\0\0\x01\0\0\0\0\
+\0\x03\xe8\x89\x04\x55\x65\xa9\0\0\0\x07\x80\0\0\x06\0\0\0\0\
+\0\x03\xe8\x89\x04\x55\x65\xa9\0\0\0\x08\0\0\0\x01\0\0\0\0\
+\0\x03\xe8\x89\x04\x55\x65\xa9\0\0\0\x03\0\0\0\x02\0\0\0\x08\0\0\0\x04disk\
+\0\x03\xe8\x89\x04\x55\x65\xa9\0\0\0\x03\0\0\0\x01\0\0\0\0\
 \0\x03\xe8\x89\x04\x55\x65\xa9\0\0\0\x07\0\0\0\x03\0\0\0\x0c\0\0\0\0\0\0\0\0\x10\0\x01\xed\
 \0\x03\xe8\x89\x04\x55\x65\xa9\0\0\0\x07\0\0\0\x01\0\0\0\0";
 
@@ -142,6 +157,7 @@ fn a_client_is_greeted_and_served(rt: HostRuntime) -> Result<(), Failure> {
     for (hello, answers, head) in [
         (GOES, GONE, READ_BACK.as_slice()),
         (GOES_STRUCTURED, GONE_STRUCTURED, CHUNK),
+        (ASKS, ASKED, CHUNK),
     ] {
         let mut input = Vec::from_slice(alloc, hello)?;
         input.extend_from_slice(requests.as_slice())?;
