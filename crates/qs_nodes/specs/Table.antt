@@ -1,6 +1,6 @@
 -- The operations on nodes and groups: which answer may come, and what it leaves.
-use Rattle.std.specs.Prelude.{◌≡◌, ◌≢◌, ℕ, ◌+◌, ◌<◌, ◌≤◌, Bool, List, [], ◌∷◌, ◌++◌, Unit, Option, Some, None, Result, Ok, Err, drop, position, replicate, take}
-use Rattle.std.specs.List.{slice_get, slice_set}
+use Rattle.std.specs.Prelude.{◌≡◌, ◌≢◌, ℕ, ◌+◌, ◌<◌, ◌≤◌, Bool, List, [], ◌∷◌, ◌++◌, Option, Some, None, Result, Ok, Err, position, replicate}
+use Rattle.std.specs.List.{remove, slice_get, slice_set}
 use Rattle.qs_part.specs.declared.graph.User.{User}
 use Rattle.qs_part.specs.declared.graph.User.TheVariants.{Node as NodeUser, Export as ExportUser}
 use Rattle.qs_nodes.specs.declared.node.Kind.TheVariants.{File, Raw, Throttle}
@@ -29,7 +29,7 @@ with_node v n = record { size = v.size; nodes = v.nodes ++ n ∷ []; groups = v.
 
 -- the node of this number in order of making goes
 abbrev pub without_node : NodesValue → ℕ → NodesValue
-without_node v i = record { size = v.size; nodes = take i v.nodes ++ drop (i + 1) v.nodes; groups = v.groups }
+without_node v i = record { size = v.size; nodes = remove v.nodes i; groups = v.groups }
 
 -- a slot is now so
 abbrev pub with_group : NodesValue → ℕ → Option (List ℕ) → NodesValue

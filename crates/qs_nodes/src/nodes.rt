@@ -94,10 +94,10 @@ impl Nodes {
                 offset,
             },
         };
-        match self.nodes.push(node) {
-            Ok(()) => Ok(place),
-            Err(_) => Err(Refused::Memory),
+        if self.nodes.push(node).is_err() {
+            return Err(Refused::Memory);
         }
+        Ok(place)
     }
 
     /// Makes a throttle node, which shows its whole child. Answers its place (QMP's blockdev-add,
@@ -141,10 +141,10 @@ impl Nodes {
                 slot: slot as u8,
             },
         };
-        match self.nodes.push(node) {
-            Ok(()) => Ok(place),
-            Err(_) => Err(Refused::Memory),
+        if self.nodes.push(node).is_err() {
+            return Err(Refused::Memory);
         }
+        Ok(place)
     }
 
     /// Takes a node away, where it has no user. `export` is the id of the first export over it
@@ -213,3 +213,6 @@ impl Nodes {
         }
     }
 }
+
+#[cfg(test)]
+mod tests;
