@@ -1,7 +1,9 @@
 -- Nodes in the order in which they were made, and the groups at their slots.
-use Rattle.std.specs.Prelude.{◌≡◌, ℕ, ◌+◌, ◌-◌, ◌<◌, ◌≤◌, ◌==◌, Bool, true, false, List, [], ◌∷◌, Option, Some, None, find, position, option_map}
+use Rattle.std.specs.Prelude.{◌≡◌, ℕ, ◌+◌, ◌-◌, ◌<◌, ◌≤◌, ◌==◌, Bool, true, false, List, [], ◌∷◌, Option, Some, None, find, position, option_map, if◌then◌else◌}
 use Rattle.std.specs.List.{list_any}
 use Rattle.std.specs.Str.{bytes_eq}
+use Rattle.qs_part.specs.declared.graph.User.{User}
+use Rattle.qs_part.specs.declared.graph.User.TheVariants.{Node as NodeUser, Export as ExportUser}
 use Rattle.qs_nodes.specs.declared.node.Kind.{Kind}
 use Rattle.qs_nodes.specs.declared.node.Kind.TheVariants.{File, Raw, Throttle}
 use Rattle.qs_nodes.specs.declared.node.Node.{Node}
@@ -82,3 +84,27 @@ Lies all offset size = (offset ≤ all) × (offset + shown all offset size ≤ a
 abbrev pub IsPart : ℕ → ℕ → Option ℕ → Option ℕ → Type 0
 IsPart all offset size None = Lies all offset size → ⊥
 IsPart all offset size (Some bytes) = Lies all offset size × (bytes ≡ shown all offset size)
+
+abbrev pub first_of : Option User → Option User → Option User
+first_of None other = other
+first_of (Some user) other = Some user
+
+-- the first user of the node at a place: the first node over it, else the export
+abbrev pub user_of : List Node → ℕ → Option (List ℕ) → Option User
+user_of nodes place export = first_of (option_map (λ (n : Node). NodeUser n.name) (first_user nodes place)) (option_map ExportUser export)
+
+-- the first user of a node that would get another size
+abbrev pub resized_user : List Node → Node → ℕ → Option (List ℕ) → Option User
+resized_user nodes n bytes export = if bytes == n.size then None else user_of nodes n.place export
+
+-- the child of a raw node
+abbrev pub raw_child : Kind → Option ℕ
+raw_child File = None
+raw_child (Raw child offset) = Some child
+raw_child (Throttle child slot) = None
+
+-- the child of a throttle node
+abbrev pub throttle_child : Kind → Option ℕ
+throttle_child File = None
+throttle_child (Raw child offset) = None
+throttle_child (Throttle child slot) = Some child

@@ -1,5 +1,5 @@
 -- The operations on nodes and groups: which answer may come, and what it leaves.
-use Rattle.std.specs.Prelude.{◌≡◌, ◌≢◌, ℕ, ◌+◌, ◌<◌, ◌≤◌, Bool, List, [], ◌∷◌, ◌++◌, Option, Some, None, Result, Ok, Err, position, replicate}
+use Rattle.std.specs.Prelude.{◌≡◌, ◌≢◌, ℕ, ◌+◌, ◌<◌, ◌≤◌, ◌⊎◌, Bool, List, [], ◌∷◌, ◌++◌, Option, Some, None, Result, Ok, Err, position, replicate}
 use Rattle.std.specs.List.{remove, slice_get, slice_set}
 use Rattle.qs_part.specs.declared.graph.User.{User}
 use Rattle.qs_part.specs.declared.graph.User.TheVariants.{Node as NodeUser, Export as ExportUser}
@@ -7,7 +7,7 @@ use Rattle.qs_nodes.specs.declared.node.Kind.TheVariants.{File, Raw, Throttle}
 use Rattle.qs_nodes.specs.declared.node.Node.{Node}
 use Rattle.qs_nodes.specs.declared.node.Refused.{Refused}
 use Rattle.qs_nodes.specs.declared.node.Refused.TheVariants.{Duplicate, NoNode, NoGroup, OutOfRange, Deep, Full, Root, InUse, OtherKind, OtherFile, Memory}
-use Rattle.qs_nodes.specs.Nodes.{first_member, first_user, free_slot, has_name, named, shown, slot_of, Lies, LowestFree}
+use Rattle.qs_nodes.specs.Nodes.{first_member, first_user, free_slot, has_name, named, raw_child, resized_user, shown, slot_of, throttle_child, Lies, LowestFree}
 
 -- the bytes of the image, the nodes in the order in which they were made, and the 16 slots of groups
 pub record NodesValue : Type 0 where
@@ -30,6 +30,10 @@ with_node v n = record { size = v.size; nodes = v.nodes ++ n ∷ []; groups = v.
 -- the node of this number in order of making goes
 abbrev pub without_node : NodesValue → ℕ → NodesValue
 without_node v i = record { size = v.size; nodes = remove v.nodes i; groups = v.groups }
+
+-- the node of this number in order of making is now so
+abbrev pub set_node : NodesValue → ℕ → Node → NodesValue
+set_node v i n = record { size = v.size; nodes = slice_set v.nodes i n; groups = v.groups }
 
 -- a slot is now so
 abbrev pub with_group : NodesValue → ℕ → Option (List ℕ) → NodesValue
@@ -123,6 +127,60 @@ Deletes v name export (Err (InUse (ExportUser id))) new =
 Deletes v name export (Err _) new = ⊥
 Deletes v name export (Ok done) new =
     (i : ℕ) × (n : Node) × (IsUpper v name i n × (first_user v.nodes n.place ≡ None) × (export ≡ None) × (new ≡ without_node v i))
+
+-- the node of this name, and that of its child's
+abbrev pub AreAt : NodesValue → List ℕ → List ℕ → ℕ → Node → Node → Type 0
+AreAt v name child i n below = IsAt v name i n × (named v.nodes child ≡ Some below)
+
+-- the name, else that of the child, is no node's
+abbrev pub IsMissing : NodesValue → List ℕ → List ℕ → List ℕ → Type 0
+IsMissing v name child missing =
+    ((position (has_name name) v.nodes ≡ None) × (missing ≡ name))
+    ⊎ ((i : ℕ) × ((position (has_name name) v.nodes ≡ Some i) × (named v.nodes child ≡ None) × (missing ≡ child)))
+
+-- a raw node over this child, whose part lies in it
+abbrev pub Reopens : NodesValue → List ℕ → List ℕ → ℕ → Option ℕ → ℕ → Node → Node → Type 0
+Reopens v name child offset size i n below =
+    AreAt v name child i n below × (raw_child n.kind ≡ Some below.place) × Lies below.size offset size
+
+-- What answers another part for a raw node, and what it leaves. `export` is the first export over it.
+abbrev pub ReopensRaw : NodesValue → List ℕ → List ℕ → ℕ → Option ℕ → Option (List ℕ) → Result Unit Refused → NodesValue → Type 0
+ReopensRaw v name child offset size export (Err (NoNode missing)) new = IsMissing v name child missing × (new ≡ v)
+ReopensRaw v name child offset size export (Err OtherKind) new =
+    (i : ℕ) × (n : Node) × (below : Node) × (AreAt v name child i n below × (raw_child n.kind ≡ None) × (new ≡ v))
+ReopensRaw v name child offset size export (Err OtherFile) new =
+    (i : ℕ) × (n : Node) × (below : Node) × (other : ℕ)
+    × (AreAt v name child i n below × (raw_child n.kind ≡ Some other) × (other ≢ below.place) × (new ≡ v))
+ReopensRaw v name child offset size export (Err (OutOfRange all)) new =
+    (i : ℕ) × (n : Node) × (below : Node) × (AreAt v name child i n below × (raw_child n.kind ≡ Some below.place)
+    × (Lies below.size offset size → ⊥) × (all ≡ below.size) × (new ≡ v))
+ReopensRaw v name child offset size export (Err (InUse user)) new =
+    (i : ℕ) × (n : Node) × (below : Node) × (Reopens v name child offset size i n below
+    × (resized_user v.nodes n (shown below.size offset size) export ≡ Some user) × (new ≡ v))
+ReopensRaw v name child offset size export (Err _) new = ⊥
+ReopensRaw v name child offset size export (Ok done) new =
+    (i : ℕ) × (n : Node) × (below : Node) × (Reopens v name child offset size i n below
+    × (resized_user v.nodes n (shown below.size offset size) export ≡ None)
+    × (new ≡ set_node v i (record n { size = shown below.size offset size; kind = Raw below.place offset })))
+
+-- a throttle node over this child
+abbrev pub IsThrottle : NodesValue → List ℕ → List ℕ → ℕ → Node → Node → Type 0
+IsThrottle v name child i n below = AreAt v name child i n below × (throttle_child n.kind ≡ Some below.place)
+
+-- what answers another group for a throttle node, and what it leaves
+abbrev pub ReopensThrottle : NodesValue → List ℕ → List ℕ → List ℕ → Result Unit Refused → NodesValue → Type 0
+ReopensThrottle v name child group (Err (NoNode missing)) new = IsMissing v name child missing × (new ≡ v)
+ReopensThrottle v name child group (Err OtherKind) new =
+    (i : ℕ) × (n : Node) × (below : Node) × (AreAt v name child i n below × (throttle_child n.kind ≡ None) × (new ≡ v))
+ReopensThrottle v name child group (Err OtherFile) new =
+    (i : ℕ) × (n : Node) × (below : Node) × (other : ℕ)
+    × (AreAt v name child i n below × (throttle_child n.kind ≡ Some other) × (other ≢ below.place) × (new ≡ v))
+ReopensThrottle v name child group (Err NoGroup) new =
+    (i : ℕ) × (n : Node) × (below : Node) × (IsThrottle v name child i n below × (slot_of v.groups group ≡ None) × (new ≡ v))
+ReopensThrottle v name child group (Err _) new = ⊥
+ReopensThrottle v name child group (Ok done) new =
+    (i : ℕ) × (n : Node) × (below : Node) × (slot : ℕ) × (IsThrottle v name child i n below × (slot_of v.groups group ≡ Some slot)
+    × (new ≡ set_node v i (record n { kind = Throttle below.place slot })))
 
 -- what answers a new group, and what it leaves
 abbrev pub AddsGroup : NodesValue → List ℕ → Result ℕ Refused → NodesValue → Type 0

@@ -1,6 +1,6 @@
 ghost use Rattle.std.specs.Prelude.{◌≡◌};
 ghost use Rattle.std.specs.Str.{bytes_eq};
-ghost use Rattle.qs_nodes.specs.Nodes.{is_in_group, is_over};
+ghost use Rattle.qs_nodes.specs.Nodes.{is_in_group, is_over, raw_child, throttle_child};
 
 use qs_bytes::Name;
 use qs_part::graph::User;
@@ -82,6 +82,26 @@ impl Node {
         match self.kind {
             Kind::Throttle { slot: own, .. } => own == slot,
             _ => false,
+        }
+    }
+
+    /// The place of a raw node's child.
+    pub fn raw_child(&self) -> Option<u8>
+        ensures { result ≡ raw_child self.now.kind }
+    {
+        match self.kind {
+            Kind::Raw { child, .. } => Some(child),
+            _ => None,
+        }
+    }
+
+    /// The place of a throttle node's child.
+    pub fn throttle_child(&self) -> Option<u8>
+        ensures { result ≡ throttle_child self.now.kind }
+    {
+        match self.kind {
+            Kind::Throttle { child, .. } => Some(child),
+            _ => None,
         }
     }
 }

@@ -1,5 +1,5 @@
-ghost use Rattle.std.specs.Prelude.{◌≡◌, IfOk};
-ghost use Rattle.qs_nodes.specs.Table.{fresh, AddsGroup, AddsRaw, AddsThrottle, Deletes, EndsGroup};
+ghost use Rattle.std.specs.Prelude.{◌≡◌, ◌<◌, length, IfOk};
+ghost use Rattle.qs_nodes.specs.Table.{fresh, set_node, AddsGroup, AddsRaw, AddsThrottle, Deletes, EndsGroup, ReopensRaw, ReopensThrottle};
 
 use crate::node::{Kind, Node, Refused};
 use crate::scan;
@@ -170,6 +170,96 @@ impl Nodes {
             return Err(Refused::InUse(User::Export(id)));
         }
         self.nodes.remove(at);
+        Ok(())
+    }
+
+    fn set(&mut self, at: usize, node: Node)
+        requires { at < length self.old.nodes }
+        ensures { self.new ≡ set_node self.old at node }
+    {
+        self.nodes[at] = node;
+    }
+
+    /// Gives a raw node another part of its child (QMP's blockdev-reopen). `export` is the id of
+    /// the first export over it.
+    ///
+    /// # Errors
+    ///
+    /// `NoNode` of the node, else of the child; `OtherKind`, `OtherFile`, `OutOfRange`, and `InUse`
+    /// where its size would change, in this order.
+    pub fn reopen_raw(
+        &mut self,
+        name: Name,
+        child: Name,
+        offset: u64,
+        size: Option<u64>,
+        export: Option<Name>,
+    ) -> Result<(), Refused>
+        ensures { ReopensRaw self.old name child offset size export result self.new }
+    {
+        let Some(at) = scan::index_of(&self.nodes, &name) else {
+            return Err(Refused::NoNode(name));
+        };
+        let Some(below) = scan::named(&self.nodes, &child) else {
+            return Err(Refused::NoNode(child));
+        };
+        let node = self.nodes[at];
+        let Some(own) = node.raw_child() else {
+            return Err(Refused::OtherKind);
+        };
+        if own != below.place {
+            return Err(Refused::OtherFile);
+        }
+        let Some(bytes) = scan::part_of(below.size, offset, size) else {
+            return Err(Refused::OutOfRange(below.size));
+        };
+        if let Some(user) = scan::resized_user(&self.nodes, &node, bytes, export) {
+            return Err(Refused::InUse(user));
+        }
+        let kind = Kind::Raw {
+            child: below.place,
+            offset,
+        };
+        self.set(
+            at,
+            Node {
+                size: bytes,
+                kind,
+                ..node
+            },
+        );
+        Ok(())
+    }
+
+    /// Puts a throttle node into another group (QMP's blockdev-reopen).
+    ///
+    /// # Errors
+    ///
+    /// `NoNode` of the node, else of the child; `OtherKind`, `OtherFile`, `NoGroup`, in this order.
+    pub fn reopen_throttle(&mut self, name: Name, child: Name, group: &Name) -> Result<(), Refused>
+        ensures { ReopensThrottle self.old name child group.now result self.new }
+    {
+        let Some(at) = scan::index_of(&self.nodes, &name) else {
+            return Err(Refused::NoNode(name));
+        };
+        let Some(below) = scan::named(&self.nodes, &child) else {
+            return Err(Refused::NoNode(child));
+        };
+        let node = self.nodes[at];
+        let Some(own) = node.throttle_child() else {
+            return Err(Refused::OtherKind);
+        };
+        if own != below.place {
+            return Err(Refused::OtherFile);
+        }
+        let Some(slot) = scan::slot_of(&self.groups, group) else {
+            return Err(Refused::NoGroup);
+        };
+        let kind = Kind::Throttle {
+            child: below.place,
+            slot: slot as u8,
+        };
+        self.set(at, Node { kind, ..node });
         Ok(())
     }
 

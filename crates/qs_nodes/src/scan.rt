@@ -1,8 +1,9 @@
 ghost use Rattle.std.specs.Prelude.{◌≡◌, ◌<◌, length, position, IfSome};
-ghost use Rattle.qs_nodes.specs.Nodes.{first_member, first_user, free_slot, has_id, has_name, is_taken, named, slot_of, IsPart, LowestFree};
+ghost use Rattle.qs_nodes.specs.Nodes.{first_member, first_user, free_slot, has_id, has_name, is_taken, named, resized_user, slot_of, user_of, IsPart, LowestFree};
 
 use crate::node::Node;
 use qs_bytes::Name;
+use qs_part::graph::User;
 
 /// How many nodes can stand.
 pub const PLACES: u8 = 64;
@@ -27,6 +28,29 @@ pub fn first_user(nodes: &[Node], place: u8) -> Option<Node>
     ensures { result ≡ first_user nodes.now place }
 {
     nodes.iter().copied().find(|node| node.is_over(place))
+}
+
+/// The first user of the node at a place: the first node over it, else the export.
+pub fn user_of(nodes: &[Node], place: u8, export: Option<Name>) -> Option<User>
+    ensures { result ≡ user_of nodes.now place export }
+{
+    if let Some(above) = first_user(nodes, place) {
+        return Some(User::Node(above.name));
+    }
+    match export {
+        Some(id) => Some(User::Export(id)),
+        None => None,
+    }
+}
+
+/// The first user of a node that would get another size.
+pub fn resized_user(nodes: &[Node], node: &Node, bytes: u64, export: Option<Name>) -> Option<User>
+    ensures { result ≡ resized_user nodes.now node.now bytes export }
+{
+    if bytes == node.size {
+        return None;
+    }
+    user_of(nodes, node.place, export)
 }
 
 /// The first throttle node of the group at a slot, in order of making.
