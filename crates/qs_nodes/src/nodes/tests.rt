@@ -84,3 +84,62 @@ fn ninth_throttle_node_is_too_deep(rt: HostRuntime) -> Result<(), Fail> {
     assert_eq!(rt; nodes.add_raw(name(b"raw")?, below, 0, None, false), Ok(9));
     Ok(())
 }
+
+#[test]
+fn nodes_are_reopened(rt: HostRuntime) -> Result<(), Fail> {
+    let (file, low, high, gone) = (
+        name(b"file")?,
+        name(b"low")?,
+        name(b"high")?,
+        name(b"gone")?,
+    );
+    let group = name(b"group")?;
+    let mut nodes = Nodes::new(rt.alloc(), 4096, file, false)?;
+    assert_eq!(rt; nodes.group_add(group), Ok(0));
+    assert_eq!(rt; nodes.add_raw(low, file, 0, Some(1024), false), Ok(1));
+    assert_eq!(rt;
+        nodes.reopen_raw(gone, file, 0, None, None),
+        Err(Refused::NoNode(gone))
+    );
+    assert_eq!(rt;
+        nodes.reopen_raw(low, gone, 0, None, None),
+        Err(Refused::NoNode(gone))
+    );
+    assert_eq!(rt;
+        nodes.reopen_raw(file, file, 0, None, None),
+        Err(Refused::OtherKind)
+    );
+    assert_eq!(rt;
+        nodes.reopen_raw(low, low, 0, None, None),
+        Err(Refused::OtherFile)
+    );
+    assert_eq!(rt;
+        nodes.reopen_raw(low, file, 4097, None, None),
+        Err(Refused::OutOfRange(4096))
+    );
+    assert_eq!(rt; nodes.reopen_raw(low, file, 512, None, None), Ok(()));
+    assert_eq!(rt; nodes.add_throttle(high, low, &group, false), Ok(2));
+    assert_eq!(rt;
+        nodes.reopen_raw(low, file, 0, None, None),
+        Err(Refused::InUse(User::Node(high)))
+    );
+    assert_eq!(rt;
+        nodes.reopen_raw(low, file, 0, Some(3584), None),
+        Ok(()),
+        "of the same size"
+    );
+    assert_eq!(rt;
+        nodes.reopen_throttle(low, file, &group),
+        Err(Refused::OtherKind)
+    );
+    assert_eq!(rt;
+        nodes.reopen_throttle(high, file, &group),
+        Err(Refused::OtherFile)
+    );
+    assert_eq!(rt;
+        nodes.reopen_throttle(high, low, &gone),
+        Err(Refused::NoGroup)
+    );
+    assert_eq!(rt; nodes.reopen_throttle(high, low, &group), Ok(()));
+    Ok(())
+}
