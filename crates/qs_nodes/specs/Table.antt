@@ -1,7 +1,6 @@
 -- The operations on nodes and groups: which answer may come, and what it leaves.
 use Rattle.std.specs.Prelude.{◌≡◌, ◌≢◌, ℕ, ◌+◌, ◌<◌, ◌≤◌, ◌⊎◌, Bool, List, [], ◌∷◌, ◌++◌, Option, Some, None, Result, Ok, Err, position, replicate}
 use Rattle.std.specs.List.{remove, slice_get, slice_set}
-use Rattle.qs_part.specs.declared.graph.User.{User}
 use Rattle.qs_part.specs.declared.graph.User.TheVariants.{Node as NodeUser, Export as ExportUser}
 use Rattle.qs_nodes.specs.declared.node.Kind.TheVariants.{File, Raw, Throttle}
 use Rattle.qs_nodes.specs.declared.node.Node.{Node}
