@@ -8,7 +8,7 @@ use Rattle.qs_replay_generated.specs.Making.{Counted}
 use Rattle.qs_replay_generated.specs.declared.counts.Counts.{Counts}
 
 pub steps_more : (calls more : List Call) → steps_in (calls ++ more) ≡ steps_in calls + steps_in more
-steps_more [] more = refl
+steps_more [] more = omega arith
 steps_more (c ∷ calls) more =
     let rest = steps_more calls more in
     omega (arith, rest)
@@ -19,7 +19,7 @@ answers_more (c ∷ calls) more =
     ap (λ (l : List Bool). answers_by c ++ l) (answers_more calls more) ∙ sym (append_assoc (answers_by c) (answers_in calls) (answers_in more))
 
 errors_join : (one two : List Bool) → errors_of (one ++ two) ≡ errors_of one + errors_of two
-errors_join [] two = refl
+errors_join [] two = omega arith
 errors_join (true ∷ one) two =
     let rest = errors_join one two in
     omega (arith, rest)

@@ -1,7 +1,8 @@
 ghost use Rattle.std.specs.Prelude.{◌≡◌, [], OnOk};
 ghost use Rattle.qs_generate.specs.Rounds.{Comes};
 ghost use Rattle.qs_replay_lines.specs.Numbers.{each};
-ghost use Rattle.qs_replay_generated.specs.Changes.{lives_after};
+ghost use Rattle.qs_replay_generated.specs.Changes.{lives_after, without};
+ghost use Rattle.qs_script.specs.Lines.{IsLineFault};
 ghost use Rattle.qs_replay_generated.specs.Making.{IsMade, LineDone, PlaysSome, RunMade, place};
 ghost use Rattle.qs_script.specs.declared.line.Line.{Line as ALine};
 
@@ -24,16 +25,39 @@ fn clear(alloc: Global, out: &mut Bytes)
     *out = Bytes::of(bytes);
 }
 
+/// The request with this cookie isn't live any more.
+fn forget(live: &mut Vec<LiveRequest>, cookie: u64)
+    ensures { live.new.items ≡ without live.old.items cookie }
+{
+    live.retain(|r| r.cookie != cookie);
+}
+
 /// The requests behind a line that brought this answer, or none.
 fn renew(live: &mut Vec<LiveRequest>, change: Change, ended: Option<bool>) -> Result<(), Memory>
     ensures { OnOk result (live.new.items ≡ lives_after live.old.items change (each ended)) }
 {
-    match change {
-        Change::Asks(request) => live.push(request)?,
-        Change::Drives(cookie) if ended.is_some() => live.retain(|r| r.cookie != cookie),
+    match (change, ended) {
+        (Change::Asks(request), _) => live.push(request)?,
+        (Change::Drives(cookie), Some(_)) => forget(live, cookie),
         _ => {}
     }
     Ok(())
+}
+
+/// A WRITE whose bytes found no memory is done without them.
+fn play_lost<D: RiggedDisk + Drop>(desk: &mut Desk<D>, fault: &LineFault) -> Result<LineTold, Stop>
+    ensures { (wanted : ALine) → IsLineFault (λ l. l ≡ wanted) fault.now → PlaysSome D.Disk.seen desk.old wanted result desk.new }
+{
+    match fault {
+        LineFault::NoBody {
+            session,
+            cookie,
+            offset,
+            length,
+            fua,
+        } => desk.write_lost(*session, *cookie, *offset, *length, *fua),
+        _ => Err(Stop::Memory),
+    }
 }
 
 /// A line that was made is done; of a WRITE whose bytes found no memory the request has none.
@@ -46,16 +70,7 @@ fn play_made<D: RiggedDisk + Drop>(
 {
     match made {
         Ok(line) => desk.play(line),
-        Err(
-            LineFault::NoBody {
-                session,
-                cookie,
-                offset,
-                length,
-                fua,
-            },
-        ) => desk.write_lost(session, cookie, offset, length, fua),
-        Err(_) => Err(Stop::Memory),
+        Err(fault) => play_lost(desk, &fault),
     }
 }
 
