@@ -1,15 +1,19 @@
 -- Lines of a run, one more behind the others.
 use Rattle.std.proofs.Common.{◌≡◌, ℕ, ◌+◌, ◌%◌, ◌^◌, List, [], ◌∷◌, ◌++◌, refl, sym, ap, ◌∙◌, subst, append_assoc, append-nil}
 use Rattle.std.specs.Prelude.{Option, Some, None, IfSome, Result, Ok, Err}
+use Rattle.std.specs.Result.{IsErrAnd}
 use Rattle.qs_outside.specs.Blocks.{Seen}
 use Rattle.qs_calls.specs.Calls.{Call}
-use Rattle.qs_generate.specs.Generated.{ComesIf, Made, made}
+use Rattle.qs_generate.specs.Generated.{ComesIf, Made, Makes, made}
+use Rattle.qs_generate.specs.Lives.{Generated}
 use Rattle.qs_generate.specs.Rounds.{Comes}
+use Rattle.qs_generate.specs.declared.live.LiveRequest.{LiveRequest}
 use Rattle.qs_script.specs.declared.line.Line.{Line}
 use Rattle.qs_script.specs.declared.line.LineFault.{LineFault}
 use Rattle.qs_replay_lines.specs.Effects.{IsPlanned}
 use Rattle.qs_replay_lines.specs.Numbers.{errors_in, steps_in}
-use Rattle.qs_replay_generated.specs.Making.{Counted, IsMade, LinesMade, MakesLine, Place, SoFar, calls_of}
+use Rattle.qs_replay_lines.specs.declared.stop.Stop.{Stop}
+use Rattle.qs_replay_generated.specs.Making.{BreaksAt, Counted, IsMade, LinesMade, MakesLine, Place, RunMade, SoFar, calls_of}
 use Rattle.qs_replay_generated.specs.declared.counts.Counts.{Counts}
 use Rattle.qs_replay_generated.proofs.Counting.{errors_more, one_line_more, steps_more}
 
@@ -53,14 +57,25 @@ next_of : (o : Option Line) (result : Result Line LineFault) → ComesIf o (Some
 next_of None result comes = absurd (cc)
 next_of (Some l) result comes = (l, (refl, comes))
 
-pub next : (m : Made) (r : Option (Result Line LineFault)) (result : Result Line LineFault) → r ≡ Some result → ComesIf m.0 r → Next m result
-next m r result is comes =
-    let n = next_of m.0 result (subst (λ (x : Option (Result Line LineFault)). ComesIf m.0 x) is comes) in
+pub next : (m : Made) (result : Result Line LineFault) → ComesIf m.0 (Some result) → Next m result
+next m result comes =
+    let n = next_of m.0 result comes in
     record { line = n.0; is = n.1.0; comes = n.1.1 }
 
 pub is_made : (m : Made) (result : Result Line LineFault) → IfSome m.0 IsPlanned → Next m result → IsMade result
 is_made m result plain n = (n.line, (subst (λ (o : Option Line). IfSome o IsPlanned) n.is plain, n.comes))
 
-pub ended : (o : Option Line) (r : Option (Result Line LineFault)) → r ≡ None → ComesIf o r → o ≡ None
-ended None r is comes = refl
-ended (Some l) r is comes = absurd (subst (λ (x : Option (Result Line LineFault)). ComesIf (Some l) x) is comes)
+-- no line comes
+pub ended : (o : Option Line) → ComesIf o None → o ≡ None
+ended None comes = refl
+ended (Some l) comes = absurd comes
+
+-- what comes, by the same live requests
+pub by_live : (g new : Generated) (live same : List LiveRequest) (r : Option (Result Line LineFault)) → live ≡ same → Makes (made g live) r new → Makes (made g same) r new
+by_live g new live same r is makes = subst (λ (l : List LiveRequest). Makes (made g l) r new) is makes
+
+-- a run that ended sooner
+pub breaks : {D : Type 0} (seen : D → Seen) (a mid b : Place D) (before counts : Counts) (s : Stop) (r : Result Unit Stop) → IsErrAnd r (λ e. e ≡ s) →
+    SoFar seen a mid before → BreaksAt seen mid s b.world → RunMade seen a r b counts
+breaks seen a mid b before counts s (Ok u) is so at = absurd is
+breaks seen a mid b before counts s (Err e) is so at = (mid, before, (so, subst (λ (x : Stop). BreaksAt seen mid x b.world) (sym is) at))

@@ -37,4 +37,4 @@ pub left_behind : {D : Type 0} (seen : D → Seen) (old played new : Desk D) (l 
     (r : Result Unit Stop) → IsErrAnd r (λ e. e ≡ stop.Memory) → Played seen old l lost told played → new.world ≡ played.world → LineDone seen old live c l r new live' c'
 left_behind {D} seen old played new l lost told live live' c c' r is p same =
     left_as seen old new l live live' c c' stop.Memory r is
-    (p.calls, (subst (λ w. Plays seen old.world p.calls w) (sym same) p.is.plays, inr (lost, (p.text, (played.table, p.is.does)))))
+    (p.calls, (subst (λ w. Plays seen old.world p.calls w) (sym same) p.is.plays, inr (lost, p.text, played.table, p.is.does)))

@@ -90,7 +90,7 @@ pub record SoFar {D : Type 0} (seen : D → Seen) (a : Place D) (b : Place D) (c
   pub errors : counts.errors ≡ errors_in (calls_of lines) % 2 ^ 64
   pub steps : counts.steps ≡ steps_in (calls_of lines) % 2 ^ 64
 
--- A whole run, to the end of its rounds; or one up to a line that wasn't done.
+-- A whole run, to the end of its rounds, where no line comes; or one up to a line that wasn't done.
 abbrev pub RunMade : {D : Type 0} → (D → Seen) → Place D → Result Unit Stop → Place D → Counts → Type 0
-RunMade seen a (Ok u) b counts = SoFar seen a b counts × ((made b.run b.live).0 ≡ None)
+RunMade seen a (Ok u) b counts = (run : Generated) × (SoFar seen a (record b { run = run }) counts × ((made run b.live).0 ≡ None))
 RunMade seen a (Err s) b counts = (mid : Place _) × (before : Counts) × (SoFar seen a mid before × BreaksAt seen mid s b.world)
