@@ -5,6 +5,7 @@ use Rattle.qs_script.specs.Lines.{Reads}
 use Rattle.qs_script.specs.declared.line.Line.{Line}
 use Rattle.qs_replay_lines.specs.declared.desk.Desk.{Desk}
 use Rattle.qs_replay_lines.specs.declared.stop.Stop.{Stop}
+use Rattle.qs_replay_lines.specs.declared.told.LineTold.{LineTold}
 use Rattle.qs_replay_lines.specs.Effects.{PlaysLine}
 use Rattle.qs_outside.specs.Blocks.{Seen}
 use Rattle.qs_status.specs.declared.status.Status.{Status}
@@ -22,7 +23,7 @@ use Rattle.qs_stream.specs.Bytes.{Gives}
 use Rattle.qs_stream.specs.Flows.{Flow, Moved, Proceeds, Puts, Side}
 use Rattle.qs_stream.proofs.Moves.{moved_none, moved_on}
 use Rattle.qs_replay.specs.Readings.{AllSent, IsText}
-use Rattle.qs_replay.specs.Scripts.{AllDone, DoesText, Ends, Finishes, IsFront, PlaysText, Replays, Scene, SoFar, Turns}
+use Rattle.qs_replay.specs.Scripts.{AllDone, DoesText, Ends, Finishes, IsFront, PlaysText, Replays, Scene, SoFar, Turns, done_of}
 use Rattle.qs_replay.specs.Scripts.{is_silent, is_whole, side_of, spelled, status_of}
 use Rattle.qs_replay.proofs.Coming.{all_sent_on}
 use Rattle.qs_replay.proofs.Turning.{open_reads, put_reads}
@@ -350,13 +351,18 @@ module _ {D : Type 0} (seen : D → Seen) (a c : Scene D) (budget : ℕ) (before
   }
 
 -- the text of a line and what the line did
-pub plays_text_of : {D : Type 0} (seen : D → Seen) (old : Desk D) (text : List ℕ) (l : Line) (lost : Bool) (result : Result Unit Stop) (new : Desk D) → Reads text l →
-    PlaysLine seen old l lost result new → PlaysText seen old text result new
-plays_text_of seen old text l lost (Ok u) new reads played =
+plays_done : {D : Type 0} (seen : D → Seen) (old : Desk D) (text : List ℕ) (l : Line) (lost : Bool) (played : Result LineTold Stop) (new : Desk D) → Reads text l →
+    PlaysLine seen old l lost played new → PlaysText seen old text (done_of played) new
+plays_done seen old text l lost (Ok told) new reads played =
     (played.calls, played.text, (record { line = l; lost = lost; reads = reads; is = played.is }, played.printed))
-plays_text_of seen old text l lost (Err stop.BadLine) new reads s =
+plays_done seen old text l lost (Err stop.BadLine) new reads s =
     (record { calls = []; plays = s.1; why = (refl, inr (inr (l, (reads, s.0)))) }, s.2)
-plays_text_of seen old text l lost (Err stop.NotNext) new reads s =
+plays_done seen old text l lost (Err stop.NotNext) new reads s =
     (record { calls = []; plays = s.2; why = (refl, (l, (reads, s.1, s.0))) }, s.3)
-plays_text_of seen old text l lost (Err stop.Memory) new reads s =
+plays_done seen old text l lost (Err stop.Memory) new reads s =
     (record { calls = s.0; plays = s.1.1; why = (l, (reads, s.1.0)) }, s.1.2)
+
+pub plays_text_of : {D : Type 0} (seen : D → Seen) (old : Desk D) (text : List ℕ) (l : Line) (lost : Bool) (played : Result LineTold Stop) (result : Result Unit Stop)
+    (new : Desk D) → result ≡ done_of played → Reads text l → PlaysLine seen old l lost played new → PlaysText seen old text result new
+plays_text_of seen old text l lost played result new is reads plays =
+    subst (λ (r : Result Unit Stop). PlaysText seen old text r new) (sym is) (plays_done seen old text l lost played new reads plays)

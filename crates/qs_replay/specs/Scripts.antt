@@ -14,6 +14,7 @@ use Rattle.qs_stream.specs.Flows.{Flow, Moved, Puts, Side, flow as stream_flow}
 use Rattle.qs_world.specs.Values.{WorldValue}
 use Rattle.qs_replay_lines.specs.declared.desk.Desk.{Desk}
 use Rattle.qs_replay_lines.specs.declared.stop.Stop.{Stop}
+use Rattle.qs_replay_lines.specs.declared.told.LineTold.{LineTold}
 use Rattle.qs_replay_lines.specs.declared.stop.Stop.TheVariants as stop
 use Rattle.qs_replay.specs.declared.replay.Turn.{Turn}
 use Rattle.qs_replay.specs.declared.replay.Turn.TheVariants as turn
@@ -49,6 +50,11 @@ pub record LeavesText {D : Type 0} (seen : D → Seen) (w : WorldValue D) (t : N
   pub calls : List Call
   pub plays : Plays seen w calls w'
   pub why : Why w t text s calls
+
+-- what came of a line, without its numbers
+abbrev pub done_of : Result LineTold Stop → Result Unit Stop
+done_of (Ok told) = Ok tt
+done_of (Err s) = Err s
 
 -- at a desk
 abbrev pub PlaysText : {D : Type 0} → (D → Seen) → Desk D → List ℕ → Result Unit Stop → Desk D → Type 0

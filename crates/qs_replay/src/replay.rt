@@ -2,12 +2,12 @@ ghost use Rattle.std.specs.Prelude.{◌≡◌, ◌<◌, ◌-◌, ◌^◌, [], Li
 ghost use Rattle.qs_script.specs.Lines.{IsLineFault, Reads};
 ghost use Rattle.qs_stream.specs.declared.state.State.TheVariants.{Open};
 ghost use Rattle.qs_stream.specs.Flows.{Puts, side};
-ghost use Rattle.qs_replay.specs.Scripts.{Finishes, PlaysText, PutsText, Replays, Turns, fault_turn, is_silent as the_silent, scene, status_of};
+ghost use Rattle.qs_replay.specs.Scripts.{Finishes, PlaysText, PutsText, Replays, Turns, done_of, fault_turn, is_silent as the_silent, scene, status_of};
 
 use crate::lines::{Came, next_line};
 use qs_bytes::Bytes;
 use qs_outside::{RiggedDisk, Sink, Source};
-use qs_replay_lines::{Desk, Stop};
+use qs_replay_lines::{Desk, LineTold, Stop};
 use qs_script::{LineCutter, LineFault, read_line};
 use qs_status::Status;
 use qs_stream::{State, Stream};
@@ -29,6 +29,16 @@ pub enum Turn {
     WriteFault,
 }
 
+/// What came of a line, without its numbers.
+fn done(played: Result<LineTold, Stop>) -> Result<(), Stop>
+    ensures { result ≡ done_of played }
+{
+    match played {
+        Ok(_) => Ok(()),
+        Err(stop) => Err(stop),
+    }
+}
+
 /// A text that isn't read as a line: it spells none, or a WRITE or a crash for which memory was refused.
 fn play_fault<D: RiggedDisk + Drop>(desk: &mut Desk<D>, fault: &LineFault) -> Result<(), Stop>
     ensures { (text : List ℕ) → IsLineFault (Reads text) fault.now → PlaysText D.Disk.seen desk.old text result desk.new }
@@ -41,7 +51,7 @@ fn play_fault<D: RiggedDisk + Drop>(desk: &mut Desk<D>, fault: &LineFault) -> Re
             offset,
             length,
             fua,
-        } => desk.write_lost(*session, *cookie, *offset, *length, *fua),
+        } => done(desk.write_lost(*session, *cookie, *offset, *length, *fua)),
         LineFault::NoPicks => Err(Stop::Memory),
     }
 }
@@ -51,7 +61,7 @@ fn play_text<D: RiggedDisk + Drop>(desk: &mut Desk<D>, text: &[u8]) -> Result<()
     ensures { PlaysText D.Disk.seen desk.old text.now result desk.new }
 {
     match read_line(desk.alloc, text) {
-        Ok(line) => desk.play(line),
+        Ok(line) => done(desk.play(line)),
         Err(fault) => play_fault(desk, &fault),
     }
 }

@@ -1,5 +1,5 @@
 -- A line of one event was done, or memory was refused behind the event.
-use Rattle.std.proofs.Common.{◌≡◌, ℕ, List, [], ◌∷◌, ◌++◌, false, refl}
+use Rattle.std.proofs.Common.{◌≡◌, ℕ, ◌%◌, ◌^◌, List, [], ◌∷◌, ◌++◌, length, false, refl}
 use Rattle.qs_outside.specs.Blocks.{Seen}
 use Rattle.qs_part.specs.declared.event.Actor.{Actor}
 use Rattle.qs_part.specs.declared.event.Event.TheVariants as event
@@ -14,12 +14,15 @@ use Rattle.qs_calls.specs.Calls.{Call, Happened, Plays}
 use Rattle.qs_replay_lines.specs.Effects.{IsActor, Played, Settles, Stopped, news_of, run_text, step_text}
 use Rattle.qs_calls.specs.Goings.{RunsOut}
 use Rattle.qs_replay_lines.specs.Tables.{Gives, Names}
+use Rattle.qs_replay_lines.specs.Numbers.{Tells, ended_by, quiet}
+use Rattle.qs_replay_lines.specs.declared.told.LineTold.{LineTold}
+use Rattle.qs_replay_lines.proofs.Numbers.{quiet_tells, run_tells, step_tells}
 use Rattle.qs_replay_lines.proofs.Playing.{stopped_cut}
 
 pub attach_played : {D : Type 0} (seen : D → Seen) (old : Desk D) (s e : List ℕ) (new : Desk D) (n : ℕ) (o : Outcome) (mid : Names) → Gives old.table s n mid →
     Plays seen old.world (Happened (event.Attach n e) o ∷ []) new.world → new.table ≡ mid → new.out ≡ old.out ++ session_line s (news_of o) →
-    Played seen old (line.Session s e) false new
-attach_played seen old s e new n o mid gives plays table out = record {
+    (told : LineTold) → told ≡ quiet → Played seen old (line.Session s e) false told new
+attach_played seen old s e new n o mid gives plays table out told told_is = record {
   calls = Happened (event.Attach n e) o ∷ [];
   text = session_line s (news_of o);
   is = record {
@@ -35,12 +38,13 @@ attach_played seen old s e new n o mid gives plays table out = record {
     };
   };
   printed = out;
+  tells = quiet_tells (Happened (event.Attach n e) o ∷ []) told told_is refl refl;
 }
 
 pub end_played : {D : Type 0} (seen : D → Seen) (old : Desk D) (s : List ℕ) (new : Desk D) (n : ℕ) (o : Outcome) (mid : Names) → Gives old.table s n mid →
     Plays seen old.world (Happened (event.Leave n) o ∷ []) new.world → new.table ≡ mid → new.out ≡ old.out ++ session_line s news.Left →
-    Played seen old (line.End s) false new
-end_played seen old s new n o mid gives plays table out = record {
+    (told : LineTold) → told ≡ quiet → Played seen old (line.End s) false told new
+end_played seen old s new n o mid gives plays table out told told_is = record {
   calls = Happened (event.Leave n) o ∷ [];
   text = session_line s news.Left;
   is = record {
@@ -56,12 +60,14 @@ end_played seen old s new n o mid gives plays table out = record {
     };
   };
   printed = out;
+  tells = quiet_tells (Happened (event.Leave n) o ∷ []) told told_is refl refl;
 }
 
 pub step_played : {D : Type 0} (seen : D → Seen) (old : Desk D) (who : ScriptActor) (now : ℕ) (new : Desk D) (a : Actor) (o : Outcome) (mid : Names) →
     IsActor old.table who a mid → Plays seen old.world (Happened (event.Step a now) o ∷ []) new.world → Settles who o mid new.table →
-    new.out ≡ old.out ++ step_text who o → Played seen old (line.Step who now) false new
-step_played seen old who now new a o mid is plays table out = record {
+    new.out ≡ old.out ++ step_text who o → (told : LineTold) → told ≡ record { steps = 1; ended = ended_by o } →
+    Played seen old (line.Step who now) false told new
+step_played seen old who now new a o mid is plays table out told told_is = record {
   calls = Happened (event.Step a now) o ∷ [];
   text = step_text who o;
   is = record {
@@ -77,12 +83,14 @@ step_played seen old who now new a o mid is plays table out = record {
     };
   };
   printed = out;
+  tells = step_tells a now o told told_is;
 }
 
 pub run_played : {D : Type 0} (seen : D → Seen) (old : Desk D) (who : ScriptActor) (now : ℕ) (new : Desk D) (a : Actor) (o : Outcome) (mid : Names) (calls : List Call) →
     IsActor old.table who a mid → Plays seen old.world calls new.world → RunsOut (event.Step a now) calls o → Settles who o mid new.table →
-    new.out ≡ old.out ++ run_text who o → Played seen old (line.Run who now) false new
-run_played seen old who now new a o mid calls is plays out table printed = record {
+    new.out ≡ old.out ++ run_text who o → (told : LineTold) (count : ℕ) →
+    count ≡ length calls % 2 ^ 64 → told ≡ record { steps = count; ended = ended_by o } → Played seen old (line.Run who now) false told new
+run_played seen old who now new a o mid calls is plays out table printed told count counted told_is = record {
   calls = calls;
   text = run_text who o;
   is = record {
@@ -98,6 +106,7 @@ run_played seen old who now new a o mid calls is plays out table printed = recor
     };
   };
   printed = printed;
+  tells = run_tells a now o calls told count out counted told_is;
 }
 
 pub attach_cut : {D : Type 0} (seen : D → Seen) (old : Desk D) (s e : List ℕ) (new : Desk D) (n : ℕ) (o : Outcome) (mid : Names) → Gives old.table s n mid →

@@ -1,3 +1,4 @@
+pub mod Numbers
 pub mod Playing
 pub mod Happening
 pub mod Known

@@ -21,6 +21,9 @@ use Rattle.qs_calls.specs.Calls.{Call, Happened, Plays}
 use Rattle.qs_replay_lines.specs.Tables.{Gives, IsKnown, IsUsed, Names, adds}
 use Rattle.qs_replay_lines.specs.Effects.{IsActor, AreFirst, AskedBy, IsAsked, IsEventOf, Played, PlaysLine, Stopped, UsesAgain, WasUsed}
 use Rattle.qs_calls.specs.Goings.{GoesOn, goes_on}
+use Rattle.qs_replay_lines.specs.Numbers.{quiet}
+use Rattle.qs_replay_lines.specs.declared.told.LineTold.{LineTold}
+use Rattle.qs_replay_lines.proofs.Numbers.{quiet_tells}
 use Rattle.qs_replay_lines.specs.Effects.{bytes_or, flush_ask, trim_ask, write_ask, zero_ask}
 
 -- nothing happened, and nothing was printed
@@ -45,9 +48,9 @@ pub stopped_cut : {D : Type 0} (seen : D → Seen) (old : Desk D) (l : Line) (ne
 stopped_cut seen old l new calls made mid lost is first plays out = (calls, (inr (inl (made, mid, lost, (is, first))), plays, out))
 
 -- what a function that ends at a `?` answers
-pub stops : {D : Type 0} (seen : D → Seen) (old : Desk D) (l : Line) (lost : Bool) (s : Stop) (r : Result Unit Stop) (new : Desk D) →
+pub stops : {D : Type 0} (seen : D → Seen) (old : Desk D) (l : Line) (lost : Bool) (s : Stop) (r : Result LineTold Stop) (new : Desk D) →
     IsErrAnd r (λ e. e ≡ s) → Stopped seen old l s new → PlaysLine seen old l lost r new
-stops seen old l lost s (Ok u) new is stopped = absurd is
+stops seen old l lost s (Ok told) new is stopped = absurd is
 stops seen old l lost s (Err e) new is stopped = subst (λ (x : Stop). Stopped seen old l x new) (sym is) stopped
 
 -- a session asks so
@@ -174,8 +177,8 @@ pub asks_played : {D : Type 0} (seen : D → Seen) (old : Desk D) (l : Line) (lo
     (body : Option (List ℕ)) → IsAsked l lost session ask body → Gives old.table session n mid → (IsUsed mid n ask.cookie → ⊥) →
     Plays seen old.world (Happened (event.Ask n ask body) (Made r) ∷ []) new.world →
     new.table ≡ adds mid n ask.cookie r →
-    new.out ≡ old.out → Played seen old l lost new
-asks_played seen old (line.Read s c offset long) lost new n r mid session ask body is gives fresh plays table out = record {
+    new.out ≡ old.out → (told : LineTold) → told ≡ quiet → Played seen old l lost told new
+asks_played seen old (line.Read s c offset long) lost new n r mid session ask body is gives fresh plays table out told told_is = record {
   calls = Happened (event.Ask n ask body) (Made r) ∷ [];
   text = [];
   is = record {
@@ -191,8 +194,9 @@ asks_played seen old (line.Read s c offset long) lost new n r mid session ask bo
     };
   };
   printed = out ∙ sym (append-nil old.out);
+  tells = quiet_tells (Happened (event.Ask n ask body) (Made r) ∷ []) told told_is refl refl;
 }
-asks_played seen old (line.Write s c offset bytes fua) lost new n r mid session ask body is gives fresh plays table out = record {
+asks_played seen old (line.Write s c offset bytes fua) lost new n r mid session ask body is gives fresh plays table out told told_is = record {
   calls = Happened (event.Ask n ask body) (Made r) ∷ [];
   text = [];
   is = record {
@@ -208,8 +212,9 @@ asks_played seen old (line.Write s c offset bytes fua) lost new n r mid session 
     };
   };
   printed = out ∙ sym (append-nil old.out);
+  tells = quiet_tells (Happened (event.Ask n ask body) (Made r) ∷ []) told told_is refl refl;
 }
-asks_played seen old (line.Zero s c offset long fua) lost new n r mid session ask body is gives fresh plays table out = record {
+asks_played seen old (line.Zero s c offset long fua) lost new n r mid session ask body is gives fresh plays table out told told_is = record {
   calls = Happened (event.Ask n ask body) (Made r) ∷ [];
   text = [];
   is = record {
@@ -225,8 +230,9 @@ asks_played seen old (line.Zero s c offset long fua) lost new n r mid session as
     };
   };
   printed = out ∙ sym (append-nil old.out);
+  tells = quiet_tells (Happened (event.Ask n ask body) (Made r) ∷ []) told told_is refl refl;
 }
-asks_played seen old (line.Trim s c offset long) lost new n r mid session ask body is gives fresh plays table out = record {
+asks_played seen old (line.Trim s c offset long) lost new n r mid session ask body is gives fresh plays table out told told_is = record {
   calls = Happened (event.Ask n ask body) (Made r) ∷ [];
   text = [];
   is = record {
@@ -242,8 +248,9 @@ asks_played seen old (line.Trim s c offset long) lost new n r mid session ask bo
     };
   };
   printed = out ∙ sym (append-nil old.out);
+  tells = quiet_tells (Happened (event.Ask n ask body) (Made r) ∷ []) told told_is refl refl;
 }
-asks_played seen old (line.Flush s c) lost new n r mid session ask body is gives fresh plays table out = record {
+asks_played seen old (line.Flush s c) lost new n r mid session ask body is gives fresh plays table out told told_is = record {
   calls = Happened (event.Ask n ask body) (Made r) ∷ [];
   text = [];
   is = record {
@@ -259,14 +266,15 @@ asks_played seen old (line.Flush s c) lost new n r mid session ask body is gives
     };
   };
   printed = out ∙ sym (append-nil old.out);
+  tells = quiet_tells (Happened (event.Ask n ask body) (Made r) ∷ []) told told_is refl refl;
 }
-asks_played seen old line.Nothing lost new n r mid session ask body is gives fresh plays table out = absurd is
-asks_played seen old (line.Session s e) lost new n r mid session ask body is gives fresh plays table out = absurd is
-asks_played seen old (line.End s) lost new n r mid session ask body is gives fresh plays table out = absurd is
-asks_played seen old (line.Step a now) lost new n r mid session ask body is gives fresh plays table out = absurd is
-asks_played seen old (line.Run a now) lost new n r mid session ask body is gives fresh plays table out = absurd is
-asks_played seen old (line.Fail j k) lost new n r mid session ask body is gives fresh plays table out = absurd is
-asks_played seen old (line.Crash choice) lost new n r mid session ask body is gives fresh plays table out = absurd is
+asks_played seen old line.Nothing lost new n r mid session ask body is gives fresh plays table out told told_is = absurd is
+asks_played seen old (line.Session s e) lost new n r mid session ask body is gives fresh plays table out told told_is = absurd is
+asks_played seen old (line.End s) lost new n r mid session ask body is gives fresh plays table out told told_is = absurd is
+asks_played seen old (line.Step a now) lost new n r mid session ask body is gives fresh plays table out told told_is = absurd is
+asks_played seen old (line.Run a now) lost new n r mid session ask body is gives fresh plays table out told told_is = absurd is
+asks_played seen old (line.Fail j k) lost new n r mid session ask body is gives fresh plays table out told told_is = absurd is
+asks_played seen old (line.Crash choice) lost new n r mid session ask body is gives fresh plays table out told told_is = absurd is
 
 -- a run couldn't begin
 pub stopped_run : {D : Type 0} (seen : D → Seen) (old : Desk D) (a : ScriptActor) (now : ℕ) (s : Stop) (new : Desk D) (actor : Actor) (mid : Names) →

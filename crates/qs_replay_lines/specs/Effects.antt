@@ -29,7 +29,9 @@ use Rattle.qs_outside.specs.declared.crash.CrashChoice.{CrashChoice}
 use Rattle.qs_part.specs.declared.graph.GraphOp.{GraphOp}
 use Rattle.qs_calls.specs.Calls.{Call, Happened, Rigged, PowerFailed, ExportMade, Plays}
 use Rattle.qs_calls.specs.Goings.{GoesOn, RunsOut}
+use Rattle.qs_replay_lines.specs.Numbers.{Tells}
 use Rattle.qs_replay_lines.specs.Tables.{Gives, IsKnown, IsUsed, Names, adds, settled}
+use Rattle.qs_replay_lines.specs.declared.told.LineTold.{LineTold}
 
 abbrev pub read_ask : ℕ → ℕ → ℕ → Ask
 read_ask cookie offset length = record { kind = kind.Read; fua = false; flags_fit = true; cookie = cookie; offset = offset; length = length }
@@ -182,12 +184,13 @@ pub record IsPlayed {D : Type 0} (seen : D → Seen) (w : WorldValue D) (t : Nam
   pub plays : Plays seen w calls w'
   pub does : Does t l lost calls text t'
 
--- at a desk
-pub record Played {D : Type 0} (seen : D → Seen) (old : Desk D) (l : Line) (lost : Bool) (new : Desk D) : Type 0 where
+-- at a desk, and told in numbers
+pub record Played {D : Type 0} (seen : D → Seen) (old : Desk D) (l : Line) (lost : Bool) (told : LineTold) (new : Desk D) : Type 0 where
   pub calls : List Call
   pub text : List ℕ
   pub is : IsPlayed seen old.world old.table l lost calls text new.world new.table
   pub printed : new.out ≡ old.out ++ text
+  pub tells : Tells calls told
 
 -- the cookie was used with the name of a session
 abbrev pub WasUsed : Names → List ℕ → ℕ → Type 0
@@ -242,8 +245,8 @@ Stopped seen old l stop.NotNext new =
 Stopped seen old l stop.Memory new =
     (calls : List Call) × (IsCut old.table l calls × Plays seen old.world calls new.world × (new.out ≡ old.out))
 
-abbrev pub PlaysLine : {D : Type 0} → (D → Seen) → Desk D → Line → Bool → Result Unit Stop → Desk D → Type 0
-PlaysLine seen old l lost (Ok u) new = Played seen old l lost new
+abbrev pub PlaysLine : {D : Type 0} → (D → Seen) → Desk D → Line → Bool → Result LineTold Stop → Desk D → Type 0
+PlaysLine seen old l lost (Ok told) new = Played seen old l lost told new
 PlaysLine seen old l lost (Err s) new = Stopped seen old l s new
 
 -- the line asks so, with this body

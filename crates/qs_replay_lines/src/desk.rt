@@ -1,4 +1,4 @@
-ghost use Rattle.std.specs.Prelude.{◌≡◌, ◌↔◌, ◌++◌, ◌∷◌, [], All, ℕ, List, Err, IfOk, IfSome, OnOk, OnErr, MatchResult, ◌<◌, length as list_length, true};
+ghost use Rattle.std.specs.Prelude.{◌≡◌, ◌↔◌, ◌++◌, ◌∷◌, [], All, ℕ, List, Err, IfOk, IfSome, OnOk, OnErr, MatchResult, ◌<◌, ◌%◌, ◌^◌, length as list_length, true};
 ghost use Rattle.qs_part.specs.declared.event.Event.TheVariants.{Step as AStep};
 ghost use Rattle.qs_script.specs.declared.line.Line.TheVariants as line;
 ghost use Rattle.qs_world.specs.Events.{IsNotNext, TakesMemory};
@@ -10,7 +10,7 @@ ghost use Rattle.qs_replay_lines.specs.declared.stop.Stop.TheVariants.{NotNext, 
 use crate::stop::Stop;
 use crate::table::Table;
 use qs_bytes::{Bytes, MAX_PAYLOAD, Memory, Verdict};
-use qs_calls::run_out;
+use qs_calls::{StepsMade, run_counted};
 use qs_outside::Disk;
 use qs_part::event::{Actor, Event, Note, Outcome};
 use qs_script::{ScriptActor, put_answer, put_step};
@@ -41,19 +41,20 @@ pub fn happen<D: Disk + Drop>(world: &mut World<D>, event: Event) -> Result<Outc
     }
 }
 
-/// An actor's steps, up to an answer, a Detach, or a step that leaves it as it was; the outcome of the
-/// last one.
+/// An actor's steps, up to an answer, a Detach, or a step that leaves it as it was: the outcome of the
+/// last one, and how many they are.
 pub fn run_all<D: Disk + Drop>(
     world: &mut World<D>,
     actor: Actor,
     now: u64,
-) -> Result<Outcome, Stop>
-    ensures ok { IfOk result (λ last. (calls : List Call) × (Plays D.seen world.old calls world.new × RunsOut (AStep actor now) calls last)) }
+) -> Result<StepsMade, Stop>
+    ensures ok { IfOk result (λ made. (calls : List Call) × (Plays D.seen world.old calls world.new × RunsOut (AStep actor now) calls made.last ×
+        (made.count ≡ list_length calls % 2 ^ 64))) }
     ensures next { OnErr result (IsNotNext world.old (AStep actor now) × (world.new ≡ world.old)) }
     ensures only { (result ≡ Err BadLine → ⊥) × (result ≡ Err NoMemory → ⊥) }
 {
-    match run_out(world, actor, now) {
-        Some(outcome) => Ok(outcome),
+    match run_counted(world, actor, now) {
+        Some(made) => Ok(made),
         None => Err(Stop::NotNext),
     }
 }

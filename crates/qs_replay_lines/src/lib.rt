@@ -5,7 +5,9 @@ mod desk;
 mod play;
 mod stop;
 mod table;
+mod told;
 
 pub use desk::{Desk, Found, actor_for, happen};
 pub use stop::Stop;
 pub use table::Table;
+pub use told::LineTold;

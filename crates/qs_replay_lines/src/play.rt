@@ -5,6 +5,7 @@ ghost use Rattle.qs_replay_lines.specs.Effects.{IsAsked, IsPlanned, PlaysLine, n
 
 use crate::desk::{Desk, actor_for, happen, lost_bytes, room_for, run_all, run_lines, step_lines};
 use crate::stop::Stop;
+use crate::told::{LineTold, ending_of, quiet};
 use qs_bytes::{Ask, Bytes, Kind, Name};
 use qs_outside::{CrashChoice, Disk, Fail, RiggedDisk};
 use qs_part::event::{Event, Outcome};
@@ -26,7 +27,7 @@ fn ask_of(kind: Kind, fua: bool, cookie: u64, offset: u64, length: u64) -> Ask
 
 impl<D: Disk + Drop> Desk<D> {
     /// `session S EXPORT`
-    pub fn attach(&mut self, session: SessionName, export: Name) -> Result<(), Stop>
+    pub fn attach(&mut self, session: SessionName, export: Name) -> Result<LineTold, Stop>
         ensures { PlaysLine D.seen self.old (line.Session session export) false result self.new }
     {
         let number = self.table.number(session)?;
@@ -36,21 +37,21 @@ impl<D: Disk + Drop> Desk<D> {
         };
         let outcome = happen(&mut self.world, event)?;
         put_session(self.alloc, &mut self.out, session, news_of(&outcome))?;
-        Ok(())
+        Ok(quiet())
     }
 
     /// `end S`
-    pub fn end(&mut self, session: SessionName) -> Result<(), Stop>
+    pub fn end(&mut self, session: SessionName) -> Result<LineTold, Stop>
         ensures { PlaysLine D.seen self.old (line.End session) false result self.new }
     {
         let number = self.table.number(session)?;
         happen(&mut self.world, Event::Leave { session: number })?;
         put_session(self.alloc, &mut self.out, session, SessionNews::Left)?;
-        Ok(())
+        Ok(quiet())
     }
 
     /// A session asks for something, by the line of a request.
-    fn ask(&mut self, session: SessionName, ask: Ask, body: Option<Bytes>) -> Result<(), Stop>
+    fn ask(&mut self, session: SessionName, ask: Ask, body: Option<Bytes>) -> Result<LineTold, Stop>
         ensures { (l : ALine) (lost : Bool) → IsAsked l lost session ask body → PlaysLine D.seen self.old l lost result self.new }
     {
         let number = self.table.number(session)?;
@@ -67,7 +68,7 @@ impl<D: Disk + Drop> Desk<D> {
             _ => unreachable!(),
         };
         self.table.make(number, ask.cookie, request)?;
-        Ok(())
+        Ok(quiet())
     }
 
     /// `read S C OFFSET LENGTH`
@@ -77,7 +78,7 @@ impl<D: Disk + Drop> Desk<D> {
         cookie: u64,
         offset: u64,
         length: u64,
-    ) -> Result<(), Stop>
+    ) -> Result<LineTold, Stop>
         ensures { PlaysLine D.seen self.old (line.Read session cookie offset length) false result self.new }
     {
         let body = room_for(self.alloc, length);
@@ -93,7 +94,7 @@ impl<D: Disk + Drop> Desk<D> {
         offset: u64,
         body: Bytes,
         fua: bool,
-    ) -> Result<(), Stop>
+    ) -> Result<LineTold, Stop>
         ensures { PlaysLine D.seen self.old (line.Write session cookie offset body fua) false result self.new }
     {
         let ask = ask_of(Kind::Write, fua, cookie, offset, body.len() as u64);
@@ -108,7 +109,7 @@ impl<D: Disk + Drop> Desk<D> {
         offset: u64,
         length: u64,
         fua: bool,
-    ) -> Result<(), Stop>
+    ) -> Result<LineTold, Stop>
         ensures { (bytes : List ℕ) → list_length bytes ≡ length →
             PlaysLine D.seen self.old (line.Write session cookie offset bytes fua) true result self.new }
     {
@@ -125,7 +126,7 @@ impl<D: Disk + Drop> Desk<D> {
         offset: u64,
         length: u64,
         fua: bool,
-    ) -> Result<(), Stop>
+    ) -> Result<LineTold, Stop>
         ensures { PlaysLine D.seen self.old (line.Zero session cookie offset length fua) false result self.new }
     {
         let ask = ask_of(Kind::Zero, fua, cookie, offset, length);
@@ -139,7 +140,7 @@ impl<D: Disk + Drop> Desk<D> {
         cookie: u64,
         offset: u64,
         length: u64,
-    ) -> Result<(), Stop>
+    ) -> Result<LineTold, Stop>
         ensures { PlaysLine D.seen self.old (line.Trim session cookie offset length) false result self.new }
     {
         let ask = ask_of(Kind::Trim, false, cookie, offset, length);
@@ -147,14 +148,14 @@ impl<D: Disk + Drop> Desk<D> {
     }
 
     /// `flush S C`
-    pub fn flush(&mut self, session: SessionName, cookie: u64) -> Result<(), Stop>
+    pub fn flush(&mut self, session: SessionName, cookie: u64) -> Result<LineTold, Stop>
         ensures { PlaysLine D.seen self.old (line.Flush session cookie) false result self.new }
     {
         self.ask(session, ask_of(Kind::Flush, false, cookie, 0, 0), None)
     }
 
     /// `step ACTOR [READING]`
-    pub fn step(&mut self, who: &ScriptActor, now: u64) -> Result<(), Stop>
+    pub fn step(&mut self, who: &ScriptActor, now: u64) -> Result<LineTold, Stop>
         ensures { PlaysLine D.seen self.old (line.Step who.now now) false result self.new }
     {
         let found = actor_for(&mut self.table, who)?;
@@ -166,19 +167,25 @@ impl<D: Disk + Drop> Desk<D> {
         let text = step_lines(self.alloc, who, &outcome)?;
         self.out.append(text.as_slice())?;
         self.table.settle(found.key, &outcome);
-        Ok(())
+        Ok(LineTold {
+            steps: 1,
+            ended: ending_of(&outcome),
+        })
     }
 
     /// `run ACTOR [READING]`
-    pub fn run(&mut self, who: &ScriptActor, now: u64) -> Result<(), Stop>
+    pub fn run(&mut self, who: &ScriptActor, now: u64) -> Result<LineTold, Stop>
         ensures { PlaysLine D.seen self.old (line.Run who.now now) false result self.new }
     {
         let found = actor_for(&mut self.table, who)?;
-        let outcome = run_all(&mut self.world, found.actor, now)?;
-        let text = run_lines(self.alloc, who, &outcome)?;
+        let made = run_all(&mut self.world, found.actor, now)?;
+        let text = run_lines(self.alloc, who, &made.last)?;
         self.out.append(text.as_slice())?;
-        self.table.settle(found.key, &outcome);
-        Ok(())
+        self.table.settle(found.key, &made.last);
+        Ok(LineTold {
+            steps: made.count,
+            ended: ending_of(&made.last),
+        })
     }
 }
 
@@ -196,16 +203,16 @@ fn news_of(outcome: &Outcome) -> SessionNews
 
 impl<D: RiggedDisk + Drop> Desk<D> {
     /// `fail STRIPE KIND`
-    fn plan(&mut self, stripe: u64, kind: Fail) -> Result<(), Stop>
+    fn plan(&mut self, stripe: u64, kind: Fail) -> Result<LineTold, Stop>
         requires { stripe < 8 }
         ensures { PlaysLine D.Disk.seen self.old (line.Fail stripe kind) false result self.new }
     {
         self.world.plan(stripe as u8, kind);
-        Ok(())
+        Ok(quiet())
     }
 
     /// `crash N [B=N]...`
-    fn crash(&mut self, choice: &CrashChoice) -> Result<(), Stop>
+    fn crash(&mut self, choice: &CrashChoice) -> Result<LineTold, Stop>
         ensures { PlaysLine D.Disk.seen self.old (line.Crash choice.now) false result self.new }
     {
         let Some(export) = Name::of(b"disk") else {
@@ -214,18 +221,18 @@ impl<D: RiggedDisk + Drop> Desk<D> {
         self.world.crash(choice);
         let writable = !self.world.is_read_only();
         match self.world.export_disk(export, writable) {
-            Ok(()) => Ok(()),
+            Ok(()) => Ok(quiet()),
             Err(_) => Err(Stop::Memory),
         }
     }
 
-    /// One line is done.
-    pub fn play(&mut self, line: Line) -> Result<(), Stop>
+    /// One line is done, and told in numbers.
+    pub fn play(&mut self, line: Line) -> Result<LineTold, Stop>
         requires { IsPlanned line }
         ensures { PlaysLine D.Disk.seen self.old line false result self.new }
     {
         match line {
-            Line::Nothing => Ok(()),
+            Line::Nothing => Ok(quiet()),
             Line::Session { session, export } => self.attach(session, export),
             Line::End { session } => self.end(session),
             Line::Read {

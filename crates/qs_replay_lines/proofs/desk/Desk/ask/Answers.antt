@@ -37,4 +37,4 @@ pub returns : goal.returns
 returns g c = λ l lost is.
     asks_played g.D.Disk.seen c.args.self.now l lost _ c.in_ok-number.number c.in-Made.request c.number.new.self c.args.session c.args.ask c.args.body is
     c.in_ok-number.ensures.ok (λ used. true≢false (sym (c.is_used.ensures.1 used) ∙ c.if-is_used.false))
-    (rw c.in-Made.is at c.in_ok-request.ensures.ok) c.in_ok-make.ensures.ok refl
+    (rw c.in-Made.is at c.in_ok-request.ensures.ok) c.in_ok-make.ensures.ok refl c.quiet.result c.quiet.ensures

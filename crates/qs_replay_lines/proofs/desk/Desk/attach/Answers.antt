@@ -23,4 +23,4 @@ returns-in_err-put_session g c =
 pub returns : goal.returns
 returns g c =
     attach_played g.D.Disk.seen c.args.self.now c.args.session c.args.export _ c.in_ok-number.number c.in_ok-outcome.outcome c.number.new.self c.in_ok-number.ensures.ok
-    c.in_ok-outcome.ensures.ok refl (rw c.news_of.ensures at c.in_ok-put_session.ensures.ok)
+    c.in_ok-outcome.ensures.ok refl (rw c.news_of.ensures at c.in_ok-put_session.ensures.ok) c.quiet.result c.quiet.ensures

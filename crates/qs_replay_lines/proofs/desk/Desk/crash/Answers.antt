@@ -21,7 +21,7 @@ unfolding lib.Utf8.encode
 returns-in-Ok g c =
     crash_played g.D.Disk.seen c.args.self.now c.args.choice.now
     (record { world = c.export_disk.new.self; table = c.args.self.now.table; out = c.args.self.now.out; alloc = c.args.self.now.alloc })
-    c.crash.new.self c.in-Some.export (not c.is_read_only-writable.result) c.crash.ensures c.in-Some.ensures.1 (ap not c.is_read_only-writable.ensures) c.in-Ok.ensures refl refl
+    c.crash.new.self c.in-Some.export (not c.is_read_only-writable.result) c.crash.ensures c.in-Some.ensures.1 (ap not c.is_read_only-writable.ensures) c.in-Ok.ensures refl refl c.quiet.result c.quiet.ensures
 
 pub returns-in-Err : goal.returns-in-Err
 returns-in-Err g c =

@@ -23,4 +23,4 @@ returns-in_err-put_session g c =
 pub returns : goal.returns
 returns g c =
     end_played g.D.Disk.seen c.args.self.now c.args.session _ c.in_ok-number.number c.in_ok-happen.field-0 c.number.new.self c.in_ok-number.ensures.ok
-    c.in_ok-happen.ensures.ok refl c.in_ok-put_session.ensures.ok
+    c.in_ok-happen.ensures.ok refl c.in_ok-put_session.ensures.ok c.quiet.result c.quiet.ensures

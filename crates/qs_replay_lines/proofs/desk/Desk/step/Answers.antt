@@ -1,5 +1,6 @@
 -- The event was refused, or memory behind it.
-use Rattle.std.proofs.Common.{refl, false}
+use Rattle.std.proofs.Common.{refl, false, ap, Bool}
+use Rattle.std.specs.Prelude.{Option}
 use Rattle.qs_part.specs.declared.event.Event.TheVariants as event
 use Rattle.qs_script.specs.declared.line.Line.TheVariants as line
 use Rattle.qs_replay_lines.proofs.Happening.{step_cut, step_played}
@@ -31,3 +32,4 @@ pub returns : goal.returns
 returns g c =
     step_played g.D.Disk.seen c.args.self.now c.args.who.now c.args.now _ c.in_ok-found.found.actor c.in_ok-outcome.outcome c.actor_for.new.table c.in_ok-found.ensures.ok.0
     c.in_ok-outcome.ensures.ok (c.in_ok-found.found.key, (c.in_ok-found.ensures.ok.1, c.settle.ensures)) (rw (c.as_slice.ensures, c.in_ok-text.ensures) at c.in_ok-append.ensures.ok)
+    (record { steps = 1; ended = c.ending_of.result }) (ap (λ (e : Option Bool). record { steps = 1; ended = e }) c.ending_of.ensures)

@@ -1,0 +1,78 @@
+-- Lines that a made-up run makes are no plans of failures.
+use Rattle.std.proofs.Common.{ℕ, ◌+◌, Bool, true, false, List, [], ◌∷◌, length}
+use Rattle.std.specs.Prelude.{◌-◌, ◌%◌, ◌==◌, ◌||◌, if◌then◌else◌, nat_le, nat_lt, find, slice_get, option_map, Option, None, Some, IfSome}
+use Rattle.qs_script.specs.declared.line.Line.TheVariants as line
+use Rattle.qs_generate.specs.Drawing.{drawn, round_draws, state_after}
+use Rattle.qs_generate.specs.Generated.{Made, asked, attached, begun, made, made_at, passed, ran, settled, stepped}
+use Rattle.qs_generate.specs.Lives.{Generated, actor_of, session_line}
+use Rattle.qs_generate.specs.Rounds.{kind_of, line_of, request_line}
+use Rattle.qs_generate.specs.declared.draws.RoundDraws.{RoundDraws}
+use Rattle.qs_generate.specs.declared.live.LiveRequest.{LiveRequest}
+use Rattle.qs_generate.specs.declared.live.Turn.{Turn}
+use Rattle.qs_generate.specs.declared.live.Turn.TheVariants as turn
+use Rattle.qs_generate.specs.declared.request.Wanted.{Wanted}
+use Rattle.qs_generate.specs.declared.request.Wanted.TheVariants as wanted
+use Rattle.qs_replay_lines.specs.Effects.{IsPlanned}
+
+abbrev Plain : Made → Type 0
+Plain made = IfSome made.0 IsPlanned
+
+asks_plain : (k : Wanted) (round : ℕ) (d : RoundDraws) → IsPlanned (line_of k round d)
+asks_plain wanted.Write round d = tt
+asks_plain wanted.Read round d = tt
+asks_plain wanted.Zero round d = tt
+asks_plain wanted.Flush round d = tt
+
+asked_plain : (g : Generated) (round : ℕ) → Plain (asked g round)
+asked_plain g round =
+    let d = round_draws g.size g.state in
+    let made_one : Made = (Some (request_line round d), record g { state = state_after g.state 6; turn = turn.Step round d.steps }) in
+    let made_none : Made = (None, record g { turn = turn.Ask round }) in
+    elim (nat_le round 10000) as (λ (b : Bool). Plain (if b then made_one else made_none)) [
+      | true ↦ asks_plain (kind_of round d.kind) round d
+      | false ↦ tt
+    ]
+
+begun_plain : (g : Generated) (round pass : ℕ) (live : List LiveRequest) → Plain (begun g round pass live)
+begun_plain g round pass [] = asked_plain g (round + 1)
+begun_plain g round pass (first ∷ others) = tt
+
+passed_plain : (g : Generated) (round pass : ℕ) (live : List LiveRequest) (left : Option LiveRequest) → Plain (passed g round pass live left)
+passed_plain g round pass live (Some next) = tt
+passed_plain g round pass live None =
+    elim (nat_lt pass 16) as (λ (b : Bool). Plain (if b then begun g round (pass + 1) live else asked g (round + 1))) [
+      | true ↦ begun_plain g round (pass + 1) live
+      | false ↦ asked_plain g (round + 1)
+    ]
+
+settled_plain : (g : Generated) (round : ℕ) (live : List LiveRequest) → Plain (settled g round live)
+settled_plain g round live =
+    elim (round % 16 == 0) as (λ (b : Bool). Plain (if b then begun g round 1 live else asked g (round + 1))) [
+      | true ↦ begun_plain g round 1 live
+      | false ↦ asked_plain g (round + 1)
+    ]
+
+step_plain : (g : Generated) (round left : ℕ) (who : Option LiveRequest) →
+    Plain (option_map (λ r. line.Step (actor_of r) 0) who, record g { state = state_after g.state 1; turn = turn.Step round (left - 1) })
+step_plain g round left None = tt
+step_plain g round left (Some r) = tt
+
+stepped_plain : (g : Generated) (round left : ℕ) (live : List LiveRequest) → Plain (stepped g round left live)
+stepped_plain g round left live =
+    let one : Made = (
+      option_map (λ r. line.Step (actor_of r) 0) (slice_get live (drawn g.state 1 (length live))),
+      record g { state = state_after g.state 1; turn = turn.Step round (left - 1) },
+    ) in
+    elim (left == 0 || length live == 0) as (λ (b : Bool). Plain (if b then settled g round live else one)) [
+      | true ↦ settled_plain g round live
+      | false ↦ step_plain g round left (slice_get live (drawn g.state 1 (length live)))
+    ]
+
+plain_at : (g : Generated) (live : List LiveRequest) (t : Turn) → Plain (made_at g live t)
+plain_at g live (turn.Attach session) = tt
+plain_at g live (turn.Ask round) = asked_plain g round
+plain_at g live (turn.Step round left) = stepped_plain g round left live
+plain_at g live (turn.Run round pass done) = passed_plain g round pass live (find (λ r. nat_lt done r.cookie) live)
+
+pub plain : (g : Generated) (live : List LiveRequest) → IfSome (made g live).0 IsPlanned
+plain g live = plain_at g live g.turn

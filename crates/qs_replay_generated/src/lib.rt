@@ -1,0 +1,11 @@
+//! A made-up run against the core: its lines are made from a seed, each makes its events, and what all of
+//! it comes to is counted.
+#![tactic(auto)]
+
+mod change;
+mod counts;
+mod making;
+
+pub use change::{Change, change_of};
+pub use counts::Counts;
+pub use making::make_run;
