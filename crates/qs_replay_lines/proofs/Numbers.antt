@@ -28,7 +28,7 @@ step_tells a now o told is = record {
 
 -- an outcome that goes on answers nothing
 on_none : (o : Outcome) → goes_on o ≡ true → ended_by o ≡ None
-on_none (outcome.Answered v note) on = absurd (true≢false (sym on))
+on_none (outcome.Answered v told) on = absurd (true≢false (sym on))
 on_none _ on = refl
 
 -- calls that go on are steps and answer nothing, and the last one is a step

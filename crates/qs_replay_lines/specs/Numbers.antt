@@ -16,7 +16,7 @@ is_error other = true
 
 -- whether the answer is an error, where a step brought one
 abbrev pub ended_by : Outcome → Option Bool
-ended_by (outcome.Answered v note) = Some (is_error v)
+ended_by (outcome.Answered v told) = Some (is_error v)
 ended_by other = None
 
 -- one or none
