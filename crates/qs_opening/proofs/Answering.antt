@@ -1,6 +1,6 @@
 -- What the core tells answers the option.
-use Rattle.std.proofs.Common.{◌≡◌, ℕ, ◌⊎◌, inl, inr, Bool, List, [], ◌++◌, refl, sym, ap, ◌∙◌, subst}
-use Rattle.std.specs.Prelude.{Option, None, Some}
+use Rattle.std.proofs.Common.{◌≡◌, ℕ, ◌⊎◌, Bool, List, refl, ap, ◌∙◌, subst}
+use Rattle.std.specs.Prelude.{None, Some}
 use Rattle.qs_outside.specs.Blocks.{Seen}
 use Rattle.qs_graph.specs.Table.{GraphValue}
 use Rattle.qs_nbd_handshake.specs.declared.event.HandStep.{HandStep}

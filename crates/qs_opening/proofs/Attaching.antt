@@ -1,5 +1,5 @@
 -- The session was attached to the export of a name, or there is none.
-use Rattle.std.proofs.Common.{◌≡◌, ℕ, Bool, true, false, List, refl, sym, subst, not}
+use Rattle.std.proofs.Common.{◌≡◌, ℕ, Bool, true, false, List, sym, subst, not}
 use Rattle.std.specs.Prelude.{Option, None, Some, IfSome, is_some}
 use Rattle.qs_outside.specs.Blocks.{Seen}
 use Rattle.qs_part.specs.declared.graph.ExportInfo.{ExportInfo}

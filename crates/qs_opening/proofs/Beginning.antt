@@ -1,5 +1,5 @@
 -- The greeting, and behind it the client's flags and options.
-use Rattle.std.proofs.Common.{◌≡◌, ℕ, inl, inr, Bool, List, [], ◌++◌, length, refl, sym, ap, ◌∙◌, subst, append-nil}
+use Rattle.std.proofs.Common.{◌≡◌, ℕ, inl, inr, Bool, List, [], refl, ap, subst, append-nil}
 use Rattle.std.specs.Prelude.{Option, None, Some, Result, Ok, Err, IsErrAnd}
 use Rattle.qs_status.specs.declared.status.Status.{Status}
 use Rattle.qs_outside.specs.Blocks.{Seen}

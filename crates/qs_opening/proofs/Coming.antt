@@ -1,5 +1,5 @@
 -- A stream that had failed brings neither flags nor options.
-use Rattle.std.proofs.Common.{◌≡◌, ◌≢◌, ℕ, ◌<◌, List, [], length, arith}
+use Rattle.std.proofs.Common.{◌≢◌, ◌<◌, [], arith}
 use Rattle.std.specs.Prelude.{Option, Result, Ok, Err, IsErrAnd}
 use Rattle.qs_status.specs.declared.status.Status.{Status}
 use Rattle.qs_nbd_handshake.specs.declared.stage.Terms.{Terms}

@@ -1,8 +1,7 @@
 -- Behind the answer to an option.
-use Rattle.std.proofs.Common.{◌≡◌, ℕ, ◌⊎◌, inl, inr, Bool, List, [], ◌++◌, refl, sym, ap, ◌∙◌, subst, append-nil}
-use Rattle.std.specs.Prelude.{Option, None, Some, Result, Ok, Err, IsErrAnd}
+use Rattle.std.proofs.Common.{◌≡◌, ℕ, inl, inr, Bool, List, [], refl, sym, ap, ◌∙◌, subst, append-nil}
+use Rattle.std.specs.Prelude.{Option, None, Some, Ok}
 use Rattle.qs_bytes.specs.declared.ask.Mode.{Mode}
-use Rattle.qs_status.specs.declared.status.Status.{Status}
 use Rattle.qs_status.specs.declared.status.Status.TheVariants.{Memory}
 use Rattle.qs_outside.specs.Blocks.{Seen}
 use Rattle.qs_part.specs.declared.graph.ExportInfo.{ExportInfo}
@@ -13,8 +12,8 @@ use Rattle.qs_nbd_handshake.specs.declared.event.Want.{Want}
 use Rattle.qs_nbd_handshake.specs.declared.stage.Terms.{Terms}
 use Rattle.qs_nbd_handshake.specs.declared.wish.Wish.{Wish}
 use Rattle.qs_nbd_handshake.specs.declared.wish.Wish.TheVariants as wish
-use Rattle.qs_nbd_handshake.specs.Answers.{export_step, go_step, phase_behind, step_of, text_of}
-use Rattle.qs_nbd_handshake.specs.Phases.{Phase, Reader, Asked, wish_in}
+use Rattle.qs_nbd_handshake.specs.Answers.{export_step, go_step, phase_behind, step_of}
+use Rattle.qs_nbd_handshake.specs.Phases.{Reader, Asked, wish_in}
 use Rattle.qs_nbd_handshake.specs.Wishes.{want_of}
 use Rattle.qs_stream.specs.Buffers.{Buffers}
 use Rattle.qs_stream.specs.Flows.{Flow, Moved, Side}
@@ -27,7 +26,7 @@ use Rattle.qs_opening.specs.declared.turn.Turn.{Turn}
 use Rattle.qs_opening.specs.declared.turn.Turn.TheVariants as turn
 use Rattle.qs_opening.specs.Options.{terms_behind, text_for}
 use Rattle.qs_opening.specs.Telling.{Changes, JoinsAt, told_info, told_of}
-use Rattle.qs_opening.specs.Turns.{Answers, Asking, Comes, IsAsked, TakesTurn, Turns, turn_at}
+use Rattle.qs_opening.specs.Turns.{Answers, Comes, IsAsked, TakesTurn, Turns, turn_at}
 
 -- no requests follow
 abbrev pub Remains : HandStep → Type 0

@@ -1,13 +1,13 @@
 -- The next event is sought, piece by piece.
 use Rattle.std.proofs.Common.{◌≡◌, ℕ, ◌-◌, List, [], ◌∷◌, ◌++◌, length, refl, sym, ap, ◌∙◌, subst, arith, append-nil}
 use Rattle.std.specs.Prelude.{Option, None, Some, Result, Ok, Err, IsErrAnd}
-use Rattle.qs_nbd_handshake.specs.Phases.{Phase, Reader, Reaches, InFlags, InOption, Asked, Over, Stuck, option_size}
+use Rattle.qs_nbd_handshake.specs.Phases.{Phase, Reader, Reaches, InFlags, InOption}
 use Rattle.qs_nbd_handshake.specs.declared.event.HandEvent.{HandEvent}
 use Rattle.qs_nbd_handshake.proofs.Reading.{joins_pieces}
 use Rattle.qs_stream.specs.declared.state.State.TheVariants.{Open}
 use Rattle.qs_stream.specs.Buffers.{Buffers}
 use Rattle.qs_stream.specs.Flows.{Flow, Moved, Fills}
-use Rattle.qs_stream.proofs.Moves.{moved_on, moved_none, moved_split}
+use Rattle.qs_stream.proofs.Moves.{moved_on, moved_split}
 use Rattle.qs_opening.specs.Events.{Feeds, Seeks}
 
 -- all that waited was taken, and brought no event

@@ -6,7 +6,6 @@ use Rattle.qs_status.specs.declared.status.SessionEnd.TheVariants as end
 use Rattle.qs_status.specs.declared.status.Status.{Status}
 use Rattle.qs_status.specs.declared.status.Status.TheVariants.{Done, Ended, Memory}
 use Rattle.qs_outside.specs.Blocks.{Seen}
-use Rattle.qs_graph.specs.Table.{GraphValue}
 use Rattle.qs_nbd_handshake.specs.declared.event.HandStep.{HandStep}
 use Rattle.qs_nbd_handshake.specs.declared.event.HandStep.TheVariants.{Stay, Transmit as TransmitStep, Close}
 use Rattle.qs_nbd_handshake.specs.declared.stage.Terms.{Terms}

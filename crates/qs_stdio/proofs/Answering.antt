@@ -1,5 +1,5 @@
 -- What can be replied to a request, and the bodies that requests bring.
-use Rattle.std.proofs.Common.{◌≡◌, ℕ, ◌<◌, ◌≤◌, Bool, true, false, not, ◌&&◌, ◌||◌, cond, nat_lt, List, [], length, refl, sym, ap, ◌∙◌, subst, arith, true≢false}
+use Rattle.std.proofs.Common.{◌≡◌, ℕ, ◌<◌, ◌≤◌, Bool, true, false, not, ◌&&◌, ◌||◌, cond, nat_lt, List, [], refl, sym, ◌∙◌, arith, true≢false}
 use Rattle.std.specs.Prelude.{IfSome, Option, Some, None}
 use Rattle.std.proofs.lemmas.Bool.Decides.{nat_tests}
 use Rattle.qs_bytes.specs.Payloads.{max_payload}
@@ -17,9 +17,6 @@ use Rattle.qs_model.specs.Requests.{brings_bytes, is_read}
 use Rattle.qs_part.specs.declared.graph.Route.{Route}
 use Rattle.qs_verdicts.specs.Stories.{Given}
 use Rattle.qs_verdicts.specs.Verdicts.{is_malformed, is_served, needs_leave, needs_places, needs_room, passes, reply_of, reply_on_way}
-use Rattle.qs_stream.specs.Buffers.{Buffers}
-use Rattle.qs_stream.specs.Flows.{Puts, Side}
-use Rattle.qs_stream.proofs.Moves.{moved_none}
 use Rattle.qs_single.specs.Resting.{IsBody}
 use Rattle.qs_single.specs.Service.{MayGet, whole}
 use Rattle.qs_single.proofs.Lines.{got_reads}

@@ -25,8 +25,8 @@ use Rattle.qs_nbd_transmission.proofs.Streams.{same_head, message_once, first_of
 use Rattle.qs_outside.specs.Blocks.{Seen}
 use Rattle.qs_image.specs.Image.{size_of}
 use Rattle.qs_image.specs.Opening.{IsImage, Opens as OpensAs}
-use Rattle.qs_stdio.specs.declared.words.StdioWords.{StdioWords}
-use Rattle.qs_stdio.specs.Words.{command}
+use Rattle.qs_stdio_words.specs.declared.words.StdioWords.{StdioWords}
+use Rattle.qs_stdio_words.specs.Words.{command}
 use Rattle.qs_stdio.specs.Service.{Exchange, AllFit, answered, asked}
 use Rattle.qs_stdio.specs.Scenes.{Scene, IsCut, disks_in}
 use Rattle.qs_stdio.specs.Streams.{Leaves, IsValidStream, IsServed}

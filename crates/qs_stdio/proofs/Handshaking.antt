@@ -1,5 +1,5 @@
 -- What a handshake leaves: where it ended the session, and where requests follow.
-use Rattle.std.proofs.Common.{◌≡◌, ◌≢◌, ℕ, inl, inr, Bool, List, [], ◌++◌, refl, sym, ap, ◌∙◌, subst}
+use Rattle.std.proofs.Common.{◌≡◌, ◌≢◌, ℕ, inl, inr, Bool, List, [], refl, sym, ap, subst}
 use Rattle.std.specs.Prelude.{Option, None, Some, Result, Ok, Err}
 use Rattle.qs_bytes.specs.declared.ask.Mode.{Mode}
 use Rattle.qs_status.specs.declared.status.SessionEnd.{SessionEnd}
@@ -9,12 +9,9 @@ use Rattle.qs_status.specs.declared.status.Status.TheVariants as status
 use Rattle.qs_outside.specs.Blocks.{Seen}
 use Rattle.qs_part.specs.declared.graph.ExportInfo.{ExportInfo}
 use Rattle.qs_graph.specs.Readings.{info_of}
-use Rattle.qs_graph.specs.Table.{GraphValue}
-use Rattle.qs_nbd_handshake.specs.declared.event.HandStep.{HandStep}
 use Rattle.qs_nbd_handshake.specs.declared.event.HandStep.TheVariants.{Transmit as TransmitStep}
 use Rattle.qs_nbd_handshake.specs.declared.event.Want.{Want}
 use Rattle.qs_nbd_handshake.specs.declared.event.Want.TheVariants as want
-use Rattle.qs_nbd_handshake.specs.declared.inquiry.Inquiry.{Inquiry}
 use Rattle.qs_nbd_handshake.specs.declared.wish.Wish.{Wish}
 use Rattle.qs_nbd_handshake.specs.declared.wish.Wish.TheVariants as wish
 use Rattle.qs_nbd_handshake.specs.Answers.{export_step, go_step, step_of}
@@ -29,7 +26,7 @@ use Rattle.qs_opening.specs.declared.turn.Opened.{Opened}
 use Rattle.qs_opening.specs.declared.turn.Opened.TheVariants.{Transmit, Ends as Ended}
 use Rattle.qs_opening.specs.Openings.{LacksFlags, Opens, terms_of}
 use Rattle.qs_opening.specs.Options.{terms_after}
-use Rattle.qs_opening.specs.Telling.{Changes, Joins, JoinsAt, told_info, told_of}
+use Rattle.qs_opening.specs.Telling.{Changes, JoinsAt, told_info, told_of}
 use Rattle.qs_opening.specs.Turns.{Concludes, status_at}
 use Rattle.qs_stdio.specs.Runs.{side_of}
 

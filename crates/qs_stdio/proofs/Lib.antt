@@ -1,4 +1,3 @@
-pub mod FromLeft
 pub mod Answering
 pub mod Sought
 pub mod Turning

@@ -8,7 +8,7 @@ use Rattle.qs_image.specs.Image.{align_of, block_now, content, size_of}
 use Rattle.qs_image.proofs.Contents.{get_or-image}
 use Rattle.qs_durable.proofs.Rows.{only_member}
 use Rattle.qs_single.specs.Remaining.{IsLeftAt, IsSettled}
-use Rattle.qs_stdio.specs.Service.{Exchange, CalledAll, Chained, OutlastsAll, ask}
+use Rattle.qs_stdio.specs.Service.{Exchange, CalledAll, OutlastsAll, ask}
 use Rattle.qs_stdio.specs.Surviving.{Stood, Survives}
 
 -- of settled disks a crash leaves the byte as it is

@@ -1,5 +1,5 @@
 -- From the words to the status.
-use Rattle.std.proofs.Common.{◌≡◌, ℕ, ◌^◌, ◌⊎◌, inl, inr, Bool, true, false, not, List, [], ◌∷◌, ◌++◌, map, codes, refl, sym, ap, ◌∙◌, subst, arith}
+use Rattle.std.proofs.Common.{◌≡◌, ℕ, ◌^◌, ◌⊎◌, inl, inr, Bool, true, false, not, List, [], ◌∷◌, map, refl, sym, ap, ◌∙◌, subst}
 use Rattle.std.specs.Prelude.{Some, String, Result, Ok, Err}
 use Rattle.std.specs.Global.{Global}
 use Rattle.qs_status.specs.declared.status.Status.{Status}
@@ -13,13 +13,12 @@ use Rattle.qs_outside.specs.declared.stream.Failed.{Failed}
 use Rattle.qs_outside.specs.Faults.{Rose}
 use Rattle.qs_image.specs.Image.{AllTell, SameDisks}
 use Rattle.qs_image.proofs.Striped.{same_disks_refl}
-use Rattle.qs_image.specs.Opening.{IsImage}
 use Rattle.qs_stripe.specs.Table.{StripeState}
 use Rattle.qs_world.specs.Values.{WorldValue, disks_of}
 use Rattle.qs_part.specs.declared.event.Event.TheVariants.{Attach}
 use Rattle.qs_part.specs.declared.event.Outcome.TheVariants.{Attached}
 use Rattle.qs_part.specs.declared.graph.ExportInfo.{ExportInfo}
-use Rattle.qs_calls.specs.Calls.{Call, Happened, Plays}
+use Rattle.qs_calls.specs.Calls.{Call, Happened}
 use Rattle.qs_calls.specs.Runs.{Begins, ComesBack}
 use Rattle.qs_world.specs.Running.{meant}
 use Rattle.qs_world.proofs.Meant.{own}
@@ -32,8 +31,8 @@ use Rattle.qs_stdio.specs.Service.{Exchange, CalledAll, OutlastsAll, rounds}
 use Rattle.qs_stdio.proofs.Handshaking.{IsEnd, Went, end_side, opened_disks, opened_ends, opened_failed, opened_joined, opened_moved}
 use Rattle.qs_stdio.proofs.Serving.{calls_lead, fault_side}
 use Rattle.qs_stdio.proofs.Outliving.{survives}
-use Rattle.qs_stdio.specs.declared.words.StdioWords.{StdioWords}
-use Rattle.qs_stdio.specs.Words.{command}
+use Rattle.qs_stdio_words.specs.declared.words.StdioWords.{StdioWords}
+use Rattle.qs_stdio_words.specs.Words.{command}
 use Rattle.qs_stdio.specs.Runs.{Closes, ComesTo, Concludes, Declines, Ends, EndsAs, Forgoes, Holds, Idles, Ran, Serves, ServesStream, Sitting, exchanges_in, fault_at, first, last_scene, side_of}
 use Rattle.qs_stream.specs.Buffers.{Buffers}
 use Rattle.qs_stream.specs.declared.state.State.TheVariants as state

@@ -6,7 +6,7 @@ use Rattle.std.proofs.lemmas.Grind.{flat_map-append}
 use Rattle.qs_status.specs.declared.status.SessionEnd.TheVariants as end
 use Rattle.qs_status.specs.declared.status.Status.{Status}
 use Rattle.qs_status.specs.declared.status.Status.TheVariants as status
-use Rattle.qs_nbd_wire.specs.Requests.{IsMessage, spelling}
+use Rattle.qs_nbd_wire.specs.Requests.{spelling}
 use Rattle.qs_outside.specs.Blocks.{Seen}
 use Rattle.qs_image.specs.Image.{content, size_of, AllTell, SameDisks}
 use Rattle.qs_image.proofs.Striped.{same_disks_refl, same_disks_trans, still_tell}

@@ -1,5 +1,5 @@
 -- The next event is sought, piece by piece.
-use Rattle.std.proofs.Common.{◌≡◌, ◌≢◌, ℕ, ◌<◌, ◌≤◌, inl, Bool, false, List, [], ◌∷◌, ◌++◌, length, refl, sym, ap, ◌∙◌, subst, arith, append-nil}
+use Rattle.std.proofs.Common.{◌≡◌, ◌≢◌, ℕ, ◌<◌, ◌≤◌, inl, Bool, List, [], ◌∷◌, ◌++◌, length, refl, sym, ap, ◌∙◌, subst, arith, append-nil}
 use Rattle.std.specs.Prelude.{Option, None, Some, Result, Ok, Err, IsErrAnd}
 use Rattle.qs_nbd_transmission.specs.Heads.{IsHeadFront}
 use Rattle.qs_nbd_transmission.specs.Phases.{Phase, Reader, Reaches, InHead, Wants, Fills as Filling, Skips, Over, Stuck}

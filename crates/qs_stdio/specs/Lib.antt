@@ -3,7 +3,6 @@ pub mod Calls
 pub mod Scenes
 pub mod Events
 pub mod Turns
-pub mod Words
 pub mod Runs
 pub mod Streams
 pub mod Surviving

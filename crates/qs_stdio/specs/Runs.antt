@@ -26,8 +26,8 @@ use Rattle.qs_stream.specs.declared.state.State.{State}
 use Rattle.qs_stream.specs.declared.state.State.TheVariants as state
 use Rattle.qs_stream.specs.Buffers.{Buffers, new_buffers}
 use Rattle.qs_stream.specs.Flows.{Flow, Moved, Puts, Side}
-use Rattle.qs_stdio.specs.declared.words.StdioWords.{StdioWords}
-use Rattle.qs_stdio.specs.Words.{command}
+use Rattle.qs_stdio_words.specs.declared.words.StdioWords.{StdioWords}
+use Rattle.qs_stdio_words.specs.Words.{command}
 use Rattle.qs_stdio.specs.Service.{Exchange, AllFit, CalledAll, LeadsAll, OutlastsAll, asked, answered, rounds}
 use Rattle.qs_stdio.specs.Surviving.{Survives}
 use Rattle.qs_stdio.specs.Scenes.{Scene, IsFront, IsWhole, Ending, disks_in}

@@ -7,10 +7,8 @@ mod event;
 mod run;
 mod serve;
 mod session;
-mod words;
 
 pub use run::{run_stdio, serve_client, serve_stream};
-pub use words::{Expected, Reading, StdioWords, stdio_words};
 
 #[cfg(test)]
 mod plain;

@@ -1,5 +1,5 @@
 use crate::plain::{Request, front, plain_service};
-use crate::{StdioWords, run_stdio, serve_stream, stdio_words};
+use crate::{run_stdio, serve_stream};
 use qs_bytes::{Bytes, Memory};
 use qs_calls::open_core;
 use qs_outside::{
@@ -247,61 +247,6 @@ fn what_is_no_request_ends_the_run(rt: HostRuntime) -> Result<(), Failure> {
         let (ended, sent) = run(alloc, 4096, input, 65_536)?;
         assert_eq!(rt; ended, Status::Ended(end));
         assert_eq!(rt; sent.len(), 0);
-    }
-    Ok(())
-}
-
-/// Words, and the number of the image's word, the bytes of a block, whether the export is read-only, and
-/// whether requests come at once.
-type Told = (&'static [&'static str], Option<(usize, u32, bool, bool)>);
-
-const TOLD: [Told; 17] = [
-    (GOOD, Some((1, 512, false, true))),
-    (
-        &["--transmission", "--read-only", "a"],
-        Some((2, 512, true, true)),
-    ),
-    (
-        &["--read-only", "--transmission", "a"],
-        Some((2, 512, true, true)),
-    ),
-    (
-        &["--align", "4096", "--transmission", "a"],
-        Some((3, 4096, false, true)),
-    ),
-    (
-        &["--transmission", "--align", "512", "--read-only", "-"],
-        Some((4, 512, true, true)),
-    ),
-    (&[], None),
-    (&["a"], Some((0, 512, false, false))),
-    (&["--read-only", "a"], Some((1, 512, true, false))),
-    (&["--transmission"], None),
-    (&["--transmission", "--align"], None),
-    (&["--transmission", "--align", "a"], None),
-    (&["--transmission", "--align", "1024", "a"], None),
-    (&["--transmission", "--transmission", "a"], None),
-    (
-        &["--align", "512", "--align", "512", "--transmission", "a"],
-        None,
-    ),
-    (&["--transmission", "--unknown"], None),
-    (&["--transmission", "a", "b"], None),
-    (&["a", "--transmission"], None),
-];
-
-#[test]
-fn words_tell_each_option_once(rt: HostRuntime) -> Result<(), Failure> {
-    let alloc = rt.alloc();
-    for (words, told) in TOLD {
-        let texts = words_of(alloc, words)?;
-        let expected = told.map(|(image, align, read_only, transmission)| StdioWords {
-            image,
-            align,
-            read_only,
-            transmission,
-        });
-        assert_eq!(rt; stdio_words(texts.as_slice()), expected);
     }
     Ok(())
 }

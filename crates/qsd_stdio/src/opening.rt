@@ -1,8 +1,8 @@
 ghost use Rattle.std.specs.Prelude.{◌≡◌, IsOk, None};
-ghost use Rattle.qs_stdio.specs.Words.{command};
+ghost use Rattle.qs_stdio_words.specs.Words.{command};
 
 use qs_host::{FileDisk, StartFault, file_disks};
-use qs_stdio::stdio_words;
+use qs_stdio_words::stdio_words;
 use std::alloc::Global;
 use std::fs::File;
 use std::rt::Files;

@@ -1,7 +1,7 @@
 ghost use Rattle.std.specs.Prelude.{◌+◌, ◌<◌, IfSome, IfNone, length, take};
-ghost use Rattle.qs_stdio.specs.Words.{IsFront};
+ghost use Rattle.qs_stdio_words.specs.Words.{IsFront};
 
-use qs_stdio::Reading;
+use qs_stdio_words::Reading;
 
 /// The first word that isn't understood: those before it may begin the command, and with it they may not.
 /// `None` where all words may begin it, so that one is missing or none.

@@ -1,7 +1,7 @@
 use crate::stray::stray_word;
 use qs_host::{BrokenRule, Ended, StartFault};
 use qs_status::Status;
-use qs_stdio::stdio_words;
+use qs_stdio_words::stdio_words;
 use std::fmt;
 
 /// The command's form.

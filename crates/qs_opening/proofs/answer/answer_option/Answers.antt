@@ -1,5 +1,5 @@
 -- The answer was put, or memory was refused for it.
-use Rattle.std.proofs.Common.{ℕ, List, ◌++◌, inr, sym, ap, ◌∙◌, not}
+use Rattle.std.proofs.Common.{ℕ, List, ◌++◌, inr, ap, ◌∙◌, not}
 use Rattle.qs_stream.specs.Flows.{side}
 use Rattle.qs_opening.proofs.Answering.{answered, starved}
 use Rattle.qs_opening.proofs.answer.answer_option.Goals as goal

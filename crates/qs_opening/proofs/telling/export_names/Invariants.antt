@@ -1,5 +1,5 @@
 -- The names so far are the first ones.
-use Rattle.std.proofs.Common.{◌≡◌, ℕ, ◌-◌, ◌≤◌, List, length, take}
+use Rattle.std.proofs.Common.{◌≡◌, ◌-◌, ◌≤◌, length, take}
 use Rattle.std.specs.Prelude.{vec_len}
 use Rattle.qs_graph.specs.Readings.{names_of}
 use Rattle.qs_opening.proofs.telling.export_names.Given as goal

@@ -1,11 +1,9 @@
 -- The handshake ended the session, or requests were served behind it.
-use Rattle.std.proofs.Common.{◌≡◌, ◌+◌, ◌-◌, ◌^◌, ◌≤◌, ◌∙◌, Bool, List, not, ap, arith, subst}
-use Rattle.std.specs.Prelude.{Result, Ok, Err}
+use Rattle.std.proofs.Common.{◌∙◌, not, ap, arith, subst}
+use Rattle.std.specs.Prelude.{Result, Ok}
 use Rattle.qs_outside.specs.declared.stream.Failed.{Failed}
 use Rattle.qs_opening.specs.declared.turn.Opened.{Opened}
-use Rattle.qs_opening.specs.declared.turn.Opened.TheVariants.{Transmit, Ends as Ended}
 use Rattle.qs_opening.specs.Openings.{Opens}
-use Rattle.qs_calls.specs.Runs.{Begins}
 use Rattle.qs_stream.specs.Buffers.{Buffers}
 use Rattle.qs_stream.specs.Flows.{flow, side}
 use Rattle.qs_stdio.specs.Runs.{Sitting, first, last_scene}

@@ -1,5 +1,5 @@
 -- By the words, with a handshake or without one.
-use Rattle.std.proofs.Common.{◌≡◌, ◌^◌, Bool, true, false, sym, subst}
+use Rattle.std.proofs.Common.{◌^◌, Bool, sym, subst}
 use Rattle.qs_stream.specs.Flows.{side}
 use Rattle.qs_stdio.specs.Runs.{ServesStream}
 use Rattle.qs_stdio.proofs.run.serve_core.Goals as goal

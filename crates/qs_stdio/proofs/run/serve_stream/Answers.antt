@@ -1,5 +1,5 @@
 -- The session was attached, and sat.
-use Rattle.std.proofs.Common.{Bool, arith, true, false, not, refl, subst}
+use Rattle.std.proofs.Common.{arith, true, false, not, refl, subst}
 use Rattle.std.specs.Prelude.{codes}
 use Rattle.qs_stream.specs.Buffers.{Buffers}
 use Rattle.qs_stream.specs.Flows.{side}

@@ -2,8 +2,8 @@
 use Rattle.std.proofs.Common.{ap, sym, ◌∙◌}
 use Rattle.std.proofs.lemmas.Option.{none-some}
 use Rattle.std.specs.Prelude.{Some}
-use Rattle.qs_stdio.specs.Words.{nothing_read, read}
-use Rattle.qs_stdio.proofs.FromLeft.{front_with}
+use Rattle.qs_stdio_words.specs.Words.{nothing_read, read}
+use Rattle.qs_stdio_words.proofs.FromLeft.{front_with}
 use Rattle.qsd_stdio.proofs.stray.stray_word.Goals as goal
 
 pub loop-i-init : goal.loop-i-init

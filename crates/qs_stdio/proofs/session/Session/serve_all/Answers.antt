@@ -1,5 +1,5 @@
 -- One turn more, or the end.
-use Rattle.std.proofs.Common.{◌≡◌, ◌+◌, ◌<◌, ◌≤◌, ◌-◌, ◌^◌, ℕ, arith}
+use Rattle.std.proofs.Common.{arith}
 use Rattle.qs_outside.specs.declared.stream.Failed.{Failed}
 use Rattle.qs_stdio.specs.Scenes.{scene}
 use Rattle.qs_stdio.proofs.Serving.{served_none, served_more, sits_fault, sits_end, sits_spent, turned, turned_end, fault_told}

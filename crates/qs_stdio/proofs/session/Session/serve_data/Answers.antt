@@ -8,7 +8,7 @@ use Rattle.qs_single.specs.Resting.{IsBody}
 use Rattle.qs_world.specs.Values.{WorldValue}
 use Rattle.qs_stdio.specs.Turns.{Answered, IsData}
 use Rattle.qs_stdio.proofs.Answering.{data_body}
-use Rattle.qs_stdio.proofs.Turning.{answered_in, data_awaited, data_came, data_length, memory_stops, still_so}
+use Rattle.qs_stdio.proofs.Turning.{answered_in, data_awaited, data_came, data_length, still_so}
 use Rattle.qs_stdio.proofs.session.Session.serve_data.Goals as goal
 
 pub respond-requires-clause-body : goal.respond-requires-clause-body

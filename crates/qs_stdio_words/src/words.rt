@@ -1,5 +1,5 @@
 ghost use Rattle.std.specs.Prelude.{◌≡◌, string_bytes};
-ghost use Rattle.qs_stdio.specs.Words.{and_then, command, nothing_read, with_align, with_word, whole};
+ghost use Rattle.qs_stdio_words.specs.Words.{and_then, command, nothing_read, with_align, with_word, whole};
 
 /// What may stand next among the words.
 #[derive(Clone, Copy, Debug, PartialEq, Eq)]

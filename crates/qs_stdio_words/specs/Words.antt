@@ -3,10 +3,10 @@ use Rattle.std.specs.Prelude.{◌≡◌, ℕ, suc, Bool, true, false, if◌then�
 use Rattle.std.specs.Global.{Global}
 use Rattle.std.specs.List.{starts_with}
 use Rattle.std.specs.Str.{bytes_eq}
-use Rattle.qs_stdio.specs.declared.words.Expected.{Expected}
-use Rattle.qs_stdio.specs.declared.words.Expected.TheVariants.{OptionOrImage, BlockSize, Nothing}
-use Rattle.qs_stdio.specs.declared.words.Reading.{Reading}
-use Rattle.qs_stdio.specs.declared.words.StdioWords.{StdioWords}
+use Rattle.qs_stdio_words.specs.declared.words.Expected.{Expected}
+use Rattle.qs_stdio_words.specs.declared.words.Expected.TheVariants.{OptionOrImage, BlockSize, Nothing}
+use Rattle.qs_stdio_words.specs.declared.words.Reading.{Reading}
+use Rattle.qs_stdio_words.specs.declared.words.StdioWords.{StdioWords}
 
 -- what is told where no word was read
 abbrev pub nothing_read : Reading

@@ -3,8 +3,8 @@ use Rattle.std.proofs.Common.{◌≡◌, ℕ, zero, suc, ◌+◌, ◌<◌, ◌�
 use Rattle.std.proofs.lemmas.Option.{none-some}
 use Rattle.std.specs.Prelude.{Option, None, Some, String, option_and_then, unwrap_or}
 use Rattle.std.specs.Global.{Global}
-use Rattle.qs_stdio.specs.declared.words.Reading.{Reading}
-use Rattle.qs_stdio.specs.Words.{and_then, command, nothing_read, read, whole}
+use Rattle.qs_stdio_words.specs.declared.words.Reading.{Reading}
+use Rattle.qs_stdio_words.specs.Words.{and_then, command, nothing_read, read, whole}
 
 -- the words from one on
 drop_here : (words : List (String Global)) (i : ℕ) (word : String Global) → i < length words → word ≡ get_or words i word →

@@ -1,7 +1,7 @@
 -- What is told is the command's.
 use Rattle.std.proofs.Common.{sym, ◌∙◌, arith}
-use Rattle.qs_stdio.proofs.FromLeft.{read_all, read_more, read_none}
-use Rattle.qs_stdio.proofs.words.stdio_words.Goals as goal
+use Rattle.qs_stdio_words.proofs.FromLeft.{read_all, read_more, read_none}
+use Rattle.qs_stdio_words.proofs.words.stdio_words.Goals as goal
 
 pub returns-in-None : goal.returns-in-None
 returns-in-None c =
