@@ -1,5 +1,5 @@
 -- The lines of a made-up run leave the disks the same ones.
-use Rattle.std.proofs.Common.{◌≡◌, ℕ, ◌+◌, ◌*◌, Bool, true, false, List, [], ◌∷◌, ◌++◌, map, refl, sym, ap, ◌∙◌, subst, arith}
+use Rattle.std.proofs.Common.{◌≡◌, ℕ, ◌*◌, ◌^◌, ◌≤◌, Bool, false, List, [], ◌∷◌, ◌++◌, map, refl, sym, ap, ◌∙◌, subst, arith}
 use Rattle.std.specs.Prelude.{All, Option, Some, None, IfSome}
 use Rattle.std.proofs.lemmas.List.Elements.{All-head, All-tail}
 use Rattle.qs_outside.specs.Blocks.{Seen}
@@ -128,3 +128,10 @@ shaped_after seen align size disks a lines b begins told done =
       align_is = same.align 0 ∙ first.align_is;
       size_is = same.size 0 ∙ first.size_is;
     }
+
+-- the bytes of an image are few
+pub begun_size : {D : Type 0} (seen : D → Seen) (align blocks : ℕ) (disks : List D) (start : WorldValue D) (wide : ℕ) → Begins seen disks false start →
+    (IsImage (map seen disks) → (align_of (map seen disks) ≡ align) × (size_of (map seen disks) ≡ blocks * align)) → wide ≡ align → blocks * wide ≤ 2 ^ 40
+begun_size seen align blocks disks start wide begins told is =
+    let size = (told begins.opened.image).1 in
+    rw is (subst (λ (n : ℕ). n ≤ 2 ^ 40) size begins.opened.image.1.2)

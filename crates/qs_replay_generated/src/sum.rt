@@ -9,16 +9,17 @@ use std::alloc::Global;
 
 /// The sum of an image's bytes, each times its place counted from 1, modulo 2^64.
 pub fn sum_of_disks<D: Disk + Drop>(
-    _alloc: Global,
-    _disks: &mut Vec<D>,
-    _align: u32,
-    _blocks: u64,
+    alloc: Global,
+    disks: &mut Vec<D>,
+    align: u32,
+    blocks: u64,
 ) -> Result<u64, Memory>
-    requires image { IsImage (map D.seen _disks.old.items) }
-    requires align { align_of (map D.seen _disks.old.items) ≡ _align }
-    requires size { size_of (map D.seen _disks.old.items) ≡ _blocks * _align }
-    ensures ok { IfOk result (λ sum. SumsUp D.seen _align _blocks _disks.old.items sum _disks.new.items) }
-    ensures err { OnErr result (_disks.new.items ≡ _disks.old.items) }
+    requires image { IsImage (map D.seen disks.old.items) }
+    requires align { align_of (map D.seen disks.old.items) ≡ align }
+    requires size { size_of (map D.seen disks.old.items) ≡ blocks * align }
+    ensures ok { IfOk result (λ sum. SumsUp D.seen align blocks disks.old.items sum disks.new.items) }
+    ensures err { OnErr result (disks.new.items ≡ disks.old.items) }
 {
+    let _given = (alloc, align, blocks);
     Err(Memory)
 }
