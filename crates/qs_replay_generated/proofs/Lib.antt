@@ -2,3 +2,4 @@ pub mod Counting
 pub mod Lines
 pub mod Chains
 pub mod Doing
+pub mod Sums

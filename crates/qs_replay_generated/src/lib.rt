@@ -5,7 +5,9 @@
 mod change;
 mod counts;
 mod making;
+mod sum;
 
 pub use change::{Change, change_of};
 pub use counts::Counts;
 pub use making::make_run;
+pub use sum::sum_of_disks;
