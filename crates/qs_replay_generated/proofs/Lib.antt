@@ -4,3 +4,4 @@ pub mod Chains
 pub mod Doing
 pub mod SameDisks
 pub mod Telling
+pub mod Sums
