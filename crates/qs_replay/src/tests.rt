@@ -36,9 +36,10 @@ fn run_words(
     let (read_fails, write_fails) = fails;
     let mut source = MemSource::new(Bytes::of(Vec::from_slice(alloc, script)?), cuts, read_fails);
     let mut sink = MemSink::new(alloc, 65_536, write_fails)?;
-    let words = words_of(alloc, words)?;
-    let mut disks = memory_disks(alloc, words.as_slice())?;
-    let status = run_replay(alloc, words.as_slice(), &mut source, &mut sink, &mut disks);
+    let list = words_of(alloc, words)?;
+    let words = list.as_slice();
+    let mut disks = memory_disks(alloc, words)?;
+    let status = run_replay(alloc, words, &mut source, &mut sink, &mut disks);
     Ok((status, Vec::from_slice(alloc, sink.sent())?))
 }
 
