@@ -1,6 +1,7 @@
 -- From the disks to the run.
-use Rattle.std.proofs.Common.{◌≡◌, ℕ, ◌<◌, List, [], ◌∷◌, ◌++◌, refl, sym, subst, ap, ◌∙◌, inl, inr, true, codes, arith}
-use Rattle.std.specs.Prelude.{false, Option, map}
+use Rattle.std.proofs.Common.{◌≡◌, ℕ, ◌*◌, ◌<◌, ◌≤◌, ◌⊎◌, List, [], ◌∷◌, ◌++◌, refl, sym, subst, ap, ◌∙◌, inl, inr, true, codes, arith}
+use Rattle.std.specs.Prelude.{false, Option, Some, None, String, map}
+use Rattle.std.specs.Global.{Global}
 use Rattle.qs_status.specs.declared.status.Status.{Status}
 use Rattle.qs_status.specs.declared.status.Status.TheVariants as status
 use Rattle.qs_outside.specs.Blocks.{Seen}
@@ -26,7 +27,11 @@ use Rattle.qs_world.specs.Stands.{Stands}
 use Rattle.qs_world.specs.Values.{WorldValue}
 use Rattle.qs_calls.specs.Calls.{Call, Plays}
 use Rattle.qs_calls.specs.Runs.{Begins, ComesBack}
-use Rattle.qs_replay.specs.Runs.{IsReplayed, Opening, first_scene, most_lines, no_names}
+use Rattle.qs_replay_generated.specs.Generating.{CountsFault, Generates}
+use Rattle.qs_replay_words.proofs.FromLeft.{tells_one}
+use Rattle.qs_replay_words.specs.Words.{IsImageOf, Tells}
+use Rattle.qs_replay_words.specs.declared.words.ReplayWords.{ReplayWords}
+use Rattle.qs_replay.specs.Runs.{IsEnough, IsReplayed, Opening, Ran, RanBy, Runs, first_scene, most_lines, no_names}
 use Rattle.qs_replay.specs.Scripts.{AllDone, Replays, Scene, SoFar, side_of}
 use Rattle.qs_replay_lines.specs.Tables.{Names}
 use Rattle.qs_calls.proofs.Plays.{plays_more}
@@ -94,3 +99,56 @@ opening_of seen disks disks' left sent left' sent' status.Usage is = absurd is.r
 opening_of seen disks disks' left sent left' sent' (status.OpenBad bad) is = absurd is.replays.ends
 opening_of seen disks disks' left sent left' sent' status.Memory is = inr is
 opening_of seen disks disks' left sent left' sent' other is = is
+
+-- the counts over a made-up run
+generated_rises : (result : Status) (r w w2 : ℕ) → CountsFault result w w2 → Rises (side_of result) r r w w2
+generated_rises status.WriteFault r w w2 counts = (refl, counts)
+generated_rises status.ReadFault r w w2 counts = absurd counts
+generated_rises _ r w w2 counts = (refl, counts)
+
+pub made_rises : (result : Status) (r r2 w w2 : ℕ) → r2 ≡ r → CountsFault result w w2 → Rises (side_of result) r r2 w w2
+made_rises result r r2 w w2 same counts = subst (λ (n : ℕ). Rises (side_of result) r n w w2) (sym same) (generated_rises result r w w2 counts)
+
+-- eight blocks are enough for each request of a run
+long_by : (align blocks : ℕ) → (align ≡ 512) ⊎ (align ≡ 4096) → 8 ≤ blocks → 2048 < blocks * align
+long_by align blocks (inl e) many = subst (λ (a : ℕ). 2048 < blocks * a) (sym e) (omega (arith, many))
+long_by align blocks (inr e) many = subst (λ (a : ℕ). 2048 < blocks * a) (sym e) (omega (arith, many))
+
+pub long_enough : (told : ReplayWords) → IsImageOf told → 8 ≤ told.blocks → 2048 < told.blocks * told.align
+long_enough told is many = long_by told.align told.blocks is.align many
+
+-- a script's replay, as what the words tell
+pub opening_ran : {D : Type 0} (seen : D → Seen) (disks disks' : List D) (left sent left' sent' : Option (List ℕ)) (told : ReplayWords) (result : Status) →
+    told.generate ≡ None → Opening seen disks left sent result disks' left' sent' → RanBy told seen disks left sent result disks' left' sent'
+opening_ran seen disks disks' left sent left' sent' told status.Usage e opening = absurd opening
+opening_ran seen disks disks' left sent left' sent' told other e opening = (
+  subst (λ (g : Option ℕ). IsEnough g told.blocks) (sym e) tt,
+  subst (λ (g : Option ℕ). Runs g told.align told.blocks seen disks left sent other disks' left' sent') (sym e) opening,
+)
+
+-- and a made-up run
+pub generated_ran : {D : Type 0} (seen : D → Seen) (disks disks' : List D) (left sent left' sent' : Option (List ℕ)) (told : ReplayWords) (seed : ℕ) (result : Status) →
+    told.generate ≡ Some seed → 8 ≤ told.blocks → Generates seen seed told.align told.blocks disks sent result disks' sent' → left' ≡ left →
+    RanBy told seen disks left sent result disks' left' sent'
+generated_ran seen disks disks' left sent left' sent' told seed status.Usage e many generates same = absurd generates.ends
+generated_ran seen disks disks' left sent left' sent' told seed other e many generates same = (
+  subst (λ (g : Option ℕ). IsEnough g told.blocks) (sym e) many,
+  subst (λ (g : Option ℕ). Runs g told.align told.blocks seen disks left sent other disks' left' sent') (sym e) (generates, same),
+)
+
+-- there are too few blocks
+pub few_ran : {D : Type 0} (seen : D → Seen) (disks : List D) (left sent : Option (List ℕ)) (told : ReplayWords) (seed : ℕ) →
+    told.generate ≡ Some seed → (8 ≤ told.blocks → ⊥) → RanBy told seen disks left sent status.Usage disks left sent
+few_ran seen disks left sent told seed e few = (
+  λ enough. few (subst (λ (g : Option ℕ). IsEnough g told.blocks) e enough),
+  record { disks_same = refl; left_same = refl; sent_same = refl },
+)
+
+-- words that tell this
+pub ran_of : {D : Type 0} (words : List (String Global)) (seen : D → Seen) (disks disks' : List D) (left sent left' sent' : Option (List ℕ)) (told : ReplayWords)
+    (result : Status) → Tells words told → RanBy told seen disks left sent result disks' left' sent' → Ran words seen disks left sent result disks' left' sent'
+ran_of words seen disks disks' left sent left' sent' told status.Usage tells ran = (
+  λ are. ran.0 (subst (λ (t : ReplayWords). IsEnough t.generate t.blocks) (tells_one words are.0 told are.1.0 tells) are.1.1),
+  ran.1,
+)
+ran_of words seen disks disks' left sent left' sent' told other tells ran = (told, (tells, ran.0, ran.1))

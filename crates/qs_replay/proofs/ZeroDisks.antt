@@ -1,13 +1,17 @@
 -- Eight disks of zeros are an image.
-use Rattle.std.proofs.Common.{◌≡◌, ℕ, zero, suc, ◌+◌, ◌*◌, ◌%◌, ◌^◌, ◌<◌, ◌≤◌, inl, inr, List, [], ◌∷◌, ◌++◌, length, map, replicate, refl, sym, ◌∙◌, subst, arith}
-use Rattle.std.specs.Prelude.{IsTrue}
+use Rattle.std.proofs.Common.{◌≡◌, ℕ, zero, suc, ◌+◌, ◌*◌, ◌%◌, ◌^◌, ◌<◌, ◌≤◌, inl, inr, List, [], ◌∷◌, ◌++◌, length, map, replicate, refl, sym, ap, ◌∙◌, subst, arith}
+use Rattle.std.specs.Prelude.{IsTrue, String}
+use Rattle.std.specs.Global.{Global}
 use Rattle.std.proofs.lemmas.List.{length-map}
 use Rattle.qs_outside.specs.Blocks.{IsBlock, Seen}
 use Rattle.qs_bytes.specs.Geometry.{stripe_of}
 use Rattle.qs_outside.specs.Journal.{Journal, journal_seen}
 use Rattle.qs_image.specs.Image.{align_of, disk, size_of}
 use Rattle.qs_image.specs.Opening.{IsAlign}
-use Rattle.qs_replay.specs.ZeroDisks.{AreFrom, AreZeroDisks, IsZeroDisk}
+use Rattle.qs_replay_words.proofs.FromLeft.{tells_one}
+use Rattle.qs_replay_words.specs.Words.{Tells}
+use Rattle.qs_replay_words.specs.declared.words.ReplayWords.{ReplayWords}
+use Rattle.qs_replay.specs.ZeroDisks.{AreDisksOf, AreFrom, AreZeroDisks, IsZeroDisk}
 
 -- one disk more
 pub from_more : (align size k : ℕ) (ds : List Journal) (d : Journal) → AreFrom align size k ds → IsZeroDisk align size (k + length ds) d → AreFrom align size k (ds ++ d ∷ [])
@@ -90,3 +94,13 @@ zero_image align blocks ds known few many are = record {
 
     small : size_of (map journal_seen ds) ≤ 2 ^ 40
     small = rw size_same (small_by align known)
+
+-- the disks that the words name are of the block and size that the words tell
+pub named_disks : (words : List (String Global)) (disks : List Journal) → AreDisksOf words disks → (told : ReplayWords) → Tells words told →
+    (align_of (map journal_seen disks) ≡ told.align) × (size_of (map journal_seen disks) ≡ told.blocks * told.align)
+named_disks words disks (inl are) told tells =
+    let same : are.0 ≡ told = tells_one words are.0 told are.1 tells in (
+      are.2.align_is ∙ ap (λ (t : ReplayWords). t.align) same,
+      are.2.size_is ∙ ap (λ (t : ReplayWords). t.blocks * t.align) same,
+    )
+named_disks words disks (inr none) told tells = absurd (none.0 told tells)

@@ -1,5 +1,5 @@
 -- What `run_replay` does, from its words to its status.
-use Rattle.std.specs.Prelude.{◌≡◌, ◌^◌, ℕ, ◌⊎◌, Bool, true, false, List, [], ◌∷◌, ◌++◌, map, codes, Option, Some, None, String}
+use Rattle.std.specs.Prelude.{◌≡◌, ◌^◌, ℕ, ◌≤◌, ◌⊎◌, Bool, true, false, List, [], ◌∷◌, ◌++◌, map, codes, Option, Some, None, String}
 use Rattle.std.specs.Global.{Global}
 use Rattle.qs_status.specs.declared.status.OpenBad.{OpenBad}
 use Rattle.qs_status.specs.declared.status.Status.{Status}
@@ -11,6 +11,7 @@ use Rattle.qs_stream.specs.Flows.{Side}
 use Rattle.qs_world.specs.Values.{WorldValue}
 use Rattle.qs_replay_words.specs.declared.words.ReplayWords.{ReplayWords}
 use Rattle.qs_calls.specs.Runs.{Begins, HasRun}
+use Rattle.qs_replay_generated.specs.Generating.{Generates}
 use Rattle.qs_replay.specs.Scripts.{ReachesLine, Replays, Scene, lines_of}
 use Rattle.std.specs.FinMap.{empty as no_requests}
 use Rattle.std.specs.FinSet.{empty as no_cookies}
@@ -51,9 +52,14 @@ pub record Untouched {D : Type 0} (disks : List D) (left sent : Option (List ℕ
   pub left_same : left' ≡ left
   pub sent_same : sent' ≡ sent
 
--- the words ask for a script's replay
+-- a run is made up over an image of eight blocks at least
+abbrev pub IsEnough : Option ℕ → ℕ → Type 0
+IsEnough None blocks = Unit {0}
+IsEnough (Some seed) blocks = 8 ≤ blocks
+
+-- the words ask for a script's replay, or for a run that is made up over enough blocks
 abbrev pub AreWords : List (String Global) → Type 0
-AreWords words = (told : ReplayWords) × (Tells words told × (told.generate ≡ None))
+AreWords words = (told : ReplayWords) × (Tells words told × IsEnough told.generate told.blocks)
 
 -- The disks are tested, and the script is replayed over them; memory may be refused before.
 abbrev pub Opening : {D : Type 0} → (D → Seen) → List D → Option (List ℕ) → Option (List ℕ) → Status → List D → Option (List ℕ) → Option (List ℕ) → Type 0
@@ -63,8 +69,23 @@ Opening seen disks left sent status.Memory disks' left' sent' =
     Untouched disks left sent disks' left' sent' ⊎ IsReplayed seen disks left sent status.Memory disks' left' sent'
 Opening seen disks left sent other disks' left' sent' = IsReplayed seen disks left sent other disks' left' sent'
 
+-- A run was made up from this seed over the disks, and nothing was read; or there was none, and the script was replayed.
+abbrev pub Runs : {D : Type 0} → Option ℕ → ℕ → ℕ → (D → Seen) → List D → Option (List ℕ) → Option (List ℕ) → Status → List D →
+    Option (List ℕ) → Option (List ℕ) → Type 0
+Runs (Some seed) align blocks seen disks left sent result disks' left' sent' = Generates seen seed align blocks disks sent result disks' sent' × (left' ≡ left)
+Runs None align blocks seen disks left sent result disks' left' sent' = Opening seen disks left sent result disks' left' sent'
+
+-- what the words tell was done, or they ask for a run over too few blocks
+abbrev pub RanBy : {D : Type 0} → ReplayWords → (D → Seen) → List D → Option (List ℕ) → Option (List ℕ) → Status → List D →
+    Option (List ℕ) → Option (List ℕ) → Type 0
+RanBy told seen disks left sent status.Usage disks' left' sent' = (IsEnough told.generate told.blocks → ⊥) × Untouched disks left sent disks' left' sent'
+RanBy told seen disks left sent other disks' left' sent' =
+    IsEnough told.generate told.blocks × Runs told.generate told.align told.blocks seen disks left sent other disks' left' sent'
+
 -- One call of `run_replay`: the words are tested first, then the disks.
 abbrev pub Ran : {D : Type 0} → List (String Global) → (D → Seen) → List D → Option (List ℕ) → Option (List ℕ) → Status → List D →
     Option (List ℕ) → Option (List ℕ) → Type 0
 Ran words seen disks left sent status.Usage disks' left' sent' = (AreWords words → ⊥) × Untouched disks left sent disks' left' sent'
-Ran words seen disks left sent other disks' left' sent' = AreWords words × Opening seen disks left sent other disks' left' sent'
+Ran words seen disks left sent other disks' left' sent' =
+    (told : ReplayWords) × (Tells words told × IsEnough told.generate told.blocks ×
+    Runs told.generate told.align told.blocks seen disks left sent other disks' left' sent')

@@ -1,14 +1,14 @@
-use crate::run_replay;
+use crate::{memory_disks, replay_disks, run_replay};
 use qs_bytes::{Bytes, Memory};
 use qs_outside::{MemDisk, MemSink, MemSource};
 use qs_status::{OpenBad, Status};
 use std::alloc::Global;
 use std::test::Fail;
 
-/// Disks of an image of 8 blocks of 512 zero bytes.
-fn disks(alloc: Global, count: u8) -> Result<Vec<MemDisk>, Memory> {
+/// Seven disks of an image of 8 blocks of 512 zero bytes.
+fn seven_disks(alloc: Global) -> Result<Vec<MemDisk>, Memory> {
     let mut disks = Vec::new(alloc);
-    for stripe in 0..count {
+    for stripe in 0..7 {
         disks.push(MemDisk::new(alloc, stripe, 512, 4096, 64)?)?;
     }
     Ok(disks)
@@ -22,11 +22,11 @@ fn words_of(alloc: Global, words: &[&str]) -> Result<Vec<String>, Memory> {
     Ok(list)
 }
 
-/// A run of a script over so many disks, with reads of at most `cut` bytes: its status and what was
-/// printed.
-fn run(
+/// A run of these words over the disks that they name, with reads of at most `cut` bytes: its status and
+/// what was printed.
+fn run_words(
     alloc: Global,
-    count: u8,
+    words: &[&str],
     script: &[u8],
     cut: usize,
     fails: (Vec<u64>, Vec<u64>),
@@ -36,15 +36,26 @@ fn run(
     let (read_fails, write_fails) = fails;
     let mut source = MemSource::new(Bytes::of(Vec::from_slice(alloc, script)?), cuts, read_fails);
     let mut sink = MemSink::new(alloc, 65_536, write_fails)?;
-    let words = words_of(alloc, &["--blocks", "8"])?;
-    let mut disks = disks(alloc, count)?;
-    let status = run_replay(alloc, words.as_slice(), &mut source, &mut sink, &mut disks);
+    let list = words_of(alloc, words)?;
+    let words = list.as_slice();
+    let mut disks = memory_disks(alloc, words)?;
+    let status = run_replay(alloc, words, &mut source, &mut sink, &mut disks);
     Ok((status, Vec::from_slice(alloc, sink.sent())?))
+}
+
+/// A run of a script over an image of 8 blocks.
+fn run(
+    alloc: Global,
+    script: &[u8],
+    cut: usize,
+    fails: (Vec<u64>, Vec<u64>),
+) -> Result<(Status, Vec<u8>), Memory> {
+    run_words(alloc, &["--blocks", "8"], script, cut, fails)
 }
 
 /// A script over a whole image, in which nothing outside fails.
 fn script(alloc: Global, text: &[u8]) -> Result<(Status, Vec<u8>), Memory> {
-    run(alloc, 8, text, 7, (Vec::new(alloc), Vec::new(alloc)))
+    run(alloc, text, 7, (Vec::new(alloc), Vec::new(alloc)))
 }
 
 #[test]
@@ -356,7 +367,7 @@ fn long_lines(rt: HostRuntime) -> Result<(), Fail> {
         let mut text = vec![in alloc; b'#'; length]?;
         text.push(b'\n')?;
         let none = (Vec::new(alloc), Vec::new(alloc));
-        assert_eq!(rt; run(alloc, 8, text.as_slice(), 60_000, none)?.0, status);
+        assert_eq!(rt; run(alloc, text.as_slice(), 60_000, none)?.0, status);
     }
     Ok(())
 }
@@ -365,19 +376,42 @@ fn long_lines(rt: HostRuntime) -> Result<(), Fail> {
 fn faults_of_the_outside(rt: HostRuntime) -> Result<(), Fail> {
     let alloc = rt.alloc();
     let first = [0].to_vec(alloc)?;
-    let read = run(alloc, 8, b"end A", 9, (first, Vec::new(alloc)))?;
+    let read = run(alloc, b"end A", 9, (first, Vec::new(alloc)))?;
     assert_eq!(rt; read.0, Status::ReadFault);
     // What was printed before a fault of the input is written.
     let second = [1].to_vec(alloc)?;
     let text = b"session A disk\nend A\n";
-    let later = run(alloc, 8, text, 15, (second, Vec::new(alloc)))?;
+    let later = run(alloc, text, 15, (second, Vec::new(alloc)))?;
     assert_eq!(rt; later.0, Status::ReadFault);
     assert_eq!(rt; later.1.as_slice(), b"A attached 4096 rw\n".as_slice());
     let first = [0].to_vec(alloc)?;
-    let write = run(alloc, 8, b"session A disk", 9, (Vec::new(alloc), first))?;
+    let write = run(alloc, b"session A disk", 9, (Vec::new(alloc), first))?;
     assert_eq!(rt; write.0, Status::WriteFault);
     assert!(rt; write.1.is_empty());
-    let seven = run(alloc, 7, b"", 9, (Vec::new(alloc), Vec::new(alloc)))?;
-    assert_eq!(rt; seven.0, Status::OpenBad(OpenBad::Count(7)));
+    Ok(())
+}
+
+#[test]
+fn seven_disks_are_no_image(rt: HostRuntime) -> Result<(), Fail> {
+    let alloc = rt.alloc();
+    let mut source = MemSource::new(Bytes::of(Vec::new(alloc)), Vec::new(alloc), Vec::new(alloc));
+    let mut sink = MemSink::new(alloc, 65_536, Vec::new(alloc))?;
+    let mut disks = seven_disks(alloc)?;
+    let status = replay_disks(alloc, &mut source, &mut sink, &mut disks);
+    assert_eq!(rt; status, Status::OpenBad(OpenBad::Count(7)));
+    Ok(())
+}
+
+#[test]
+fn made_up_runs(rt: HostRuntime) -> Result<(), Fail> {
+    let alloc = rt.alloc();
+    let few = ["--blocks", "7", "--generate", "7"].as_slice();
+    let none = (Vec::new(alloc), Vec::new(alloc));
+    assert_eq!(rt; run_words(alloc, few, b"end A", 9, none)?.0, Status::Usage);
+    let words = ["--generate", "7", "--blocks", "8"].as_slice();
+    let none = (Vec::new(alloc), Vec::new(alloc));
+    let (status, out) = run_words(alloc, words, b"end A", 9, none)?;
+    assert_eq!(rt; status, Status::Done);
+    assert!(rt; out.as_slice().starts_with(b"requests 10000 errors 0 steps "));
     Ok(())
 }

@@ -1,5 +1,5 @@
 -- Lines of a run, one more behind the others.
-use Rattle.std.proofs.Common.{◌≡◌, ℕ, ◌+◌, ◌%◌, ◌^◌, List, [], ◌∷◌, ◌++◌, refl, sym, ap, ◌∙◌, subst, append_assoc, append-nil}
+use Rattle.std.proofs.Common.{◌≡◌, ℕ, ◌+◌, ◌%◌, ◌^◌, List, [], ◌∷◌, ◌++◌, length, refl, sym, ap, ◌∙◌, subst, arith, append_assoc, append-nil}
 use Rattle.std.specs.Prelude.{Option, Some, None, IfSome, Result, Ok, Err}
 use Rattle.std.specs.Result.{IsErrAnd}
 use Rattle.qs_outside.specs.Blocks.{Seen}
@@ -21,17 +21,24 @@ calls_more : (lines : List (List Call)) (calls : List Call) → calls_of (lines 
 calls_more [] calls = append-nil calls
 calls_more (l ∷ lines) calls = ap (λ (cs : List Call). l ++ cs) (calls_more lines calls) ∙ sym (append_assoc l (calls_of lines) calls)
 
+length_more : (lines : List (List Call)) (calls : List Call) → length (lines ++ calls ∷ []) ≡ length lines + 1
+length_more [] calls = omega arith
+length_more (l ∷ lines) calls =
+    let rest = length_more lines calls in
+    omega (arith, rest)
+
 lines_more : {D : Type 0} (seen : D → Seen) (a b c : Place D) (lines : List (List Call)) (calls : List Call) → LinesMade seen a lines b → MakesLine seen b calls c →
     LinesMade seen a (lines ++ calls ∷ []) c
 lines_more {D} seen a b c [] calls same one = (c, (subst (λ (p : Place D). MakesLine seen p calls c) same one, refl))
 lines_more seen a b c (l ∷ lines) calls done one = (done.0, (done.1.0, lines_more seen done.0 b c lines calls done.1.1 one))
 
-pub so_far_none : {D : Type 0} (seen : D → Seen) (a : Place D) (counts : Counts) → counts ≡ record { errors = 0; steps = 0 } → SoFar seen a a counts
-so_far_none seen a counts is = record {
+pub so_far_none : {D : Type 0} (seen : D → Seen) (a : Place D) → SoFar seen a a (record { errors = 0; steps = 0; lines = 0 })
+so_far_none seen a = record {
   lines = [];
   made = refl;
-  errors = ap (λ (c : Counts). c.errors) is;
-  steps = ap (λ (c : Counts). c.steps) is;
+  errors = refl;
+  steps = refl;
+  count = refl;
 }
 
 pub so_far_more : {D : Type 0} (seen : D → Seen) (a b c : Place D) (old new : Counts) (calls : List Call) → SoFar seen a b old → MakesLine seen b calls c →
@@ -45,6 +52,7 @@ so_far_more seen a b c old new calls so one counted =
           (ap errors_in whole ∙ errors_more (calls_of so.lines) calls);
       steps = one_line_more _ (steps_in (calls_of so.lines)) (steps_in calls) old.steps new.steps so.steps counted.steps
           (ap steps_in whole ∙ steps_more (calls_of so.lines) calls);
+      count = one_line_more _ (length so.lines) 1 old.lines new.lines so.count counted.lines (length_more so.lines calls);
     }
 
 -- the line that comes is the next one
@@ -76,6 +84,7 @@ by_live g new live same r is makes = subst (λ (l : List LiveRequest). Makes (ma
 
 -- a run that ended sooner
 pub breaks : {D : Type 0} (seen : D → Seen) (a mid b : Place D) (before counts : Counts) (s : Stop) (r : Result Unit Stop) → IsErrAnd r (λ e. e ≡ s) →
-    SoFar seen a mid before → BreaksAt seen mid s b.world → RunMade seen a r b counts
-breaks seen a mid b before counts s (Ok u) is so at = absurd is
-breaks seen a mid b before counts s (Err e) is so at = (mid, before, (so, subst (λ (x : Stop). BreaksAt seen mid x b.world) (sym is) at))
+    counts ≡ before → SoFar seen a mid before → BreaksAt seen mid s b.world → RunMade seen a r b counts
+breaks seen a mid b before counts s (Ok u) is same so at = absurd is
+breaks seen a mid b before counts s (Err e) is same so at =
+    (mid, (subst (λ (c : Counts). SoFar seen a mid c) (sym same) so, subst (λ (x : Stop). BreaksAt seen mid x b.world) (sym is) at))

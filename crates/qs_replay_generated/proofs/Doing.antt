@@ -24,17 +24,19 @@ why_of seen old new l stop.NotNext is = ([], (is.2, (refl, is.0)))
 why_of seen old new l stop.Memory is = (is.0, (is.1.1, inl is.1.0))
 
 left_as : {D : Type 0} (seen : D → Seen) (old new : Desk D) (l : Line) (live live' : List LiveRequest) (c c' : Counts) (s : Stop) (r : Result Unit Stop) →
-    IsErrAnd r (λ e. e ≡ s) → Left seen old l s new → LineDone seen old live c l r new live' c'
-left_as seen old new l live live' c c' s (Ok u) is left = absurd is
-left_as {D} seen old new l live live' c c' s (Err e) is left = subst (λ (x : Stop). Left seen old l x new) (sym is) left
+    IsErrAnd r (λ e. e ≡ s) → c' ≡ c → Left seen old l s new → LineDone seen old live c l r new live' c'
+left_as seen old new l live live' c c' s (Ok u) is same left = absurd is
+left_as {D} seen old new l live live' c c' s (Err e) is same left =
+    let at = subst (λ (x : Stop). Left seen old l x new) (sym is) left in (at.0, (at.1.0, at.1.1, same))
 
 pub left_at : {D : Type 0} (seen : D → Seen) (old new : Desk D) (l : Line) (live live' : List LiveRequest) (c c' : Counts) (s : Stop) (r : Result Unit Stop) →
-    IsErrAnd r (λ e. e ≡ s) → Stopped seen old l s new → LineDone seen old live c l r new live' c'
-left_at seen old new l live live' c c' s r is stopped = left_as seen old new l live live' c c' s r is (why_of seen old new l s stopped)
+    IsErrAnd r (λ e. e ≡ s) → c' ≡ c → Stopped seen old l s new → LineDone seen old live c l r new live' c'
+left_at seen old new l live live' c c' s r is same stopped = left_as seen old new l live live' c c' s r is same (why_of seen old new l s stopped)
 
 -- memory was refused behind it
 pub left_behind : {D : Type 0} (seen : D → Seen) (old played new : Desk D) (l : Line) (lost : Bool) (told : LineTold) (live live' : List LiveRequest) (c c' : Counts)
-    (r : Result Unit Stop) → IsErrAnd r (λ e. e ≡ stop.Memory) → Played seen old l lost told played → new.world ≡ played.world → LineDone seen old live c l r new live' c'
-left_behind {D} seen old played new l lost told live live' c c' r is p same =
-    left_as seen old new l live live' c c' stop.Memory r is
+    (r : Result Unit Stop) → IsErrAnd r (λ e. e ≡ stop.Memory) → c' ≡ c → Played seen old l lost told played → new.world ≡ played.world →
+    LineDone seen old live c l r new live' c'
+left_behind {D} seen old played new l lost told live live' c c' r is kept p same =
+    left_as seen old new l live live' c c' stop.Memory r is kept
     (p.calls, (subst (λ w. Plays seen old.world p.calls w) (sym same) p.is.plays, inr (lost, p.text, played.table, p.is.does)))

@@ -1,6 +1,7 @@
--- Lines that a made-up run makes are no plans of failures.
+-- Which lines a made-up run makes: none is a plan of a failure.
 use Rattle.std.proofs.Common.{ℕ, ◌+◌, Bool, true, false, List, [], ◌∷◌, length}
 use Rattle.std.specs.Prelude.{◌-◌, ◌%◌, ◌==◌, ◌||◌, if◌then◌else◌, nat_le, nat_lt, find, slice_get, option_map, Option, None, Some, IfSome}
+use Rattle.qs_script.specs.declared.line.Line.{Line}
 use Rattle.qs_script.specs.declared.line.Line.TheVariants as line
 use Rattle.qs_generate.specs.Drawing.{drawn, round_draws, state_after}
 use Rattle.qs_generate.specs.Generated.{Made, asked, attached, begun, made, made_at, passed, ran, settled, stepped}
@@ -14,10 +15,21 @@ use Rattle.qs_generate.specs.declared.request.Wanted.{Wanted}
 use Rattle.qs_generate.specs.declared.request.Wanted.TheVariants as wanted
 use Rattle.qs_replay_lines.specs.Effects.{IsPlanned}
 
-abbrev Plain : Made → Type 0
-Plain made = IfSome made.0 IsPlanned
+-- a line of a made-up run
+abbrev pub IsOfRun : Line → Type 0
+IsOfRun (line.Session s e) = Unit {0}
+IsOfRun (line.Write s c offset bytes fua) = Unit {0}
+IsOfRun (line.Read s c offset long) = Unit {0}
+IsOfRun (line.Zero s c offset long fua) = Unit {0}
+IsOfRun (line.Flush s c) = Unit {0}
+IsOfRun (line.Step actor now) = Unit {0}
+IsOfRun (line.Run actor now) = Unit {0}
+IsOfRun other = ⊥
 
-asks_plain : (k : Wanted) (round : ℕ) (d : RoundDraws) → IsPlanned (line_of k round d)
+abbrev Plain : Made → Type 0
+Plain made = IfSome made.0 IsOfRun
+
+asks_plain : (k : Wanted) (round : ℕ) (d : RoundDraws) → IsOfRun (line_of k round d)
 asks_plain wanted.Write round d = tt
 asks_plain wanted.Read round d = tt
 asks_plain wanted.Zero round d = tt
@@ -74,5 +86,26 @@ plain_at g live (turn.Ask round) = asked_plain g round
 plain_at g live (turn.Step round left) = stepped_plain g round left live
 plain_at g live (turn.Run round pass done) = passed_plain g round pass live (find (λ r. nat_lt done r.cookie) live)
 
+pub of_run : (g : Generated) (live : List LiveRequest) → IfSome (made g live).0 IsOfRun
+of_run g live = plain_at g live g.turn
+
+planned_of : (l : Line) → IsOfRun l → IsPlanned l
+planned_of (line.Fail j fail) is = absurd is
+planned_of (line.Session s e) is = tt
+planned_of (line.End s) is = tt
+planned_of (line.Write s c offset bytes fua) is = tt
+planned_of (line.Read s c offset long) is = tt
+planned_of (line.Zero s c offset long fua) is = tt
+planned_of (line.Trim s c offset long) is = tt
+planned_of (line.Flush s c) is = tt
+planned_of (line.Step actor now) is = tt
+planned_of (line.Run actor now) is = tt
+planned_of line.Nothing is = tt
+planned_of (line.Crash choice) is = tt
+
+planned_if : (o : Option Line) → IfSome o IsOfRun → IfSome o IsPlanned
+planned_if None is = tt
+planned_if (Some l) is = planned_of l is
+
 pub plain : (g : Generated) (live : List LiveRequest) → IfSome (made g live).0 IsPlanned
-plain g live = plain_at g live g.turn
+plain g live = planned_if (made g live).0 (of_run g live)

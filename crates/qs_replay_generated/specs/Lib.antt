@@ -1,2 +1,4 @@
 pub mod Changes
 pub mod Making
+pub mod Summing
+pub mod Generating

@@ -1,5 +1,5 @@
 -- A made-up run: its lines, one after the other.
-use Rattle.std.specs.Prelude.{◌≡◌, ℕ, ◌+◌, ◌%◌, ◌^◌, ◌⊎◌, Bool, List, [], ◌∷◌, ◌++◌, Option, Some, None, Result, Ok, Err}
+use Rattle.std.specs.Prelude.{◌≡◌, ℕ, ◌+◌, ◌%◌, ◌^◌, ◌⊎◌, Bool, List, [], ◌∷◌, ◌++◌, length, Option, Some, None, Result, Ok, Err}
 use Rattle.qs_outside.specs.Blocks.{Seen}
 use Rattle.qs_script.specs.declared.line.Line.{Line}
 use Rattle.qs_script.specs.declared.line.LineFault.{LineFault}
@@ -44,10 +44,11 @@ abbrev pub LinesMade : {D : Type 0} → (D → Seen) → Place D → List (List 
 LinesMade seen a [] b = b ≡ a
 LinesMade seen a (calls ∷ more) b = (mid : Place _) × (MakesLine seen a calls mid × LinesMade seen mid more b)
 
--- the errors and steps of calls are counted, modulo 2^64
+-- the errors and steps of a line's calls are counted, and the line, modulo 2^64
 pub record Counted (old : Counts) (calls : List Call) (new : Counts) : Type 0 where
   pub errors : new.errors ≡ (old.errors + errors_in calls) % 2 ^ 64
   pub steps : new.steps ≡ (old.steps + steps_in calls) % 2 ^ 64
+  pub lines : new.lines ≡ (old.lines + 1) % 2 ^ 64
 
 -- Why a line wasn't done, and the calls that it made. Memory may also be refused behind a line.
 abbrev pub WhyNot : {D : Type 0} → WorldValue D → Names → Line → Stop → List Call → Type 0
@@ -71,12 +72,14 @@ IsMade result = (wanted : Line) × (IsPlanned wanted × Comes wanted result)
 abbrev pub PlaysSome : {D : Type 0} → (D → Seen) → Desk D → Line → Result LineTold Stop → Desk D → Type 0
 PlaysSome seen old l result new = (lost : Bool) × PlaysLine seen old l lost result new
 
--- a line was done and counted, and the live requests are those behind it; or it wasn't done to its end, or memory was refused behind it
+-- A line was done and counted, and the live requests are those behind it; or it wasn't done to its end, or memory was refused behind it, and
+-- it isn't counted.
 abbrev pub LineDone : {D : Type 0} → (D → Seen) → Desk D → List LiveRequest → Counts → Line → Result Unit Stop → Desk D → List LiveRequest → Counts → Type 0
 LineDone seen old live counts l (Ok u) new live' counts' =
     (calls : List Call) × (lost : Bool) × (text : List ℕ) × (IsPlayed seen old.world old.table l lost calls text new.world new.table ×
     (live' ≡ lives_after live (change_by l) (answers_in calls)) × Counted counts calls counts')
-LineDone seen old live counts l (Err s) new live' counts' = (cut : List Call) × (Plays seen old.world cut new.world × WhyNot old.world old.table l s cut)
+LineDone seen old live counts l (Err s) new live' counts' =
+    (cut : List Call) × (Plays seen old.world cut new.world × WhyNot old.world old.table l s cut × (counts' ≡ counts))
 
 -- the calls of lines, in order
 abbrev pub calls_of : List (List Call) → List Call
@@ -89,8 +92,9 @@ pub record SoFar {D : Type 0} (seen : D → Seen) (a : Place D) (b : Place D) (c
   pub made : LinesMade seen a lines b
   pub errors : counts.errors ≡ errors_in (calls_of lines) % 2 ^ 64
   pub steps : counts.steps ≡ steps_in (calls_of lines) % 2 ^ 64
+  pub count : counts.lines ≡ length lines % 2 ^ 64
 
 -- A whole run, to the end of its rounds, where no line comes; or one up to a line that wasn't done.
 abbrev pub RunMade : {D : Type 0} → (D → Seen) → Place D → Result Unit Stop → Place D → Counts → Type 0
 RunMade seen a (Ok u) b counts = (run : Generated) × (SoFar seen a (record b { run = run }) counts × ((made run b.live).0 ≡ None))
-RunMade seen a (Err s) b counts = (mid : Place _) × (before : Counts) × (SoFar seen a mid before × BreaksAt seen mid s b.world)
+RunMade seen a (Err s) b counts = (mid : Place _) × (SoFar seen a mid counts × BreaksAt seen mid s b.world)

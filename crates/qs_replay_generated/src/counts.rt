@@ -12,6 +12,8 @@ pub struct Counts {
     pub errors: u64,
     /// The steps, also those that left their request as it was.
     pub steps: u64,
+    /// The lines.
+    pub lines: u64,
 }
 
 /// The counts with those of one line more.
@@ -25,5 +27,6 @@ pub fn counted(old: Counts, told: LineTold) -> Counts
     Counts {
         errors: old.errors.wrapping_add(errors),
         steps: old.steps.wrapping_add(told.steps),
+        lines: old.lines.wrapping_add(1),
     }
 }

@@ -5,7 +5,11 @@
 mod change;
 mod counts;
 mod making;
+mod sum;
+mod whole;
 
 pub use change::{Change, change_of};
 pub use counts::Counts;
 pub use making::make_run;
+pub use sum::sum_of_disks;
+pub use whole::generate_disks;

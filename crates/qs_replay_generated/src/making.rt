@@ -88,22 +88,26 @@ fn do_made<D: RiggedDisk + Drop>(
     let change = change_of(&made);
     let told = play_made(desk, made)?;
     clear(desk.alloc, &mut desk.out);
-    *counts = counted(*counts, told);
     renew(live, change, told.ended)?;
+    *counts = counted(*counts, told);
     Ok(())
 }
 
-/// The lines of a made-up run are done, to the end of its rounds. They end sooner at a line whose event
-/// can't come, or for which memory is refused.
+/// The lines of a made-up run are done and counted, to the end of its rounds. They end sooner at a line
+/// whose event can't come, or for which memory is refused; the counts are then those of the lines before.
 pub fn make_run<D: RiggedDisk + Drop>(
     desk: &mut Desk<D>,
     run: &mut GeneratedRun,
     live: &mut Vec<LiveRequest>,
     counts: &mut Counts,
 ) -> Result<(), Stop>
-    requires { counts.old ≡ record { errors = 0; steps = 0 } }
     ensures { RunMade D.Disk.seen (place run.old live.old.items desk.old) result (place run.new live.new.items desk.new) counts.new }
 {
+    *counts = Counts {
+        errors: 0,
+        steps: 0,
+        lines: 0,
+    };
     'lines: while let Some(made) = run.next_line(desk.alloc, live.as_slice()) {
         do_made(desk, live, counts, made)?;
     }

@@ -1,7 +1,8 @@
 //! Replays a script of events against the core over an image in memory.
 //!
-//! `qsd_replay [--blocks N] [--align N]`: the script is on standard input, and what comes of its lines
-//! is on standard output.
+//! `qsd_replay [--blocks N] [--align N] [--generate N]`: the script is on standard input, and what comes
+//! of its lines is on standard output. With `--generate` a run is made up from the seed N instead, and one
+//! line tells what it came to.
 #![tactic(auto)]
 
 mod stray;
@@ -17,7 +18,7 @@ use telling::{HELP, Replayed, VERSION};
 /// The program's name.
 const NAME: &str = "qsd_replay";
 
-/// Replays the script that stands at standard input.
+/// Replays the script that stands at standard input, or makes up a run.
 fn replay(
     alloc: Global,
     input: Stdin,

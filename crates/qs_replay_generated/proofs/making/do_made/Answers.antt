@@ -8,12 +8,12 @@ use Rattle.qs_replay_generated.proofs.making.do_made.Goals as goal
 
 pub returns-in_err-told : goal.returns-in_err-told
 returns-in_err-told g c = λ wanted comes.
-    left_at g.D.Disk.seen c.args.desk.now c.play_made.new.desk wanted _ _ _ _ c.in_err-told.field-0.0 _ c.from_residual.ensures.1 (c.in_err-told.ensures wanted comes).1
+    left_at g.D.Disk.seen c.args.desk.now c.play_made.new.desk wanted _ _ _ _ c.in_err-told.field-0.0 _ c.from_residual.ensures.1 refl (c.in_err-told.ensures wanted comes).1
 
 pub returns-in_err-renew : goal.returns-in_err-renew
 returns-in_err-renew g c = λ wanted comes.
     let played = c.in_ok-told.ensures wanted comes in
-    left_behind g.D.Disk.seen c.args.desk.now c.play_made.new.desk _ wanted played.0 c.in_ok-told.told _ _ _ _ _ c.from_residual-in_err-renew.ensures.1 played.1 refl
+    left_behind g.D.Disk.seen c.args.desk.now c.play_made.new.desk _ wanted played.0 c.in_ok-told.told _ _ _ _ _ c.from_residual-in_err-renew.ensures.1 refl played.1 refl
 
 pub returns : goal.returns
 returns g c = λ wanted comes.

@@ -30,7 +30,7 @@ returns-in_err-do_made g c =
     let line = by_live c.lines.run c.next_line.new.self c.as_slice.result.now c.lines.live.items _ c.as_slice.ensures.value c.in-Some.ensures.line in
     let n = next (made c.lines.run c.lines.live.items) c.in-Some.made line.line in
     let left = c.in_err-do_made.ensures n.line n.comes in
-    breaks g.D.Disk.seen _ (place c.lines.run c.lines.live.items c.lines.desk) _ c.lines.counts _ c.in_err-do_made.field-0.0 _ c.from_residual.ensures.1 c.lines.invariant (record {
+    breaks g.D.Disk.seen _ (place c.lines.run c.lines.live.items c.lines.desk) _ c.lines.counts _ c.in_err-do_made.field-0.0 _ c.from_residual.ensures.1 left.1.2 c.lines.invariant (record {
       line = n.line;
       is_next = n.is;
       cut = left.0;
