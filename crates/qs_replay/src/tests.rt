@@ -412,6 +412,9 @@ fn made_up_runs(rt: HostRuntime) -> Result<(), Fail> {
     let none = (Vec::new(alloc), Vec::new(alloc));
     let (status, out) = run_words(alloc, words, b"end A", 9, none)?;
     assert_eq!(rt; status, Status::Done);
-    assert!(rt; out.as_slice().starts_with(b"requests 10000 errors 0 steps "));
+    assert!(rt;
+        out.as_slice()
+            .starts_with(b"requests 10000 errors 0 steps ")
+    );
     Ok(())
 }

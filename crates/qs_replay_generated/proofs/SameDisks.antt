@@ -112,7 +112,7 @@ begun_shaped : {D : Type 0} (seen : D → Seen) (align size : ℕ) (disks : List
     (IsImage (map seen disks) → (align_of (map seen disks) ≡ align) × (size_of (map seen disks) ≡ size)) → IsShaped align size (disks_of seen start)
 begun_shaped {D} seen align size disks start begins told =
     let here : map (λ (s : StripeState D). s.disk) start.stripes ≡ disks =
-        ap (λ (x : WorldValue D). map (λ (s : StripeState D). s.disk) x.stripes) begins.exports.same ∙ begins.opened.stripes in
+    ap (λ (x : WorldValue D). map (λ (s : StripeState D). s.disk) x.stripes) begins.exports.same ∙ begins.opened.stripes in
     let is = told begins.opened.image in
     subst (λ (ds : List D). IsShaped align size (map seen ds)) (sym here) (record { image = begins.opened.image; align_is = is.0; size_is = is.1 })
 

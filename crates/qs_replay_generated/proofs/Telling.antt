@@ -65,7 +65,7 @@ whole_by out out' line old new fresh empty is puts =
     let held : old.held ≡ [] = ap (λ (b : Buffers). b.held) fresh in
     let rest : moved.rest ≡ [] = moved.waits is ∙ empty in
     let same : moved.gives.out ≡ line =
-        sym (append-nil moved.gives.out) ∙ ap (λ (r : List ℕ). moved.gives.out ++ r) (sym rest) ∙ sym moved.gives.joined ∙ ap (λ (h : List ℕ). h ++ line) held in
+    sym (append-nil moved.gives.out) ∙ ap (λ (r : List ℕ). moved.gives.out ++ r) (sym rest) ∙ sym moved.gives.joined ∙ ap (λ (h : List ℕ). h ++ line) held in
     let rises = rises_from old.state new.state _ _ (ap (λ (b : Buffers). b.state) fresh) moved.runs in
     record {
       prints = subst (λ (l : List ℕ). Appends out.bytes out'.bytes l) same moved.gives.wrote;
@@ -197,7 +197,7 @@ pub ended_sooner : {D : Type 0} (seen : D → Seen) (seed align blocks : ℕ) (d
     Generates seen seed align blocks disks sent result left sent
 ended_sooner {D} seen seed align blocks disks start w counts left sent result made s is begins core left_are result_is =
     let came : RunsCore seen seed (blocks * align) start (Err s) w counts =
-        subst (λ (r : Result Unit Stop). RunsCore seen seed (blocks * align) start r w counts) is core in
+    subst (λ (r : Result Unit Stop). RunsCore seen seed (blocks * align) start r w counts) is core in
     let mid : Place D = came.1.0.0 in
     let so : SoFar seen (first_place seed (blocks * align) start) mid counts = came.1.0.1.0 in
     let breaks : BreaksAt seen mid s w = subst (λ (x : WorldValue D). BreaksAt seen mid s x) (sym came.1.1) came.1.0.1.1 in
