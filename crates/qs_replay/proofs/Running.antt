@@ -1,29 +1,15 @@
 -- From the disks to the run.
-use Rattle.std.proofs.Common.{◌≡◌, ℕ, ◌*◌, ◌<◌, ◌≤◌, ◌⊎◌, List, [], ◌∷◌, ◌++◌, refl, sym, subst, ap, ◌∙◌, inl, inr, true, codes, arith}
+use Rattle.std.proofs.Common.{◌≡◌, ℕ, ◌*◌, ◌<◌, ◌≤◌, ◌⊎◌, List, [], ◌∷◌, ◌++◌, refl, sym, subst, inl, inr, arith}
 use Rattle.std.specs.Prelude.{false, Option, Some, None, String, map}
 use Rattle.std.specs.Global.{Global}
 use Rattle.qs_status.specs.declared.status.Status.{Status}
 use Rattle.qs_status.specs.declared.status.Status.TheVariants as status
 use Rattle.qs_outside.specs.Blocks.{Seen}
-use Rattle.qs_graph.specs.Table.{GraphValue}
-use Rattle.qs_image.specs.Image.{align_of}
-use Rattle.qs_image.specs.Opening.{IsAlign}
-use Rattle.qs_model.specs.Acts.{Element, Exported}
-use Rattle.qs_model.specs.Guards.{May}
-use Rattle.qs_model.specs.Steps.{happens}
-use Rattle.qs_model.proofs.Headline.{besides, headline}
-use Rattle.qs_model.specs.Worlds.{Opening as OpenedOver}
-use Rattle.qs_verdicts.proofs.Judged.{judged}
-use Rattle.qs_part.specs.declared.graph.GraphOp.TheVariants.{ExportAdd}
-use Rattle.qs_request_state.specs.declared.shape.Shape.{Shape}
 use Rattle.qs_stream.specs.declared.state.State.{State}
 use Rattle.qs_stream.specs.declared.state.State.TheVariants.{Open}
 use Rattle.qs_stream.specs.Buffers.{Buffers, new_buffers}
 use Rattle.qs_stream.specs.Flows.{Proceeds, Rises, Side}
 use Rattle.qs_stream.proofs.Moves.{rises_from}
-use Rattle.qs_world.specs.Events.{Does}
-use Rattle.qs_world.specs.Openings.{opening_over}
-use Rattle.qs_world.specs.Stands.{Stands}
 use Rattle.qs_world.specs.Values.{WorldValue}
 use Rattle.qs_calls.specs.Calls.{Call, Plays}
 use Rattle.qs_calls.specs.Runs.{Begins, ComesBack}

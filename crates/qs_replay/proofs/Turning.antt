@@ -8,7 +8,7 @@ use Rattle.qs_stream.specs.declared.state.State.{State}
 use Rattle.qs_stream.specs.declared.state.State.TheVariants as state
 use Rattle.qs_stream.specs.Buffers.{Buffers}
 use Rattle.qs_stream.specs.Flows.{Flow, Moved, Proceeds, Puts, Side}
-use Rattle.qs_stream.proofs.Moves.{moved_on, moved_none}
+use Rattle.qs_stream.proofs.Moves.{moved_on}
 use Rattle.qs_world.specs.Values.{WorldValue}
 use Rattle.qs_replay_lines.specs.declared.desk.Desk.{Desk}
 use Rattle.qs_replay.specs.declared.lines.Came.TheVariants as came

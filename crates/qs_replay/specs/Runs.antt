@@ -1,7 +1,6 @@
 -- What `run_replay` does, from its words to its status.
-use Rattle.std.specs.Prelude.{◌≡◌, ◌^◌, ℕ, ◌≤◌, ◌⊎◌, Bool, true, false, List, [], ◌∷◌, ◌++◌, map, codes, Option, Some, None, String}
+use Rattle.std.specs.Prelude.{◌≡◌, ◌^◌, ℕ, ◌≤◌, ◌⊎◌, false, List, [], ◌++◌, map, Option, Some, None, String}
 use Rattle.std.specs.Global.{Global}
-use Rattle.qs_status.specs.declared.status.OpenBad.{OpenBad}
 use Rattle.qs_status.specs.declared.status.Status.{Status}
 use Rattle.qs_status.specs.declared.status.Status.TheVariants as status
 use Rattle.qs_outside.specs.Blocks.{Seen}

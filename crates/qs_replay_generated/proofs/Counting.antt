@@ -1,11 +1,7 @@
 -- The counts of calls, one list behind the other.
-use Rattle.std.proofs.Common.{◌≡◌, ℕ, ◌+◌, ◌%◌, ◌^◌, Bool, true, false, List, [], ◌∷◌, ◌++◌, refl, sym, ap, ◌∙◌, subst, arith, append_assoc}
-use Rattle.std.specs.Prelude.{Option, Some, None}
+use Rattle.std.proofs.Common.{◌≡◌, ℕ, ◌+◌, ◌%◌, ◌^◌, Bool, true, false, List, [], ◌∷◌, ◌++◌, refl, sym, ap, ◌∙◌, arith, append_assoc}
 use Rattle.qs_calls.specs.Calls.{Call}
-use Rattle.qs_replay_lines.specs.Numbers.{Tells, answers_by, answers_in, each, errors_in, errors_of, steps_by, steps_in}
-use Rattle.qs_replay_lines.specs.declared.told.LineTold.{LineTold}
-use Rattle.qs_replay_generated.specs.Making.{Counted}
-use Rattle.qs_replay_generated.specs.declared.counts.Counts.{Counts}
+use Rattle.qs_replay_lines.specs.Numbers.{answers_by, answers_in, errors_in, errors_of, steps_in}
 
 pub steps_more : (calls more : List Call) → steps_in (calls ++ more) ≡ steps_in calls + steps_in more
 steps_more [] more = omega arith

@@ -1,5 +1,5 @@
 -- How a line ended, as a line of a made-up run.
-use Rattle.std.proofs.Common.{◌≡◌, List, [], ◌∷◌, refl, sym, subst, inl, inr}
+use Rattle.std.proofs.Common.{◌≡◌, List, [], refl, sym, subst, inl, inr}
 use Rattle.std.specs.Prelude.{Bool, Result, Ok, Err}
 use Rattle.std.specs.Result.{IsErrAnd}
 use Rattle.qs_outside.specs.Blocks.{Seen}

@@ -4,8 +4,8 @@ use Rattle.std.specs.Prelude.{◌-◌, ◌%◌, ◌==◌, ◌||◌, if◌then◌
 use Rattle.qs_script.specs.declared.line.Line.{Line}
 use Rattle.qs_script.specs.declared.line.Line.TheVariants as line
 use Rattle.qs_generate.specs.Drawing.{drawn, round_draws, state_after}
-use Rattle.qs_generate.specs.Generated.{Made, asked, attached, begun, made, made_at, passed, ran, settled, stepped}
-use Rattle.qs_generate.specs.Lives.{Generated, actor_of, session_line}
+use Rattle.qs_generate.specs.Generated.{Made, asked, begun, made, made_at, passed, settled, stepped}
+use Rattle.qs_generate.specs.Lives.{Generated, actor_of}
 use Rattle.qs_generate.specs.Rounds.{kind_of, line_of, request_line}
 use Rattle.qs_generate.specs.declared.draws.RoundDraws.{RoundDraws}
 use Rattle.qs_generate.specs.declared.live.LiveRequest.{LiveRequest}

@@ -1,9 +1,9 @@
 -- The lines of a made-up run leave the disks the same ones.
 use Rattle.std.proofs.Common.{◌≡◌, ℕ, ◌*◌, ◌^◌, ◌≤◌, Bool, false, List, [], ◌∷◌, ◌++◌, map, refl, sym, ap, ◌∙◌, subst, arith}
-use Rattle.std.specs.Prelude.{All, Option, Some, None, IfSome}
+use Rattle.std.specs.Prelude.{All, Option, IfSome}
 use Rattle.std.proofs.lemmas.List.Elements.{All-head, All-tail}
 use Rattle.qs_outside.specs.Blocks.{Seen}
-use Rattle.qs_image.specs.Image.{SameDisks, align_of, disk, size_of}
+use Rattle.qs_image.specs.Image.{SameDisks, align_of, size_of}
 use Rattle.qs_image.specs.Opening.{IsAlike, IsImage}
 use Rattle.qs_part.specs.declared.event.Event.{Event}
 use Rattle.qs_part.specs.declared.event.Outcome.{Outcome}
@@ -12,7 +12,7 @@ use Rattle.qs_script.specs.declared.line.Line.TheVariants as line
 use Rattle.qs_stripe.specs.Table.{StripeState}
 use Rattle.qs_world.specs.Values.{WorldValue, disks_of}
 use Rattle.qs_world.proofs.SameDisks.{same_disks}
-use Rattle.qs_calls.specs.Calls.{Call, Happened, Rigged, PowerFailed, ExportMade, Makes, Plays}
+use Rattle.qs_calls.specs.Calls.{Call, Happened, Rigged, PowerFailed, ExportMade, Plays}
 use Rattle.qs_calls.specs.Goings.{GoesOn, RunsOut}
 use Rattle.qs_calls.specs.Runs.{Begins}
 use Rattle.qs_replay_lines.specs.Effects.{Does}

@@ -1,5 +1,5 @@
 -- The sum of an image, block by block.
-use Rattle.std.proofs.Common.{◌≡◌, ℕ, ◌+◌, ◌*◌, ◌%◌, ◌<◌, ◌≤◌, ◌⊎◌, inl, inr, suc, List, [], ◌∷◌, ◌++◌, length, get_or, refl, sym, ap, ◌∙◌, subst, arith, length-append}
+use Rattle.std.proofs.Common.{◌≡◌, ℕ, ◌+◌, ◌*◌, ◌%◌, ◌<◌, ◌⊎◌, inl, inr, suc, List, [], ◌∷◌, ◌++◌, length, get_or, refl, sym, ap, ◌∙◌, subst, arith, length-append}
 use Rattle.std.specs.Prelude.{map}
 use Rattle.std.proofs.Math.Nat.{eq-or-lt_of_le}
 use Rattle.std.proofs.Math.Seq.{get_or-append_seam}
@@ -7,7 +7,7 @@ use Rattle.std.proofs.lemmas.List.{get_or_append_left}
 use Rattle.qs_bytes.specs.Geometry.{stripe_of}
 use Rattle.qs_bytes.specs.Pieces.{part}
 use Rattle.qs_outside.specs.Blocks.{Seen}
-use Rattle.qs_image.specs.Image.{AllTell, RoseAt, SameDisks, align_of, content}
+use Rattle.qs_image.specs.Image.{SameDisks}
 use Rattle.qs_image.proofs.Striped.{rose_within, same_disks_refl, same_disks_trans, still_tell}
 use Rattle.qs_generate.specs.Sums.{weighted}
 use Rattle.qs_replay_generated.specs.Summing.{AddsBlock, IsLoaded, Stays, SumsUp, total}

@@ -1,9 +1,8 @@
 -- A made-up run over disks, from its seed to the line that it prints.
-use Rattle.std.specs.Prelude.{◌≡◌, ℕ, ◌+◌, ◌*◌, ◌%◌, ◌^◌, ◌⊎◌, false, List, [], ◌∷◌, ◌++◌, map, Option, Some, None, Result, Ok, Err}
+use Rattle.std.specs.Prelude.{◌≡◌, ℕ, ◌+◌, ◌*◌, ◌%◌, ◌^◌, ◌⊎◌, false, List, [], ◌++◌, map, Option, Some, None, Result}
 use Rattle.std.specs.FinMap.{empty as no_requests}
 use Rattle.std.specs.FinSet.{empty as no_cookies}
 use Rattle.std.specs.Io.KnownBytes.{Appends}
-use Rattle.qs_status.specs.declared.status.OpenBad.{OpenBad}
 use Rattle.qs_status.specs.declared.status.Status.{Status}
 use Rattle.qs_status.specs.declared.status.Status.TheVariants as status
 use Rattle.qs_outside.specs.Blocks.{Seen}

@@ -14,7 +14,7 @@ use Rattle.qs_calls.specs.Calls.{Call, Happened, Plays}
 use Rattle.qs_replay_lines.specs.Effects.{IsActor, Played, Settles, Stopped, news_of, run_text, step_text}
 use Rattle.qs_calls.specs.Goings.{RunsOut}
 use Rattle.qs_replay_lines.specs.Tables.{Gives, Names}
-use Rattle.qs_replay_lines.specs.Numbers.{Tells, ended_by, quiet}
+use Rattle.qs_replay_lines.specs.Numbers.{ended_by, quiet}
 use Rattle.qs_replay_lines.specs.declared.told.LineTold.{LineTold}
 use Rattle.qs_replay_lines.proofs.Numbers.{quiet_tells, run_tells, step_tells}
 use Rattle.qs_replay_lines.proofs.Playing.{stopped_cut}

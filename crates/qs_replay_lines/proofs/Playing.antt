@@ -1,8 +1,7 @@
 -- What a line did, by the way that its function ended.
-use Rattle.std.proofs.Common.{◌≡◌, ◌⊎◌, ◌<◌, ℕ, zero, suc, arith, List, [], ◌∷◌, ◌++◌, refl, append-nil, sym, subst, inl, inr, ap, ◌∙◌}
-use Rattle.std.specs.Prelude.{All, Bool, Option, None, Result, Ok, Err, true, false}
+use Rattle.std.proofs.Common.{◌≡◌, ◌⊎◌, ◌<◌, ℕ, zero, suc, arith, List, [], ◌∷◌, refl, append-nil, sym, subst, inl, inr, ap, ◌∙◌}
+use Rattle.std.specs.Prelude.{Bool, Option, None, Result, Ok, Err, false}
 use Rattle.std.specs.Result.{IsErrAnd}
-use Rattle.std.proofs.lemmas.List.Elements.{All-append, All-cons, All-nil}
 use Rattle.qs_part.specs.declared.event.Actor.{Actor}
 use Rattle.qs_bytes.specs.declared.ask.Ask.{Ask}
 use Rattle.qs_outside.specs.Blocks.{Seen}
@@ -20,7 +19,6 @@ use Rattle.qs_replay_lines.specs.declared.desk.Desk.{Desk}
 use Rattle.qs_calls.specs.Calls.{Call, Happened, Plays}
 use Rattle.qs_replay_lines.specs.Tables.{Gives, IsKnown, IsUsed, Names, adds}
 use Rattle.qs_replay_lines.specs.Effects.{IsActor, AreFirst, AskedBy, IsAsked, IsEventOf, Played, PlaysLine, Stopped, UsesAgain, WasUsed}
-use Rattle.qs_calls.specs.Goings.{GoesOn, goes_on}
 use Rattle.qs_replay_lines.specs.Numbers.{quiet}
 use Rattle.qs_replay_lines.specs.declared.told.LineTold.{LineTold}
 use Rattle.qs_replay_lines.proofs.Numbers.{quiet_tells}

@@ -1,5 +1,5 @@
 -- Crashes at one place of two replays that found the same left the same, where they chose alike.
-use Rattle.std.proofs.Common.{◌≡◌, ℕ, List, [], ◌∷◌, ◌++◌, refl, sym, subst, ap, ◌∙◌}
+use Rattle.std.proofs.Common.{◌≡◌, ℕ, List, [], ◌∷◌, ◌++◌, sym, subst, ap, ◌∙◌}
 use Rattle.std.specs.Prelude.{Option, Bool, IsTrue}
 use Rattle.qs_bytes.specs.Geometry.{stripe_of}
 use Rattle.qs_outside.specs.Blocks.{Seen}

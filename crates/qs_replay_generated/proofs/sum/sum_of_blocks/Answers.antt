@@ -1,5 +1,5 @@
 -- No block yet, and then one more.
-use Rattle.std.proofs.Common.{◌≡◌, ℕ, subst, sym}
+use Rattle.std.proofs.Common.{ℕ, subst}
 use Rattle.std.specs.Prelude.{map}
 use Rattle.qs_image.specs.Image.{align_of}
 use Rattle.qs_replay_generated.specs.Summing.{AddsBlock}

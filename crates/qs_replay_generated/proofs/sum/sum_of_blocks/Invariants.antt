@@ -1,5 +1,4 @@
 -- The blocks so far were loaded and added.
-use Rattle.std.proofs.Common.{length, ◌≡◌}
 use Rattle.std.specs.Prelude.{map}
 use Rattle.qs_image.specs.Image.{align_of}
 use Rattle.qs_replay_generated.specs.Summing.{SumsUp}

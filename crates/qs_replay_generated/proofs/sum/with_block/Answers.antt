@@ -1,8 +1,7 @@
 -- A block whose load failed adds nothing.
-use Rattle.std.proofs.Common.{◌≡◌, ◌+◌, ◌*◌, ◌%◌, [], inr, refl, sym, ap, ◌∙◌, subst, arith, length, ℕ}
+use Rattle.std.proofs.Common.{◌*◌, [], inr, refl, ◌∙◌, subst, arith, ℕ}
 use Rattle.std.specs.Prelude.{map}
 use Rattle.qs_image.specs.Image.{RoseAt, align_of}
-use Rattle.qs_generate.specs.Sums.{weighted}
 use Rattle.qs_replay_generated.proofs.Sums.{nothing}
 use Rattle.qs_replay_generated.proofs.sum.with_block.Goals as goal
 

@@ -1,5 +1,5 @@
 -- The line was put, and all was written, or a front of it.
-use Rattle.qs_stream.specs.Flows.{Side, side}
+use Rattle.qs_stream.specs.Flows.{side}
 use Rattle.qs_replay_generated.proofs.Telling.{part_of_line, whole_line}
 use Rattle.qs_replay_generated.proofs.whole.print_line.Goals as goal
 
