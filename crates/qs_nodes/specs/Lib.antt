@@ -1,2 +1,3 @@
 pub mod Nodes
 pub mod Table
+pub mod Tree
