@@ -1,2 +1,4 @@
 pub mod Finds
 pub mod Over
+pub mod Rooted
+pub mod Keeps
