@@ -1,5 +1,6 @@
 ghost use Rattle.std.specs.Prelude.{◌≡◌, ◌<◌, length, IfOk};
 ghost use Rattle.qs_nodes.specs.Table.{fresh, set_node, AddsGroup, AddsRaw, AddsThrottle, Deletes, EndsGroup, ReopensRaw, ReopensThrottle};
+ghost use Rattle.qs_nodes.specs.Tree.{IsTree};
 
 use crate::node::{Kind, Node, Refused};
 use crate::scan;
@@ -25,14 +26,14 @@ pub struct Nodes {
 }
 
 impl Model for Nodes {
-    ghost use Rattle.std.specs.Prelude.{◌≡◌, length};
     ghost use Rattle.qs_nodes.specs.Table.{NodesValue};
+    ghost use Rattle.qs_nodes.specs.Tree.{IsTree};
 
     ghost Value = { NodesValue };
 
     ghost view = { λ g. record { size = g.size; nodes = g.nodes.items; groups = g.groups.items } };
 
-    ghost invariant = { λ g. length g.groups.items ≡ 16 };
+    ghost invariant = { λ g. IsTree (record { size = g.size; nodes = g.nodes.items; groups = g.groups.items }) };
 }
 
 impl Nodes {
@@ -174,7 +175,8 @@ impl Nodes {
     }
 
     fn set(&mut self, at: usize, node: Node)
-        requires { at < length self.old.nodes }
+        requires inside { at < length self.old.nodes }
+        requires tree { IsTree (set_node self.old at node) }
         ensures { self.new ≡ set_node self.old at node }
     {
         self.nodes[at] = node;
