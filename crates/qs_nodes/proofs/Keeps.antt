@@ -1,9 +1,9 @@
 -- Every operation keeps the tree.
-use Rattle.std.proofs.Common.{◌≡◌, ◌≢◌, ℕ, ◌+◌, ◌<◌, ◌≤◌, List, [], ◌∷◌, length, Bool, true, false, refl, sym, ◌∙◌, ap, subst, arith, inl, inr, ◌⊎◌}
+use Rattle.std.proofs.Common.{◌≡◌, ◌≢◌, ℕ, ◌+◌, ◌^◌, ◌<◌, ◌≤◌, List, [], ◌∷◌, length, Bool, true, false, refl, sym, ◌∙◌, ap, subst, arith, inl, inr, ◌⊎◌}
 use Rattle.std.specs.Prelude.{◌==◌, Option, Some, None, Result, Ok, Err, find, cond, option_map}
 use Rattle.std.specs.List.{slice_index_or, slice_get}
 use Rattle.std.proofs.lemmas.Bool.{eqb-true}
-use Rattle.std.proofs.lemmas.List.{length-set}
+use Rattle.std.proofs.lemmas.List.{length-replicate, length-set}
 use Rattle.std.proofs.lemmas.Option.{get_or_from_slice_get, none-some, same_Some, slice_get_within}
 use Rattle.qs_part.specs.declared.graph.User.{User}
 use Rattle.qs_part.specs.declared.graph.User.TheVariants.{Node as NodeUser, Export as ExportUser}
@@ -13,7 +13,7 @@ use Rattle.qs_nodes.specs.declared.node.Node.{Node}
 use Rattle.qs_nodes.specs.declared.node.Refused.{Refused}
 use Rattle.qs_nodes.specs.declared.node.Refused.TheVariants.{Duplicate, NoNode, NoGroup, OutOfRange, Deep, Full, Root, InUse, OtherKind, OtherFile, Memory}
 use Rattle.qs_nodes.specs.Nodes.{first_of, first_user, has_name, has_place, is_over, named, raw_child, resized_user, shown, throttle_child, user_of, Lies, LowestFree}
-use Rattle.qs_nodes.specs.Table.{raw, set_node, throttle, with_group, with_node, without_node, AddsGroup, AddsRaw, AddsThrottle, Deletes, EndsGroup, IsAt, NodesValue, ReopensRaw, ReopensThrottle}
+use Rattle.qs_nodes.specs.Table.{fresh, raw, set_node, throttle, with_group, with_node, without_node, AddsGroup, AddsRaw, AddsThrottle, Deletes, EndsGroup, IsAt, NodesValue, ReopensRaw, ReopensThrottle}
 use Rattle.qs_nodes.specs.Tree.{node_at, IsTree, Shows, StandsOver}
 use Rattle.qs_nodes.proofs.Finds.{none_of_any}
 use Rattle.qs_nodes.proofs.Over.{all_anywhere, all_elsewhere, back, none_back, AllUse, Anywhere, Elsewhere, InStead}
@@ -63,7 +63,8 @@ adds_raw v new name child offset size read_only (Err OtherKind) a t = absurd a
 adds_raw v new name child offset size read_only (Err OtherFile) a t = absurd a
 adds_raw v new name child offset size read_only (Ok place) (below, (over, lies, free, is)) t =
     subst IsTree (sym is) (record {
-      slots = t.slots;
+      whole = t.whole;
+  slots = t.slots;
       rooted = rooted_push v.size v.nodes (raw name place below offset size read_only) t.rooted
           (raw_stands v name child place below offset size read_only over.0 over.1 lies free t);
     })
@@ -83,7 +84,8 @@ adds_throttle v new name child group read_only (Err OtherKind) a t = absurd a
 adds_throttle v new name child group read_only (Err OtherFile) a t = absurd a
 adds_throttle v new name child group read_only (Ok place) (below, slot, (member, deep, free, is)) t =
     subst IsTree (sym is) (record {
-      slots = t.slots;
+      whole = t.whole;
+  slots = t.slots;
       rooted = rooted_push v.size v.nodes (throttle name place below slot read_only) t.rooted
           (throttle_stands v name child place below slot read_only member.0.0 member.0.1 deep free t);
     })
@@ -111,7 +113,8 @@ deletes v new name export (Err OtherKind) a t = absurd a
 deletes v new name export (Err OtherFile) a t = absurd a
 deletes v new name export (Ok done) (i, n, (upper, alone, none, is)) t =
     subst IsTree (sym is) (record {
-      slots = t.slots;
+      whole = t.whole;
+  slots = t.slots;
       rooted = rooted_remove v.size v.nodes i n (at_inside v name i n upper.0) (at_here v name i n upper.0) upper.1 alone t.rooted;
     })
 
@@ -176,11 +179,13 @@ raw_set : (v : NodesValue) (name : List ℕ) (i : ℕ) (n m : Node) → IsAt v n
     m.depth ≡ n.depth → n.kind ≢ File → InStead (back [] v.nodes) n m → IsTree v →
     (m.size ≡ n.size) ⊎ (first_user v.nodes n.place ≡ None) → IsTree (set_node v i m)
 raw_set v name i n m at place own depth upper stead t (inl size) = record {
+  whole = t.whole;
   slots = t.slots;
   rooted = rooted_set Anywhere v.size v.nodes i n m (at_inside v name i n at) (at_here v name i n at) place own (λ u. (size, depth))
       (all_anywhere v.nodes) upper stead t.rooted;
 }
 raw_set v name i n m at place own depth upper stead t (inr alone) = record {
+  whole = t.whole;
   slots = t.slots;
   rooted = rooted_set (Elsewhere n.place) v.size v.nodes i n m (at_inside v name i n at) (at_here v name i n at) place own (λ u. absurd (u refl))
       (all_elsewhere n.place v.nodes alone) upper stead t.rooted;
@@ -237,7 +242,7 @@ reopens_throttle v new name child group (Ok done) (i, n, below, slot, (at, free,
     (stead_throttle (back [] v.nodes) n below slot at.1) t (inl refl))
 
 regrouped : (v : NodesValue) (slot : ℕ) (group : Option (List ℕ)) → IsTree v → IsTree (with_group v slot group)
-regrouped v slot group t = record { slots = length-set v.groups slot group ∙ t.slots; rooted = t.rooted }
+regrouped v slot group t = record { whole = t.whole; slots = length-set v.groups slot group ∙ t.slots; rooted = t.rooted }
 
 pub adds_group : (v new : NodesValue) (id : List ℕ) (r : Result ℕ Refused) → AddsGroup v id r new → IsTree v → IsTree new
 adds_group v new id (Err (Duplicate p)) a t = same v new a.1 t
@@ -267,3 +272,10 @@ ends_group v new id (Err OtherKind) a t = absurd a
 ends_group v new id (Err OtherFile) a t = absurd a
 ends_group v new id (Err Memory) a t = absurd a
 ends_group v new id (Ok done) a t = subst IsTree (sym a.1.2) (regrouped v a.0 None t)
+
+pub fresh_tree : (size : ℕ) (file : List ℕ) (read_only : Bool) → size < 2 ^ 64 → IsTree (fresh size file read_only)
+fresh_tree size file read_only whole = record {
+  whole = whole;
+  slots = length-replicate 16 (let group : Option (List ℕ) = None in group);
+  rooted = (record { place = refl; size = refl; depth = refl; kind = refl }, record {});
+}

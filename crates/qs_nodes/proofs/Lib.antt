@@ -2,3 +2,4 @@ pub mod Finds
 pub mod Over
 pub mod Rooted
 pub mod Keeps
+pub mod Inside

@@ -1,3 +1,4 @@
 pub mod Nodes
 pub mod Table
 pub mod Tree
+pub mod Ways

@@ -1,5 +1,5 @@
 -- How the nodes stand over each other.
-use Rattle.std.specs.Prelude.{◌≡◌, ℕ, ◌+◌, ◌<◌, ◌≤◌, List, [], ◌∷◌, Option, Some, None, find, length}
+use Rattle.std.specs.Prelude.{◌≡◌, ℕ, ◌+◌, ◌^◌, ◌<◌, ◌≤◌, List, [], ◌∷◌, Option, Some, None, find, length}
 use Rattle.qs_nodes.specs.declared.node.Kind.{Kind}
 use Rattle.qs_nodes.specs.declared.node.Kind.TheVariants.{File, Raw, Throttle}
 use Rattle.qs_nodes.specs.declared.node.Node.{Node}
@@ -45,7 +45,8 @@ abbrev pub IsRooted : ℕ → List Node → Type 0
 IsRooted size [] = ⊥
 IsRooted size (n ∷ newer) = IsRoot size n × AllOver (n ∷ []) newer
 
--- the nodes are a tree over the image, and the groups have 16 slots
+-- the nodes are a tree over an image of fewer than 2^64 bytes, and the groups have 16 slots
 pub record IsTree (v : NodesValue) : Type 0 where
+  pub whole : v.size < 2 ^ 64
   pub slots : length v.groups ≡ 16
   pub rooted : IsRooted v.size v.nodes

@@ -1,9 +1,12 @@
 ghost use Rattle.std.specs.Prelude.{◌≡◌, ◌<◌, length, IfOk};
 ghost use Rattle.qs_nodes.specs.Table.{fresh, set_node, AddsGroup, AddsRaw, AddsThrottle, Deletes, EndsGroup, ReopensRaw, ReopensThrottle};
 ghost use Rattle.qs_nodes.specs.Tree.{IsTree};
+ghost use Rattle.qs_nodes.specs.Ways.{place_of, way_from};
 
 use crate::node::{Kind, Node, Refused};
 use crate::scan;
+use crate::walk;
+use crate::way::WayDown;
 use qs_bytes::{Memory, Name};
 use qs_part::graph::User;
 use std::alloc::Global;
@@ -172,6 +175,20 @@ impl Nodes {
         }
         self.nodes.remove(at);
         Ok(())
+    }
+
+    /// The place of the node of a name. `None` exactly where no node has it.
+    pub fn place_of(&self, name: &Name) -> Option<u8>
+        ensures { result ≡ place_of self.now.nodes name.now }
+    {
+        scan::place_of(&self.nodes, name)
+    }
+
+    /// The way from the node at a place down to the image. `None` exactly where no node is there.
+    pub fn route_from(&self, place: u8) -> Option<WayDown>
+        ensures { result ≡ way_from self.now.nodes place }
+    {
+        walk::way_from(&self.nodes, place)
     }
 
     fn set(&mut self, at: usize, node: Node)
