@@ -3,3 +3,4 @@ pub mod Over
 pub mod Rooted
 pub mod Keeps
 pub mod Inside
+pub mod Sizes

@@ -2,3 +2,4 @@ pub mod Nodes
 pub mod Table
 pub mod Tree
 pub mod Ways
+pub mod Sizes

@@ -1,6 +1,8 @@
-ghost use Rattle.std.specs.Prelude.{◌≡◌, ℕ, ◌+◌, ◌^◌, ◌<◌, ◌≤◌, Bool, List, Option, Some, Result};
+ghost use Rattle.std.specs.Prelude.{◌≡◌, ◌≢◌, ℕ, ◌+◌, ◌^◌, ◌<◌, ◌≤◌, Bool, List, Option, Some, None, Result};
 ghost use Rattle.qs_nodes.specs.declared.node.Refused.{Refused};
 ghost use Rattle.qs_nodes.specs.declared.way.WayDown.{WayDown};
+ghost use Rattle.qs_nodes.specs.Nodes.{user_of};
+ghost use Rattle.qs_nodes.specs.Sizes.{export_over, KeepsSize};
 ghost use Rattle.qs_nodes.specs.Table.{fresh, AddsGroup, AddsRaw, AddsThrottle, Deletes, EndsGroup, NodesValue, ReopensRaw, ReopensThrottle};
 ghost use Rattle.qs_nodes.specs.Tree.{IsTree};
 ghost use Rattle.qs_nodes.specs.Ways.{way_from};
@@ -29,4 +31,27 @@ pub fn kept()
         AddsGroup v id r new → IsTree v → IsTree new }
     ensures group_del { (v new : NodesValue) (id : List ℕ) (r : Result Unit Refused) →
         EndsGroup v id r new → IsTree v → IsTree new }
+{}
+
+/// A node that has a user keeps its place and its size, whatever an operation answers. `exports` tells
+/// the first export over each place. Where no node goes and none is given another part, every node
+/// keeps them.
+pub fn sized()
+    ensures add_raw { (v new : NodesValue) (name child : List ℕ) (offset : ℕ) (size : Option ℕ) (read_only : Bool)
+        (r : Result ℕ Refused) → AddsRaw v name child offset size read_only r new → (place : ℕ) → KeepsSize v new place }
+    ensures add_throttle { (v new : NodesValue) (name child group : List ℕ) (read_only : Bool) (r : Result ℕ Refused) →
+        AddsThrottle v name child group read_only r new → (place : ℕ) → KeepsSize v new place }
+    ensures del { (v new : NodesValue) (exports : ℕ → Option (List ℕ)) (name : List ℕ) (r : Result Unit Refused) →
+        Deletes v name (export_over exports v.nodes name) r new →
+        (place : ℕ) → user_of v.nodes place (exports place) ≢ None → KeepsSize v new place }
+    ensures reopen_raw { (v new : NodesValue) (exports : ℕ → Option (List ℕ)) (name child : List ℕ) (offset : ℕ)
+        (size : Option ℕ) (r : Result Unit Refused) →
+        ReopensRaw v name child offset size (export_over exports v.nodes name) r new →
+        (place : ℕ) → user_of v.nodes place (exports place) ≢ None → KeepsSize v new place }
+    ensures reopen_throttle { (v new : NodesValue) (name child group : List ℕ) (r : Result Unit Refused) →
+        ReopensThrottle v name child group r new → (place : ℕ) → KeepsSize v new place }
+    ensures group_add { (v new : NodesValue) (id : List ℕ) (r : Result ℕ Refused) →
+        AddsGroup v id r new → (place : ℕ) → KeepsSize v new place }
+    ensures group_del { (v new : NodesValue) (id : List ℕ) (r : Result Unit Refused) →
+        EndsGroup v id r new → (place : ℕ) → KeepsSize v new place }
 {}
