@@ -1,7 +1,7 @@
 -- Every operation keeps the tree.
 use Rattle.std.proofs.Common.{◌≡◌, ◌≢◌, ℕ, ◌+◌, ◌^◌, ◌<◌, ◌≤◌, List, [], ◌∷◌, length, Bool, true, false, refl, sym, ◌∙◌, ap, subst, arith, inl, inr, ◌⊎◌}
 use Rattle.std.specs.Prelude.{◌==◌, Option, Some, None, Result, Ok, Err, find, cond, option_map}
-use Rattle.std.specs.List.{slice_index_or, slice_get}
+use Rattle.std.specs.List.{slice_index_or, slice_get, slice_set}
 use Rattle.std.proofs.lemmas.Bool.{eqb-true}
 use Rattle.std.proofs.lemmas.List.{length-replicate, length-set}
 use Rattle.std.proofs.lemmas.Option.{get_or_from_slice_get, none-some, same_Some, slice_get_within}
@@ -14,9 +14,10 @@ use Rattle.qs_nodes.specs.declared.node.Refused.{Refused}
 use Rattle.qs_nodes.specs.declared.node.Refused.TheVariants.{Duplicate, NoNode, NoGroup, OutOfRange, Deep, Full, Root, InUse, OtherKind, OtherFile, Memory}
 use Rattle.qs_nodes.specs.Nodes.{first_of, first_user, has_name, has_place, is_over, named, raw_child, resized_user, shown, throttle_child, user_of, Lies, LowestFree}
 use Rattle.qs_nodes.specs.Table.{fresh, raw, set_node, throttle, with_group, with_node, without_node, AddsGroup, AddsRaw, AddsThrottle, Deletes, EndsGroup, IsAt, NodesValue, ReopensRaw, ReopensThrottle}
-use Rattle.qs_nodes.specs.Tree.{node_at, IsTree, Shows, StandsOver}
+use Rattle.qs_nodes.specs.Tree.{node_at, AllInGroups, InGroup, IsTree, Shows, StandsOver}
 use Rattle.qs_nodes.proofs.Finds.{none_of_any}
 use Rattle.qs_nodes.proofs.Over.{all_anywhere, all_elsewhere, back, none_back, AllUse, Anywhere, Elsewhere, InStead}
+use Rattle.qs_nodes.proofs.Groups.{grouped_less, grouped_more, grouped_push, grouped_remove, grouped_set, slot_held}
 use Rattle.qs_nodes.proofs.Rooted.{named_total, rooted_push, rooted_remove, rooted_set, rooted_small}
 
 same : (v new : NodesValue) → new ≡ v → IsTree v → IsTree new
@@ -67,6 +68,7 @@ adds_raw v new name child offset size read_only (Ok place) (below, (over, lies, 
   slots = t.slots;
       rooted = rooted_push v.size v.nodes (raw name place below offset size read_only) t.rooted
           (raw_stands v name child place below offset size read_only over.0 over.1 lies free t);
+      grouped = grouped_push v.groups v.nodes (raw name place below offset size read_only) t.grouped (record {});
     })
 
 pub adds_throttle : (v new : NodesValue) (name child group : List ℕ) (read_only : Bool) (r : Result ℕ Refused) →
@@ -88,6 +90,7 @@ adds_throttle v new name child group read_only (Ok place) (below, slot, (member,
   slots = t.slots;
       rooted = rooted_push v.size v.nodes (throttle name place below slot read_only) t.rooted
           (throttle_stands v name child place below slot read_only member.0.0 member.0.1 deep free t);
+      grouped = grouped_push v.groups v.nodes (throttle name place below slot read_only) t.grouped (slot_held v.groups group slot member.1);
     })
 
 -- the node of a name is at its number
@@ -116,6 +119,7 @@ deletes v new name export (Ok done) (i, n, (upper, alone, none, is)) t =
       whole = t.whole;
   slots = t.slots;
       rooted = rooted_remove v.size v.nodes i n (at_inside v name i n upper.0) (at_here v name i n upper.0) upper.1 alone t.rooted;
+      grouped = grouped_remove v.groups v.nodes i t.grouped;
     })
 
 -- another part of the same child
@@ -176,19 +180,21 @@ resized_none nodes n bytes export is = go (bytes == n.size) refl is
     go false e is = inr is
 
 raw_set : (v : NodesValue) (name : List ℕ) (i : ℕ) (n m : Node) → IsAt v name i n → m.place ≡ n.place → m.name ≡ n.name →
-    m.depth ≡ n.depth → n.kind ≢ File → InStead (back [] v.nodes) n m → IsTree v →
+    m.depth ≡ n.depth → n.kind ≢ File → InStead (back [] v.nodes) n m → InGroup v.groups m.kind → IsTree v →
     (m.size ≡ n.size) ⊎ (first_user v.nodes n.place ≡ None) → IsTree (set_node v i m)
-raw_set v name i n m at place own depth upper stead t (inl size) = record {
+raw_set v name i n m at place own depth upper stead group t (inl size) = record {
   whole = t.whole;
   slots = t.slots;
   rooted = rooted_set Anywhere v.size v.nodes i n m (at_inside v name i n at) (at_here v name i n at) place own (λ u. (size, depth))
       (all_anywhere v.nodes) upper stead t.rooted;
+  grouped = grouped_set v.groups v.nodes i m t.grouped group;
 }
-raw_set v name i n m at place own depth upper stead t (inr alone) = record {
+raw_set v name i n m at place own depth upper stead group t (inr alone) = record {
   whole = t.whole;
   slots = t.slots;
   rooted = rooted_set (Elsewhere n.place) v.size v.nodes i n m (at_inside v name i n at) (at_here v name i n at) place own (λ u. absurd (u refl))
       (all_elsewhere n.place v.nodes alone) upper stead t.rooted;
+  grouped = grouped_set v.groups v.nodes i m t.grouped group;
 }
 
 raw_upper : (n : Node) (child : ℕ) → raw_child n.kind ≡ Some child → n.kind ≢ File
@@ -220,7 +226,7 @@ reopens_raw v new name child offset size export (Ok done) (i, n, below, (at, non
     let m : Node = record n { size = shown below.size offset size; kind = Raw below.place offset } in
     subst IsTree (sym is)
     (raw_set v name i n m at.0.0 refl refl refl (raw_upper n below.place at.1)
-    (stead_raw (back [] v.nodes) n below offset size at.1 found at.2) t
+    (stead_raw (back [] v.nodes) n below offset size at.1 found at.2) (record {}) t
     (alone_or_same v.nodes n (shown below.size offset size) export (resized_none v.nodes n (shown below.size offset size) export none)))
 
 pub reopens_throttle : (v new : NodesValue) (name child group : List ℕ) (r : Result Unit Refused) →
@@ -239,10 +245,16 @@ reopens_throttle v new name child group (Err Memory) a t = absurd a
 reopens_throttle v new name child group (Ok done) (i, n, below, slot, (at, free, is)) t =
     subst IsTree (sym is)
     (raw_set v name i n (record n { kind = Throttle below.place slot }) at.0.0 refl refl refl (throttle_upper n below.place at.1)
-    (stead_throttle (back [] v.nodes) n below slot at.1) t (inl refl))
+    (stead_throttle (back [] v.nodes) n below slot at.1) (slot_held v.groups group slot free) t (inl refl))
 
-regrouped : (v : NodesValue) (slot : ℕ) (group : Option (List ℕ)) → IsTree v → IsTree (with_group v slot group)
-regrouped v slot group t = record { whole = t.whole; slots = length-set v.groups slot group ∙ t.slots; rooted = t.rooted }
+regrouped : (v : NodesValue) (slot : ℕ) (group : Option (List ℕ)) → IsTree v → AllInGroups (slice_set v.groups slot group) v.nodes →
+    IsTree (with_group v slot group)
+regrouped v slot group t grouped = record {
+  whole = t.whole;
+  slots = length-set v.groups slot group ∙ t.slots;
+  rooted = t.rooted;
+  grouped = grouped;
+}
 
 pub adds_group : (v new : NodesValue) (id : List ℕ) (r : Result ℕ Refused) → AddsGroup v id r new → IsTree v → IsTree new
 adds_group v new id (Err (Duplicate p)) a t = same v new a.1 t
@@ -256,7 +268,7 @@ adds_group v new id (Err (InUse u)) a t = absurd a
 adds_group v new id (Err OtherKind) a t = absurd a
 adds_group v new id (Err OtherFile) a t = absurd a
 adds_group v new id (Err Memory) a t = absurd a
-adds_group v new id (Ok slot) a t = subst IsTree (sym a.2) (regrouped v slot (Some id) t)
+adds_group v new id (Ok slot) a t = subst IsTree (sym a.2) (regrouped v slot (Some id) t (grouped_more v.groups id slot v.nodes a.1 t.grouped))
 
 pub ends_group : (v new : NodesValue) (id : List ℕ) (r : Result Unit Refused) → EndsGroup v id r new → IsTree v → IsTree new
 ends_group v new id (Err NoGroup) a t = same v new a.1 t
@@ -271,11 +283,12 @@ ends_group v new id (Err Root) a t = absurd a
 ends_group v new id (Err OtherKind) a t = absurd a
 ends_group v new id (Err OtherFile) a t = absurd a
 ends_group v new id (Err Memory) a t = absurd a
-ends_group v new id (Ok done) a t = subst IsTree (sym a.1.2) (regrouped v a.0 None t)
+ends_group v new id (Ok done) a t = subst IsTree (sym a.1.2) (regrouped v a.0 None t (grouped_less v.groups a.0 v.nodes a.1.1 t.grouped))
 
 pub fresh_tree : (size : ℕ) (file : List ℕ) (read_only : Bool) → size < 2 ^ 64 → IsTree (fresh size file read_only)
 fresh_tree size file read_only whole = record {
   whole = whole;
   slots = length-replicate 16 (let group : Option (List ℕ) = None in group);
   rooted = (record { place = refl; size = refl; depth = refl; kind = refl }, record {});
+  grouped = (record {}, record {});
 }

@@ -94,7 +94,7 @@ all_anywhere (x ∷ xs) = (go x.kind, all_anywhere xs)
 abbrev pub Elsewhere : ℕ → ℕ → Type 0
 Elsewhere q p = p ≢ q
 
-apart_of : (a q : ℕ) → (a == q) ≡ false → a ≢ q
+pub apart_of : (a q : ℕ) → (a == q) ≡ false → a ≢ q
 apart_of a q is same = go (a == q) (eq-eqb a q same) is
   where
     go : (b : Bool) → b ≡ true → b ≡ false → ⊥

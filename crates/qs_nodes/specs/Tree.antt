@@ -1,9 +1,10 @@
 -- How the nodes stand over each other.
-use Rattle.std.specs.Prelude.{◌≡◌, ℕ, ◌+◌, ◌^◌, ◌<◌, ◌≤◌, List, [], ◌∷◌, Option, Some, None, find, length}
+use Rattle.std.specs.Prelude.{◌≡◌, ℕ, ◌+◌, ◌^◌, ◌<◌, ◌≤◌, false, List, [], ◌∷◌, Option, Some, None, find, length}
+use Rattle.std.specs.List.{slice_index_or}
 use Rattle.qs_nodes.specs.declared.node.Kind.{Kind}
 use Rattle.qs_nodes.specs.declared.node.Kind.TheVariants.{File, Raw, Throttle}
 use Rattle.qs_nodes.specs.declared.node.Node.{Node}
-use Rattle.qs_nodes.specs.Nodes.{has_place, named}
+use Rattle.qs_nodes.specs.Nodes.{has_place, is_empty, named}
 use Rattle.qs_nodes.specs.Table.{NodesValue}
 
 -- the node at a place
@@ -45,8 +46,19 @@ abbrev pub IsRooted : ℕ → List Node → Type 0
 IsRooted size [] = ⊥
 IsRooted size (n ∷ newer) = IsRoot size n × AllOver (n ∷ []) newer
 
+-- a group stands at the slot of a throttle node
+abbrev pub InGroup : List (Option (List ℕ)) → Kind → Type 0
+InGroup groups File = Unit {0}
+InGroup groups (Raw child offset) = Unit {0}
+InGroup groups (Throttle child slot) = is_empty (slice_index_or groups slot None) ≡ false
+
+abbrev pub AllInGroups : List (Option (List ℕ)) → List Node → Type 0
+AllInGroups groups [] = Unit {0}
+AllInGroups groups (n ∷ nodes) = InGroup groups n.kind × AllInGroups groups nodes
+
 -- the nodes are a tree over an image of fewer than 2^64 bytes, and the groups have 16 slots
 pub record IsTree (v : NodesValue) : Type 0 where
   pub whole : v.size < 2 ^ 64
   pub slots : length v.groups ≡ 16
   pub rooted : IsRooted v.size v.nodes
+  pub grouped : AllInGroups v.groups v.nodes
