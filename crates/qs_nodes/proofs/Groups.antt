@@ -13,18 +13,21 @@ use Rattle.qs_nodes.specs.Tree.{AllInGroups, InGroup}
 use Rattle.qs_nodes.proofs.Finds.{none_behind, none_first}
 use Rattle.qs_nodes.proofs.Over.{apart_of}
 
-pub grouped_push : (groups : List (Option (List ℕ))) (nodes : List Node) (m : Node) → AllInGroups groups nodes → InGroup groups m.kind →
+pub grouped_push : (groups : List (Option (List ℕ))) (nodes : List Node) (m : Node) → AllInGroups groups nodes →
+    InGroup groups m.kind →
     AllInGroups groups (nodes ++ m ∷ [])
 grouped_push groups [] m a g = (g, record {})
 grouped_push groups (x ∷ nodes) m a g = (a.0, grouped_push groups nodes m a.1 g)
 
-pub grouped_remove : (groups : List (Option (List ℕ))) (nodes : List Node) (i : ℕ) → AllInGroups groups nodes → AllInGroups groups (remove nodes i)
+pub grouped_remove : (groups : List (Option (List ℕ))) (nodes : List Node) (i : ℕ) → AllInGroups groups nodes →
+    AllInGroups groups (remove nodes i)
 grouped_remove groups [] zero a = record {}
 grouped_remove groups [] (suc i) a = record {}
 grouped_remove groups (x ∷ nodes) zero a = a.1
 grouped_remove groups (x ∷ nodes) (suc i) a = (a.0, grouped_remove groups nodes i a.1)
 
-pub grouped_set : (groups : List (Option (List ℕ))) (nodes : List Node) (i : ℕ) (m : Node) → AllInGroups groups nodes → InGroup groups m.kind →
+pub grouped_set : (groups : List (Option (List ℕ))) (nodes : List Node) (i : ℕ) (m : Node) →
+    AllInGroups groups nodes → InGroup groups m.kind →
     AllInGroups groups (slice_set nodes i m)
 grouped_set groups [] i m a g = record {}
 grouped_set groups (x ∷ nodes) zero m a g = (g, a.1)
@@ -50,7 +53,8 @@ slot_more groups id free s is there = go (s == free) refl
         (ap is_empty (get_or-set_same groups free (Some id) None (position-Some is_empty groups free None is).0))
     go false e = ap is_empty (get_or-set_other groups free s (Some id) None (apart_of s free e)) ∙ there
 
-pub grouped_more : (groups : List (Option (List ℕ))) (id : List ℕ) (free : ℕ) (nodes : List Node) → free_slot groups ≡ Some free →
+pub grouped_more : (groups : List (Option (List ℕ))) (id : List ℕ) (free : ℕ) (nodes : List Node) →
+    free_slot groups ≡ Some free →
     AllInGroups groups nodes → AllInGroups (slice_set groups free (Some id)) nodes
 grouped_more groups id free [] is a = record {}
 grouped_more groups id free (x ∷ nodes) is a = (go x.kind a.0, grouped_more groups id free nodes is a.1)

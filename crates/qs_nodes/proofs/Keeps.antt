@@ -65,7 +65,7 @@ adds_raw v new name child offset size read_only (Err OtherFile) a t = absurd a
 adds_raw v new name child offset size read_only (Ok place) (below, (over, lies, free, is)) t =
     subst IsTree (sym is) (record {
       whole = t.whole;
-  slots = t.slots;
+      slots = t.slots;
       rooted = rooted_push v.size v.nodes (raw name place below offset size read_only) t.rooted
           (raw_stands v name child place below offset size read_only over.0 over.1 lies free t);
       grouped = grouped_push v.groups v.nodes (raw name place below offset size read_only) t.grouped (record {});
@@ -87,7 +87,7 @@ adds_throttle v new name child group read_only (Err OtherFile) a t = absurd a
 adds_throttle v new name child group read_only (Ok place) (below, slot, (member, deep, free, is)) t =
     subst IsTree (sym is) (record {
       whole = t.whole;
-  slots = t.slots;
+      slots = t.slots;
       rooted = rooted_push v.size v.nodes (throttle name place below slot read_only) t.rooted
           (throttle_stands v name child place below slot read_only member.0.0 member.0.1 deep free t);
       grouped = grouped_push v.groups v.nodes (throttle name place below slot read_only) t.grouped (slot_held v.groups group slot member.1);
@@ -117,7 +117,7 @@ deletes v new name export (Err OtherFile) a t = absurd a
 deletes v new name export (Ok done) (i, n, (upper, alone, none, is)) t =
     subst IsTree (sym is) (record {
       whole = t.whole;
-  slots = t.slots;
+      slots = t.slots;
       rooted = rooted_remove v.size v.nodes i n (at_inside v name i n upper.0) (at_here v name i n upper.0) upper.1 alone t.rooted;
       grouped = grouped_remove v.groups v.nodes i t.grouped;
     })
@@ -163,7 +163,8 @@ stead_throttle total n below slot child before inside s = record {
         (h.0, (subst (λ (q : ℕ). node_at before q ≡ Some h.0) (same_Some c below.place is) h.1.0, h.1.1, h.1.2))
 
 -- a node without a user has none among the nodes
-pub alone_of : (nodes : List Node) (p : ℕ) (export : Option (List ℕ)) → user_of nodes p export ≡ None → first_user nodes p ≡ None
+pub alone_of : (nodes : List Node) (p : ℕ) (export : Option (List ℕ)) → user_of nodes p export ≡ None →
+    first_user nodes p ≡ None
 alone_of nodes p export is = go (first_user nodes p) refl is
   where
     go : (found : Option Node) → first_user nodes p ≡ found → user_of nodes p export ≡ None → first_user nodes p ≡ None
@@ -171,15 +172,18 @@ alone_of nodes p export is = go (first_user nodes p) refl is
     go (Some m) e is = absurd (none-some (NodeUser m.name) (sym is ∙ ap (λ (f : Option Node). first_of (option_map (λ (k : Node). NodeUser k.name) f) (option_map ExportUser export)) e))
 
 -- a node of which another part is shown has no user, or keeps its size
-pub resized_none : (nodes : List Node) (n : Node) (bytes : ℕ) (export : Option (List ℕ)) → resized_user nodes n bytes export ≡ None →
+pub resized_none : (nodes : List Node) (n : Node) (bytes : ℕ) (export : Option (List ℕ)) →
+    resized_user nodes n bytes export ≡ None →
     (bytes ≡ n.size) ⊎ (user_of nodes n.place export ≡ None)
 resized_none nodes n bytes export is = go (bytes == n.size) refl is
   where
-    go : (b : Bool) → (bytes == n.size) ≡ b → cond b None (user_of nodes n.place export) ≡ None → (bytes ≡ n.size) ⊎ (user_of nodes n.place export ≡ None)
+    go : (b : Bool) → (bytes == n.size) ≡ b → cond b None (user_of nodes n.place export) ≡ None →
+        (bytes ≡ n.size) ⊎ (user_of nodes n.place export ≡ None)
     go true e is = inl (eqb-true bytes n.size e)
     go false e is = inr is
 
-raw_set : (v : NodesValue) (name : List ℕ) (i : ℕ) (n m : Node) → IsAt v name i n → m.place ≡ n.place → m.name ≡ n.name →
+raw_set : (v : NodesValue) (name : List ℕ) (i : ℕ) (n m : Node) → IsAt v name i n → m.place ≡ n.place →
+    m.name ≡ n.name →
     m.depth ≡ n.depth → n.kind ≢ File → InStead (back [] v.nodes) n m → InGroup v.groups m.kind → IsTree v →
     (m.size ≡ n.size) ⊎ (first_user v.nodes n.place ≡ None) → IsTree (set_node v i m)
 raw_set v name i n m at place own depth upper stead group t (inl size) = record {
@@ -203,7 +207,8 @@ raw_upper n child is file = none-some child (sym (ap raw_child file) ∙ is)
 throttle_upper : (n : Node) (child : ℕ) → throttle_child n.kind ≡ Some child → n.kind ≢ File
 throttle_upper n child is file = none-some child (sym (ap throttle_child file) ∙ is)
 
-alone_or_same : (nodes : List Node) (n : Node) (bytes : ℕ) (export : Option (List ℕ)) → (bytes ≡ n.size) ⊎ (user_of nodes n.place export ≡ None) →
+alone_or_same : (nodes : List Node) (n : Node) (bytes : ℕ) (export : Option (List ℕ)) →
+    (bytes ≡ n.size) ⊎ (user_of nodes n.place export ≡ None) →
     (bytes ≡ n.size) ⊎ (first_user nodes n.place ≡ None)
 alone_or_same nodes n bytes export (inl is) = inl is
 alone_or_same nodes n bytes export (inr is) = inr (alone_of nodes n.place export is)
@@ -247,7 +252,8 @@ reopens_throttle v new name child group (Ok done) (i, n, below, slot, (at, free,
     (raw_set v name i n (record n { kind = Throttle below.place slot }) at.0.0 refl refl refl (throttle_upper n below.place at.1)
     (stead_throttle (back [] v.nodes) n below slot at.1) (slot_held v.groups group slot free) t (inl refl))
 
-regrouped : (v : NodesValue) (slot : ℕ) (group : Option (List ℕ)) → IsTree v → AllInGroups (slice_set v.groups slot group) v.nodes →
+regrouped : (v : NodesValue) (slot : ℕ) (group : Option (List ℕ)) → IsTree v →
+    AllInGroups (slice_set v.groups slot group) v.nodes →
     IsTree (with_group v slot group)
 regrouped v slot group t grouped = record {
   whole = t.whole;
@@ -256,7 +262,8 @@ regrouped v slot group t grouped = record {
   grouped = grouped;
 }
 
-pub adds_group : (v new : NodesValue) (id : List ℕ) (r : Result ℕ Refused) → AddsGroup v id r new → IsTree v → IsTree new
+pub adds_group : (v new : NodesValue) (id : List ℕ) (r : Result ℕ Refused) → AddsGroup v id r new → IsTree v →
+    IsTree new
 adds_group v new id (Err (Duplicate p)) a t = same v new a.1 t
 adds_group v new id (Err Full) a t = same v new a.2 t
 adds_group v new id (Err (NoNode m)) a t = absurd a
@@ -270,7 +277,8 @@ adds_group v new id (Err OtherFile) a t = absurd a
 adds_group v new id (Err Memory) a t = absurd a
 adds_group v new id (Ok slot) a t = subst IsTree (sym a.2) (regrouped v slot (Some id) t (grouped_more v.groups id slot v.nodes a.1 t.grouped))
 
-pub ends_group : (v new : NodesValue) (id : List ℕ) (r : Result Unit Refused) → EndsGroup v id r new → IsTree v → IsTree new
+pub ends_group : (v new : NodesValue) (id : List ℕ) (r : Result Unit Refused) → EndsGroup v id r new → IsTree v →
+    IsTree new
 ends_group v new id (Err NoGroup) a t = same v new a.1 t
 ends_group v new id (Err (InUse (NodeUser m))) a t = same v new a.2.3 t
 ends_group v new id (Err (InUse (ExportUser m))) a t = absurd a

@@ -26,7 +26,8 @@ none_more : (test : Node → Bool) (x : Node) (acc new : List Node) → (find te
     find test (x ∷ acc) ≡ None → find test (x ∷ new) ≡ None
 none_more test x acc new k h = none_both test x new (none_first test x acc h) (k (none_behind test x acc h))
 
-same_more : (x b : Node) (acc new : List Node) (p : ℕ) → (node_at acc p ≡ Some b → Alike b new p) → node_at (x ∷ acc) p ≡ Some b →
+same_more : (x b : Node) (acc new : List Node) (p : ℕ) → (node_at acc p ≡ Some b → Alike b new p) →
+    node_at (x ∷ acc) p ≡ Some b →
     Alike b (x ∷ new) p
 same_more x b acc new p k at = go (x.place == p) refl
   where
@@ -55,7 +56,8 @@ abbrev pub AllUse : (ℕ → Type 0) → List Node → Type 0
 AllUse U [] = Unit {0}
 AllUse U (x ∷ xs) = Uses U x.kind × AllUse U xs
 
-shows_kept : (U : ℕ → Type 0) (acc new : List Node) (x : Node) (kind : Kind) → Kept U acc new → Uses U kind → Shows acc x kind → Shows new x kind
+shows_kept : (U : ℕ → Type 0) (acc new : List Node) (x : Node) (kind : Kind) → Kept U acc new → Uses U kind →
+    Shows acc x kind → Shows new x kind
 shows_kept U acc new x File k u s = absurd s
 shows_kept U acc new x (Raw child offset) k u s =
     let c = k.same child s.0 u s.1.0 in
@@ -64,7 +66,8 @@ shows_kept U acc new x (Throttle child slot) k u s =
     let c = k.same child s.0 u s.1.0 in
     (c.0, (c.1.0, s.1.1 ∙ sym c.1.1, omega (arith, s.1.2, c.1.2)))
 
-pub all_kept : (U : ℕ → Type 0) (acc new rest : List Node) → Kept U acc new → AllUse U rest → AllOver acc rest → AllOver new rest
+pub all_kept : (U : ℕ → Type 0) (acc new rest : List Node) → Kept U acc new → AllUse U rest → AllOver acc rest →
+    AllOver new rest
 all_kept U acc new [] k u a = a
 all_kept U acc new (x ∷ rest) k u a = (
   record {
@@ -143,7 +146,8 @@ kept_set U n m acc place name like = record {
   same = λ p b u h. go p b u h (n.place == p) refl;
 }
   where
-    go : (p : ℕ) (b : Node) → U p → node_at (n ∷ acc) p ≡ Some b → (t : Bool) → (n.place == p) ≡ t → Alike b (m ∷ acc) p
+    go : (p : ℕ) (b : Node) → U p → node_at (n ∷ acc) p ≡ Some b → (t : Bool) → (n.place == p) ≡ t →
+        Alike b (m ∷ acc) p
     go p b u h true e =
         let is : n ≡ b = same_Some n b (sym (find_hit (has_place p) n acc e) ∙ h) in
         let l = like (subst U (sym (eqb-true n.place p e)) u) in
@@ -157,30 +161,35 @@ back acc [] = acc
 back acc (x ∷ xs) = back (x ∷ acc) xs
 
 -- a node is found where it was, with a node of a free place in front
-found_more : (x b : Node) (acc : List Node) (p : ℕ) → node_at acc x.place ≡ None → node_at acc p ≡ Some b → node_at (x ∷ acc) p ≡ Some b
+found_more : (x b : Node) (acc : List Node) (p : ℕ) → node_at acc x.place ≡ None → node_at acc p ≡ Some b →
+    node_at (x ∷ acc) p ≡ Some b
 found_more x b acc p free at = go (x.place == p) refl
   where
     go : (t : Bool) → (x.place == p) ≡ t → node_at (x ∷ acc) p ≡ Some b
     go true e = absurd (none-some b (sym (subst (λ (q : ℕ). node_at acc q ≡ None) (eqb-true x.place p e) free) ∙ at))
     go false e = find_miss (has_place p) x acc e ∙ at
 
-pub found_back : (acc rest : List Node) (p : ℕ) (b : Node) → AllOver acc rest → node_at acc p ≡ Some b → node_at (back acc rest) p ≡ Some b
+pub found_back : (acc rest : List Node) (p : ℕ) (b : Node) → AllOver acc rest → node_at acc p ≡ Some b →
+    node_at (back acc rest) p ≡ Some b
 found_back acc [] p b a at = at
 found_back acc (x ∷ rest) p b a at = found_back (x ∷ acc) rest p b a.1 (found_more x b acc p a.0.free at)
 
 -- the node of a name is found at its place
-pub named_back : (acc rest : List Node) (s : List ℕ) (b : Node) → AllOver acc rest → named rest s ≡ Some b → node_at (back acc rest) b.place ≡ Some b
+pub named_back : (acc rest : List Node) (s : List ℕ) (b : Node) → AllOver acc rest → named rest s ≡ Some b →
+    node_at (back acc rest) b.place ≡ Some b
 named_back acc [] s b a at = absurd (none-some b at)
 named_back acc (x ∷ rest) s b a at = go (has_name s x) refl (named_back (x ∷ acc) rest s b a.1)
   where
-    go : (t : Bool) → has_name s x ≡ t → (named rest s ≡ Some b → node_at (back (x ∷ acc) rest) b.place ≡ Some b) → node_at (back (x ∷ acc) rest) b.place ≡ Some b
+    go : (t : Bool) → has_name s x ≡ t → (named rest s ≡ Some b → node_at (back (x ∷ acc) rest) b.place ≡ Some b) →
+        node_at (back (x ∷ acc) rest) b.place ≡ Some b
     go true e more =
         let is : x ≡ b = same_Some x b (sym (find_hit (has_name s) x rest e) ∙ at) in
         subst (λ (k : Node). node_at (back (x ∷ acc) rest) k.place ≡ Some k) is
         (found_back (x ∷ acc) rest x.place x a.1 (find_hit (has_place x.place) x acc (eq-eqb x.place x.place refl)))
     go false e more = more (sym (find_miss (has_name s) x rest e) ∙ at)
 
-pub none_back : (test : Node → Bool) (acc rest : List Node) → find test acc ≡ None → find test rest ≡ None → find test (back acc rest) ≡ None
+pub none_back : (test : Node → Bool) (acc rest : List Node) → find test acc ≡ None → find test rest ≡ None →
+    find test (back acc rest) ≡ None
 none_back test acc [] a h = a
 none_back test acc (x ∷ rest) a h = none_back test (x ∷ acc) rest (none_both test x acc (none_first test x rest h) a) (none_behind test x rest h)
 
@@ -188,12 +197,14 @@ none_back test acc (x ∷ rest) a h = none_back test (x ∷ acc) rest (none_both
 abbrev pub AllSmall : ℕ → List Node → Type 0
 AllSmall size nodes = (p : ℕ) (b : Node) → node_at nodes p ≡ Some b → (b.size ≤ size) × (b.depth ≤ 8)
 
-shows_small : (size : ℕ) (acc : List Node) (x : Node) (kind : Kind) → AllSmall size acc → Shows acc x kind → x.size ≤ size
+shows_small : (size : ℕ) (acc : List Node) (x : Node) (kind : Kind) → AllSmall size acc → Shows acc x kind →
+    x.size ≤ size
 shows_small size acc x File small s = absurd s
 shows_small size acc x (Raw child offset) small s = omega (arith, s.1.1, (small child s.0 s.1.0).0)
 shows_small size acc x (Throttle child slot) small s = omega (arith, s.1.1, (small child s.0 s.1.0).0)
 
-pub small_more : (size : ℕ) (acc : List Node) (x : Node) → AllSmall size acc → StandsOver acc x → AllSmall size (x ∷ acc)
+pub small_more : (size : ℕ) (acc : List Node) (x : Node) → AllSmall size acc → StandsOver acc x →
+    AllSmall size (x ∷ acc)
 small_more size acc x small s p b at = go (x.place == p) refl
   where
     go : (t : Bool) → (x.place == p) ≡ t → (b.size ≤ size) × (b.depth ≤ 8)
@@ -202,12 +213,14 @@ small_more size acc x small s p b at = go (x.place == p) refl
         subst (λ (k : Node). (k.size ≤ size) × (k.depth ≤ 8)) is (shows_small size acc x x.kind small s.shows, s.depth)
     go false e = small p b (sym (find_miss (has_place p) x acc e) ∙ at)
 
-pub small_back : (size : ℕ) (acc rest : List Node) → AllSmall size acc → AllOver acc rest → AllSmall size (back acc rest)
+pub small_back : (size : ℕ) (acc rest : List Node) → AllSmall size acc → AllOver acc rest →
+    AllSmall size (back acc rest)
 small_back size acc [] small a = small
 small_back size acc (x ∷ rest) small a = small_back size (x ∷ acc) rest (small_more size acc x small a.0) a.1
 
 -- one node more
-pub push_over : (acc rest : List Node) (m : Node) → AllOver acc rest → StandsOver (back acc rest) m → AllOver acc (rest ++ m ∷ [])
+pub push_over : (acc rest : List Node) (m : Node) → AllOver acc rest → StandsOver (back acc rest) m →
+    AllOver acc (rest ++ m ∷ [])
 push_over acc [] m a s = (s, record {})
 push_over acc (x ∷ rest) m a s = (a.0, push_over (x ∷ acc) rest m a.1 s)
 
@@ -216,7 +229,8 @@ abbrev pub InStead : List Node → Node → Node → Type 0
 InStead total n m = (before : List Node) → ((p : ℕ) (b : Node) → node_at before p ≡ Some b → node_at total p ≡ Some b) →
     StandsOver before n → StandsOver before m
 
-pub set_over : (U : ℕ → Type 0) (acc rest : List Node) (i : ℕ) (n m : Node) → i < length rest → slice_index_or rest i n ≡ n →
+pub set_over : (U : ℕ → Type 0) (acc rest : List Node) (i : ℕ) (n m : Node) → i < length rest →
+    slice_index_or rest i n ≡ n →
     m.place ≡ n.place → m.name ≡ n.name → (U n.place → (m.size ≡ n.size) × (m.depth ≡ n.depth)) → AllUse U rest →
     InStead (back acc rest) n m → AllOver acc rest → AllOver acc (slice_set rest i m)
 set_over U acc [] i n m inside at place name like u stead a = absurd (omega (arith, inside))

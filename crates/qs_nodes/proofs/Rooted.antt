@@ -12,7 +12,8 @@ use Rattle.qs_nodes.proofs.Finds.{find_hit, find_miss, none_behind}
 use Rattle.qs_nodes.proofs.Over.{back, found_back, named_back, push_over, remove_over, set_over, small_back, AllSmall, AllUse, InStead}
 
 -- the node of a name is found at its place
-pub named_total : (size : ℕ) (nodes : List Node) (s : List ℕ) (b : Node) → IsRooted size nodes → named nodes s ≡ Some b →
+pub named_total : (size : ℕ) (nodes : List Node) (s : List ℕ) (b : Node) → IsRooted size nodes →
+    named nodes s ≡ Some b →
     node_at (back [] nodes) b.place ≡ Some b
 named_total size [] s b a at = absurd a
 named_total size (root ∷ rest) s b a at = go (has_name s root) refl
@@ -37,18 +38,21 @@ pub rooted_small : (size : ℕ) (nodes : List Node) → IsRooted size nodes → 
 rooted_small size [] a = absurd a
 rooted_small size (root ∷ rest) a = small_back size (root ∷ []) rest (root_small size root a.0) a.1
 
-pub rooted_push : (size : ℕ) (nodes : List Node) (m : Node) → IsRooted size nodes → StandsOver (back [] nodes) m → IsRooted size (nodes ++ m ∷ [])
+pub rooted_push : (size : ℕ) (nodes : List Node) (m : Node) → IsRooted size nodes → StandsOver (back [] nodes) m →
+    IsRooted size (nodes ++ m ∷ [])
 rooted_push size [] m a s = absurd a
 rooted_push size (root ∷ rest) m a s = (a.0, push_over (root ∷ []) rest m a.1 s)
 
-pub rooted_remove : (size : ℕ) (nodes : List Node) (i : ℕ) (n : Node) → i < length nodes → slice_index_or nodes i n ≡ n → n.place ≢ 0 →
+pub rooted_remove : (size : ℕ) (nodes : List Node) (i : ℕ) (n : Node) → i < length nodes →
+    slice_index_or nodes i n ≡ n → n.place ≢ 0 →
     find (is_over n.place) nodes ≡ None → IsRooted size nodes → IsRooted size (remove nodes i)
 rooted_remove size [] i n inside at upper h a = absurd a
 rooted_remove size (root ∷ rest) zero n inside at upper h a = absurd (upper (ap (λ (k : Node). k.place) (sym at) ∙ a.0.place))
 rooted_remove size (root ∷ rest) (suc i) n inside at upper h a =
     (a.0, remove_over (root ∷ []) rest i n (omega (arith, inside)) at (none_behind (is_over n.place) root rest h) a.1)
 
-pub rooted_set : (U : ℕ → Type 0) (size : ℕ) (nodes : List Node) (i : ℕ) (n m : Node) → i < length nodes → slice_index_or nodes i n ≡ n →
+pub rooted_set : (U : ℕ → Type 0) (size : ℕ) (nodes : List Node) (i : ℕ) (n m : Node) → i < length nodes →
+    slice_index_or nodes i n ≡ n →
     m.place ≡ n.place → m.name ≡ n.name → (U n.place → (m.size ≡ n.size) × (m.depth ≡ n.depth)) → AllUse U nodes →
     n.kind ≢ File → InStead (back [] nodes) n m → IsRooted size nodes → IsRooted size (slice_set nodes i m)
 rooted_set U size [] i n m inside at place name like u upper stead a = absurd a

@@ -31,13 +31,15 @@ with_size v m p n at =
 named_of : (v : NodesValue) (name : List ℕ) (i : ℕ) (n : Node) → IsAt v name i n → named v.nodes name ≡ Some n
 named_of v name i n at = go (nat_lt (position_or_len (has_name name) v.nodes) (length v.nodes)) at.0
   where
-    go : (b : Bool) → cond b (Some (position_or_len (has_name name) v.nodes)) None ≡ Some i → named v.nodes name ≡ Some n
+    go : (b : Bool) → cond b (Some (position_or_len (has_name name) v.nodes)) None ≡ Some i →
+        named v.nodes name ≡ Some n
     go true is =
         find_at (has_name name) v.nodes
         ∙ ap (slice_get v.nodes) (same_Some (position_or_len (has_name name) v.nodes) i is) ∙ at.1
     go false is = absurd (none-some i is)
 
-find_remove : (test : Node → Bool) (xs : List Node) (i : ℕ) (x : Node) → i < length xs → slice_index_or xs i x ≡ x → test x ≡ false →
+find_remove : (test : Node → Bool) (xs : List Node) (i : ℕ) (x : Node) → i < length xs → slice_index_or xs i x ≡ x →
+    test x ≡ false →
     find test (remove xs i) ≡ find test xs
 find_remove test [] i x inside at miss = absurd (omega (arith, inside))
 find_remove test (y ∷ xs) zero x inside at miss = sym (find_miss test y xs (ap test at ∙ miss))
@@ -45,19 +47,29 @@ find_remove test (y ∷ xs) (suc i) x inside at miss =
     ap (λ (f : Option Node). cond (test y) (Some y) f) (find_remove test xs i x (omega (arith, inside)) at miss)
 
 -- a node of the same place and size in another's stead
-sized_set : (nodes : List Node) (i : ℕ) (n m : Node) (p : ℕ) (k : Node) → i < length nodes → slice_index_or nodes i n ≡ n → m.place ≡ n.place →
+sized_set : (nodes : List Node) (i : ℕ) (n m : Node) (p : ℕ) (k : Node) → i < length nodes →
+    slice_index_or nodes i n ≡ n → m.place ≡ n.place →
     m.size ≡ n.size → node_at nodes p ≡ Some k → (l : Node) × ((node_at (slice_set nodes i m) p ≡ Some l) × (l.size ≡ k.size))
 sized_set [] i n m p k inside here place size at = absurd (omega (arith, inside))
 sized_set (x ∷ nodes) zero n m p k inside here place size at = go (x.place == p) refl
   where
     go : (t : Bool) → (x.place == p) ≡ t → (l : Node) × ((node_at (m ∷ nodes) p ≡ Some l) × (l.size ≡ k.size))
     go true e =
-        let is : x ≡ k = same_Some x k (sym (find_hit (has_place p) x nodes e) ∙ at) in
-        (m, (find_hit (has_place p) m nodes (ap (λ (q : ℕ). q == p) (place ∙ ap (λ (z : Node). z.place) (sym here)) ∙ e),
-        size ∙ ap (λ (z : Node). z.size) (sym here ∙ is)))
-    go false e =
-        (k, (find_miss (has_place p) m nodes (ap (λ (q : ℕ). q == p) (place ∙ ap (λ (z : Node). z.place) (sym here)) ∙ e)
-        ∙ sym (find_miss (has_place p) x nodes e) ∙ at, refl))
+        let is : x ≡ k = same_Some x k (sym (find_hit (has_place p) x nodes e) ∙ at) in (
+          m,
+          (
+            find_hit (has_place p) m nodes (ap (λ (q : ℕ). q == p) (place ∙ ap (λ (z : Node). z.place) (sym here)) ∙ e),
+            size ∙ ap (λ (z : Node). z.size) (sym here ∙ is),
+          ),
+        )
+    go false e = (
+      k,
+      (
+        find_miss (has_place p) m nodes (ap (λ (q : ℕ). q == p) (place ∙ ap (λ (z : Node). z.place) (sym here)) ∙ e)
+            ∙ sym (find_miss (has_place p) x nodes e) ∙ at,
+        refl,
+      ),
+    )
 sized_set (x ∷ nodes) (suc i) n m p k inside here place size at =
     go (x.place == p) refl (sized_set nodes i n m p k (omega (arith, inside)) here place size)
   where
@@ -76,7 +88,8 @@ at_inside v name i n at = slice_get_within v.nodes i n at.1
 at_here : (v : NodesValue) (name : List ℕ) (i : ℕ) (n : Node) → IsAt v name i n → slice_index_or v.nodes i n ≡ n
 at_here v name i n at = get_or_from_slice_get v.nodes i n n at.1
 
-set_size : (v : NodesValue) (name : List ℕ) (i : ℕ) (n m : Node) (p : ℕ) → IsAt v name i n → m.place ≡ n.place → m.size ≡ n.size →
+set_size : (v : NodesValue) (name : List ℕ) (i : ℕ) (n m : Node) (p : ℕ) → IsAt v name i n → m.place ≡ n.place →
+    m.size ≡ n.size →
     KeepsSize v (set_node v i m) p
 set_size v name i n m p at place size k found =
     sized_set v.nodes i n m p k (at_inside v name i n at) (at_here v name i n at) place size found
@@ -87,13 +100,15 @@ over_of : (v : NodesValue) (exports : ℕ → Option (List ℕ)) (name : List �
 over_of v exports name i n at =
     ap (λ (f : Option Node). at_place exports (option_map (λ (k : Node). k.place) f)) (named_of v name i n at)
 
-no_user : (nodes : List Node) (p : ℕ) (export : Option (List ℕ)) → first_user nodes p ≡ None → export ≡ None → user_of nodes p export ≡ None
+no_user : (nodes : List Node) (p : ℕ) (export : Option (List ℕ)) → first_user nodes p ≡ None → export ≡ None →
+    user_of nodes p export ≡ None
 no_user nodes p export alone none =
     ap (λ (f : Option Node). first_of (option_map (λ (k : Node). NodeUser k.name) f) (option_map ExportUser export)) alone
     ∙ ap (λ (e : Option (List ℕ)). option_map ExportUser e) none
 
 -- a node that has no user isn't at a place that has one
-elsewhere : (nodes : List Node) (exports : ℕ → Option (List ℕ)) (n : Node) (p : ℕ) → user_of nodes n.place (exports n.place) ≡ None →
+elsewhere : (nodes : List Node) (exports : ℕ → Option (List ℕ)) (n : Node) (p : ℕ) →
+    user_of nodes n.place (exports n.place) ≡ None →
     user_of nodes p (exports p) ≢ None → has_place p n ≡ false
 elsewhere nodes exports n p alone used = go (n.place == p) refl
   where
@@ -197,7 +212,8 @@ rethrottles_sizes v new name child group (Ok done) (i, n, below, slot, (at, free
     subst (λ (w : NodesValue). KeepsSize v w p) (sym is)
     (set_size v name i n (record n { kind = Throttle below.place slot }) p at.0.0 refl refl)
 
-pub adds_group_sizes : (v new : NodesValue) (id : List ℕ) (r : Result ℕ Refused) → AddsGroup v id r new → (p : ℕ) → KeepsSize v new p
+pub adds_group_sizes : (v new : NodesValue) (id : List ℕ) (r : Result ℕ Refused) → AddsGroup v id r new → (p : ℕ) →
+    KeepsSize v new p
 adds_group_sizes v new id (Err (Duplicate q)) a p = same v new p a.1
 adds_group_sizes v new id (Err Full) a p = same v new p a.2
 adds_group_sizes v new id (Err (NoNode m)) a p = absurd a
@@ -211,7 +227,8 @@ adds_group_sizes v new id (Err OtherFile) a p = absurd a
 adds_group_sizes v new id (Err Memory) a p = absurd a
 adds_group_sizes v new id (Ok slot) a p = subst (λ (w : NodesValue). KeepsSize v w p) (sym a.2) (λ n at. (n, (at, refl)))
 
-pub ends_group_sizes : (v new : NodesValue) (id : List ℕ) (r : Result Unit Refused) → EndsGroup v id r new → (p : ℕ) → KeepsSize v new p
+pub ends_group_sizes : (v new : NodesValue) (id : List ℕ) (r : Result Unit Refused) → EndsGroup v id r new → (p : ℕ) →
+    KeepsSize v new p
 ends_group_sizes v new id (Err NoGroup) a p = same v new p a.1
 ends_group_sizes v new id (Err (InUse (NodeUser m))) a p = same v new p a.2.3
 ends_group_sizes v new id (Err (InUse (ExportUser m))) a p = absurd a

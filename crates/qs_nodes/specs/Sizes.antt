@@ -15,4 +15,5 @@ export_over exports nodes name = at_place exports (place_of nodes name)
 
 -- the node at a place still stands there, and its size is what it was
 abbrev pub KeepsSize : NodesValue → NodesValue → ℕ → Type 0
-KeepsSize v new place = (n : Node) → node_at v.nodes place ≡ Some n → (m : Node) × ((node_at new.nodes place ≡ Some m) × (m.size ≡ n.size))
+KeepsSize v new place =
+    (n : Node) → node_at v.nodes place ≡ Some n → (m : Node) × ((node_at new.nodes place ≡ Some m) × (m.size ≡ n.size))

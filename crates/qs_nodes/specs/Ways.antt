@@ -19,7 +19,8 @@ child_of (Throttle child slot) = Some child
 abbrev pub through : Kind → ℕ → WayDown → WayDown
 through File place way = way
 through (Raw child offset) place way = record way { offset = way.offset + offset }
-through (Throttle child slot) place way = record way { groups = slice_set way.groups way.count (slot, place); count = way.count + 1 }
+through (Throttle child slot) place way =
+    record way { groups = slice_set way.groups way.count (slot, place); count = way.count + 1 }
 
 -- the first read-only node so far
 abbrev pub first_read_only : Option (List ℕ) → Node → Option (List ℕ)

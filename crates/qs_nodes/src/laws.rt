@@ -23,8 +23,9 @@ pub fn kept()
         AddsThrottle v name child group read_only r new → IsTree v → IsTree new }
     ensures del { (v new : NodesValue) (name : List ℕ) (export : Option (List ℕ)) (r : Result Unit Refused) →
         Deletes v name export r new → IsTree v → IsTree new }
-    ensures reopen_raw { (v new : NodesValue) (name child : List ℕ) (offset : ℕ) (size : Option ℕ) (export : Option (List ℕ))
-        (r : Result Unit Refused) → ReopensRaw v name child offset size export r new → IsTree v → IsTree new }
+    ensures reopen_raw { (v new : NodesValue) (name child : List ℕ) (offset : ℕ) (size : Option ℕ)
+        (export : Option (List ℕ)) (r : Result Unit Refused) → ReopensRaw v name child offset size export r new →
+        IsTree v → IsTree new }
     ensures reopen_throttle { (v new : NodesValue) (name child group : List ℕ) (r : Result Unit Refused) →
         ReopensThrottle v name child group r new → IsTree v → IsTree new }
     ensures group_add { (v new : NodesValue) (id : List ℕ) (r : Result ℕ Refused) →
@@ -38,7 +39,8 @@ pub fn kept()
 /// keeps them.
 pub fn sized()
     ensures add_raw { (v new : NodesValue) (name child : List ℕ) (offset : ℕ) (size : Option ℕ) (read_only : Bool)
-        (r : Result ℕ Refused) → AddsRaw v name child offset size read_only r new → (place : ℕ) → KeepsSize v new place }
+        (r : Result ℕ Refused) → AddsRaw v name child offset size read_only r new →
+        (place : ℕ) → KeepsSize v new place }
     ensures add_throttle { (v new : NodesValue) (name child group : List ℕ) (read_only : Bool) (r : Result ℕ Refused) →
         AddsThrottle v name child group read_only r new → (place : ℕ) → KeepsSize v new place }
     ensures del { (v new : NodesValue) (exports : ℕ → Option (List ℕ)) (name : List ℕ) (r : Result Unit Refused) →

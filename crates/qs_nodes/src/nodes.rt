@@ -4,9 +4,8 @@ ghost use Rattle.qs_nodes.specs.Tree.{IsTree};
 ghost use Rattle.qs_nodes.specs.Ways.{place_of, way_from};
 
 use crate::node::{Kind, Node, Refused};
-use crate::scan;
-use crate::walk;
 use crate::way::WayDown;
+use crate::{scan, walk};
 use qs_bytes::{Memory, Name};
 use qs_part::graph::User;
 use std::alloc::Global;
@@ -184,7 +183,8 @@ impl Nodes {
         scan::place_of(&self.nodes, name)
     }
 
-    /// The way from the node at a place down to the image. `None` exactly where no node is there.
+    /// The way from the node at a place down to the image, with offsets in bytes (a request's path
+    /// through QEMU's `bs->file` children, block.c). `None` exactly where no node is there.
     pub fn route_from(&self, place: u8) -> Option<WayDown>
         ensures { result ≡ way_from self.now.nodes place }
     {

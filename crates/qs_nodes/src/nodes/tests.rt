@@ -146,12 +146,7 @@ fn nodes_are_reopened(rt: HostRuntime) -> Result<(), Fail> {
 
 #[test]
 fn way_down_is_summed(rt: HostRuntime) -> Result<(), Fail> {
-    let (file, low, mid, top) = (
-        name(b"file")?,
-        name(b"low")?,
-        name(b"mid")?,
-        name(b"top")?,
-    );
+    let (file, low, mid, top) = (name(b"file")?, name(b"low")?, name(b"mid")?, name(b"top")?);
     let (slow, fast) = (name(b"slow")?, name(b"fast")?);
     let mut nodes = Nodes::new(rt.alloc(), 4096, file, false)?;
     assert_eq!(rt; nodes.group_add(slow), Ok(0));
