@@ -5,3 +5,4 @@ pub mod Groups
 pub mod Keeps
 pub mod Inside
 pub mod Sizes
+pub mod Follows

@@ -161,7 +161,7 @@ back acc [] = acc
 back acc (x ∷ xs) = back (x ∷ acc) xs
 
 -- a node is found where it was, with a node of a free place in front
-found_more : (x b : Node) (acc : List Node) (p : ℕ) → node_at acc x.place ≡ None → node_at acc p ≡ Some b →
+pub found_more : (x b : Node) (acc : List Node) (p : ℕ) → node_at acc x.place ≡ None → node_at acc p ≡ Some b →
     node_at (x ∷ acc) p ≡ Some b
 found_more x b acc p free at = go (x.place == p) refl
   where

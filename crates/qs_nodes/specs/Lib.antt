@@ -3,3 +3,4 @@ pub mod Table
 pub mod Tree
 pub mod Ways
 pub mod Sizes
+pub mod Follows

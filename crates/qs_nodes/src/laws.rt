@@ -1,11 +1,14 @@
 ghost use Rattle.std.specs.Prelude.{◌≡◌, ◌≢◌, ℕ, ◌+◌, ◌^◌, ◌<◌, ◌≤◌, Bool, List, Option, Some, None, Result};
+ghost use Rattle.qs_nodes.specs.declared.node.Kind.TheVariants.{File};
+ghost use Rattle.qs_nodes.specs.declared.node.Node.{Node as Standing};
 ghost use Rattle.qs_nodes.specs.declared.node.Refused.{Refused};
 ghost use Rattle.qs_nodes.specs.declared.way.WayDown.{WayDown};
+ghost use Rattle.qs_nodes.specs.Follows.{Follows, IsWhole};
 ghost use Rattle.qs_nodes.specs.Nodes.{user_of};
 ghost use Rattle.qs_nodes.specs.Sizes.{export_over, KeepsSize};
 ghost use Rattle.qs_nodes.specs.Table.{fresh, AddsGroup, AddsRaw, AddsThrottle, Deletes, EndsGroup, NodesValue, ReopensRaw, ReopensThrottle};
-ghost use Rattle.qs_nodes.specs.Tree.{IsTree};
-ghost use Rattle.qs_nodes.specs.Ways.{way_from};
+ghost use Rattle.qs_nodes.specs.Tree.{node_at, IsTree};
+ghost use Rattle.qs_nodes.specs.Ways.{child_of, way_from};
 
 /// Every way down lies inside the image, and has at most 8 throttle nodes.
 pub fn inside()
@@ -56,4 +59,14 @@ pub fn sized()
         AddsGroup v id r new → (place : ℕ) → KeepsSize v new place }
     ensures group_del { (v new : NodesValue) (id : List ℕ) (r : Result Unit Refused) →
         EndsGroup v id r new → (place : ℕ) → KeepsSize v new place }
+{}
+
+/// The way from the file node is the whole image. The way from another node adds to the way from its
+/// child what the node does: its offset, one throttle node, and its name where it is read-only.
+pub fn followed()
+    ensures file { (v : NodesValue) (place : ℕ) (n : Standing) (way : WayDown) → IsTree v → node_at v.nodes place ≡ Some n →
+        n.kind ≡ File → way_from v.nodes place ≡ Some way → IsWhole n way }
+    ensures child { (v : NodesValue) (place child : ℕ) (n : Standing) (way below : WayDown) → IsTree v →
+        node_at v.nodes place ≡ Some n → child_of n.kind ≡ Some child →
+        way_from v.nodes place ≡ Some way → way_from v.nodes child ≡ Some below → Follows n way below }
 {}
