@@ -1,8 +1,7 @@
 -- Every walk down stays inside the nodes that it meets.
 use Rattle.std.proofs.Common.{◌≡◌, ℕ, zero, suc, ◌+◌, ◌^◌, ◌<◌, ◌≤◌, List, [], ◌∷◌, length, drop, Bool, true, false, refl, sym, ◌∙◌, ap, subst, arith}
-use Rattle.std.specs.Prelude.{◌==◌, Option, Some, None, option_map, replicate, if◌then◌else◌}
+use Rattle.std.specs.Prelude.{◌==◌, Option, Some, None, option_map, if◌then◌else◌}
 use Rattle.std.specs.List.{slice_index_or}
-use Rattle.std.proofs.lemmas.Bool.{eq-eqb, eqb-true}
 use Rattle.std.proofs.lemmas.Option.{none-some, same_Some}
 use Rattle.qs_nodes.specs.declared.node.Kind.{Kind}
 use Rattle.qs_nodes.specs.declared.node.Kind.TheVariants.{File, Raw, Throttle}
@@ -11,7 +10,7 @@ use Rattle.qs_nodes.specs.declared.way.WayDown.{WayDown}
 use Rattle.qs_nodes.specs.declared.walk.Walk.{Walk}
 use Rattle.qs_nodes.specs.Nodes.{has_place}
 use Rattle.qs_nodes.specs.Tree.{node_at, AllOver, IsRoot, IsRooted, Shows, StandsOver}
-use Rattle.qs_nodes.specs.Ways.{begun, child_of, first_read_only, is_next, met, passed, through, walked, way_from, AreRooted, CanPass, HasRoom}
+use Rattle.qs_nodes.specs.Ways.{begun, child_of, first_read_only, is_next, met, passed, through, walked, way_from, CanPass, HasRoom}
 use Rattle.qs_nodes.proofs.Finds.{find_hit, find_miss}
 use Rattle.qs_nodes.proofs.Over.{back, found_back, small_more, AllSmall}
 use Rattle.qs_nodes.proofs.Rooted.{rooted_small}

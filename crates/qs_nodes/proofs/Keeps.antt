@@ -1,22 +1,21 @@
 -- Every operation keeps the tree.
-use Rattle.std.proofs.Common.{◌≡◌, ◌≢◌, ℕ, ◌+◌, ◌^◌, ◌<◌, ◌≤◌, List, [], ◌∷◌, length, Bool, true, false, refl, sym, ◌∙◌, ap, subst, arith, inl, inr, ◌⊎◌}
-use Rattle.std.specs.Prelude.{◌==◌, Option, Some, None, Result, Ok, Err, find, cond, option_map}
-use Rattle.std.specs.List.{slice_index_or, slice_get, slice_set}
+use Rattle.std.proofs.Common.{◌≡◌, ◌≢◌, ℕ, ◌^◌, ◌<◌, List, [], length, Bool, true, false, refl, sym, ◌∙◌, ap, subst, arith, inl, inr, ◌⊎◌}
+use Rattle.std.specs.Prelude.{◌==◌, Option, Some, None, Result, Ok, Err, cond, option_map}
+use Rattle.std.specs.List.{slice_index_or, slice_set}
 use Rattle.std.proofs.lemmas.Bool.{eqb-true}
 use Rattle.std.proofs.lemmas.List.{length-replicate, length-set}
 use Rattle.std.proofs.lemmas.Option.{get_or_from_slice_get, none-some, same_Some, slice_get_within}
-use Rattle.qs_part.specs.declared.graph.User.{User}
 use Rattle.qs_part.specs.declared.graph.User.TheVariants.{Node as NodeUser, Export as ExportUser}
 use Rattle.qs_nodes.specs.declared.node.Kind.{Kind}
 use Rattle.qs_nodes.specs.declared.node.Kind.TheVariants.{File, Raw, Throttle}
 use Rattle.qs_nodes.specs.declared.node.Node.{Node}
 use Rattle.qs_nodes.specs.declared.node.Refused.{Refused}
 use Rattle.qs_nodes.specs.declared.node.Refused.TheVariants.{Duplicate, NoNode, NoGroup, OutOfRange, Deep, Full, Root, InUse, OtherKind, OtherFile, Memory}
-use Rattle.qs_nodes.specs.Nodes.{first_of, first_user, has_name, has_place, is_over, named, raw_child, resized_user, shown, throttle_child, user_of, Lies, LowestFree}
-use Rattle.qs_nodes.specs.Table.{fresh, raw, set_node, throttle, with_group, with_node, without_node, AddsGroup, AddsRaw, AddsThrottle, Deletes, EndsGroup, IsAt, NodesValue, ReopensRaw, ReopensThrottle}
+use Rattle.qs_nodes.specs.Nodes.{first_of, first_user, has_name, has_place, named, raw_child, resized_user, shown, throttle_child, user_of, Lies, LowestFree}
+use Rattle.qs_nodes.specs.Table.{fresh, raw, set_node, throttle, with_group, AddsGroup, AddsRaw, AddsThrottle, Deletes, EndsGroup, IsAt, NodesValue, ReopensRaw, ReopensThrottle}
 use Rattle.qs_nodes.specs.Tree.{node_at, AllInGroups, InGroup, IsTree, Shows, StandsOver}
 use Rattle.qs_nodes.proofs.Finds.{none_of_any}
-use Rattle.qs_nodes.proofs.Over.{all_anywhere, all_elsewhere, back, none_back, AllUse, Anywhere, Elsewhere, InStead}
+use Rattle.qs_nodes.proofs.Over.{all_anywhere, all_elsewhere, back, none_back, Anywhere, Elsewhere, InStead}
 use Rattle.qs_nodes.proofs.Groups.{grouped_less, grouped_more, grouped_push, grouped_remove, grouped_set, slot_held}
 use Rattle.qs_nodes.proofs.Rooted.{named_total, rooted_push, rooted_remove, rooted_set, rooted_small}
 

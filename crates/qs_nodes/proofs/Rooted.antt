@@ -1,13 +1,13 @@
 -- The tree after one node more, one less, or another in its stead.
 use Rattle.std.proofs.Common.{◌≡◌, ◌≢◌, ℕ, zero, suc, ◌<◌, ◌≤◌, List, [], ◌∷◌, ◌++◌, length, Bool, true, false, refl, sym, ◌∙◌, ap, subst, arith}
-use Rattle.std.specs.Prelude.{◌==◌, Option, Some, None, find}
+use Rattle.std.specs.Prelude.{◌==◌, Some, None, find}
 use Rattle.std.specs.List.{remove, slice_index_or, slice_set}
 use Rattle.std.proofs.lemmas.Bool.{eq-eqb}
 use Rattle.std.proofs.lemmas.Option.{none-some, same_Some}
 use Rattle.qs_nodes.specs.declared.node.Kind.TheVariants.{File}
 use Rattle.qs_nodes.specs.declared.node.Node.{Node}
 use Rattle.qs_nodes.specs.Nodes.{has_name, has_place, is_over, named}
-use Rattle.qs_nodes.specs.Tree.{node_at, AllOver, IsRoot, IsRooted, StandsOver}
+use Rattle.qs_nodes.specs.Tree.{node_at, IsRoot, IsRooted, StandsOver}
 use Rattle.qs_nodes.proofs.Finds.{find_hit, find_miss, none_behind}
 use Rattle.qs_nodes.proofs.Over.{back, found_back, named_back, push_over, remove_over, set_over, small_back, AllSmall, AllUse, InStead}
 

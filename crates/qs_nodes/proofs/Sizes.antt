@@ -1,21 +1,19 @@
 -- Every operation keeps the size of a node that has a user.
-use Rattle.std.proofs.Common.{◌≡◌, ◌≢◌, ℕ, zero, suc, ◌<◌, List, [], ◌∷◌, ◌++◌, length, Bool, true, false, refl, sym, ◌∙◌, ap, subst, arith, inl, inr, ◌⊎◌}
-use Rattle.std.specs.Prelude.{◌==◌, nat_lt, Option, Some, None, Result, Ok, Err, find, cond, option_map, position}
+use Rattle.std.proofs.Common.{◌≡◌, ◌≢◌, ℕ, zero, suc, ◌<◌, List, [], ◌∷◌, length, Bool, true, false, refl, sym, ◌∙◌, ap, subst, arith, inl, inr, ◌⊎◌}
+use Rattle.std.specs.Prelude.{◌==◌, nat_lt, Option, Some, None, Result, Ok, Err, find, cond, option_map}
 use Rattle.std.specs.List.{position_or_len, remove, slice_get, slice_index_or, slice_set}
 use Rattle.std.specs.Option.{option_or}
 use Rattle.std.proofs.lemmas.Bool.{eqb-true}
 use Rattle.std.proofs.lemmas.List.Folds.{find-append, find_at, find_past}
 use Rattle.std.proofs.lemmas.Option.{get_or_from_slice_get, none-some, same_Some, slice_get_within}
-use Rattle.qs_part.specs.declared.graph.User.{User}
 use Rattle.qs_part.specs.declared.graph.User.TheVariants.{Node as NodeUser, Export as ExportUser}
 use Rattle.qs_nodes.specs.declared.node.Kind.TheVariants.{Raw, Throttle}
 use Rattle.qs_nodes.specs.declared.node.Node.{Node}
 use Rattle.qs_nodes.specs.declared.node.Refused.{Refused}
 use Rattle.qs_nodes.specs.declared.node.Refused.TheVariants.{Duplicate, NoNode, NoGroup, OutOfRange, Deep, Full, Root, InUse, OtherKind, OtherFile, Memory}
 use Rattle.qs_nodes.specs.Nodes.{first_of, first_user, has_name, has_place, named, shown, user_of}
-use Rattle.qs_nodes.specs.Table.{raw, set_node, throttle, with_group, with_node, without_node, AddsGroup, AddsRaw, AddsThrottle, Deletes, EndsGroup, IsAt, NodesValue, ReopensRaw, ReopensThrottle}
+use Rattle.qs_nodes.specs.Table.{raw, set_node, throttle, with_node, AddsGroup, AddsRaw, AddsThrottle, Deletes, EndsGroup, IsAt, NodesValue, ReopensRaw, ReopensThrottle}
 use Rattle.qs_nodes.specs.Tree.{node_at}
-use Rattle.qs_nodes.specs.Ways.{place_of}
 use Rattle.qs_nodes.specs.Sizes.{at_place, export_over, KeepsSize}
 use Rattle.qs_nodes.proofs.Finds.{find_hit, find_miss}
 use Rattle.qs_nodes.proofs.Keeps.{resized_none}

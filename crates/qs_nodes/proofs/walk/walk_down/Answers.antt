@@ -1,5 +1,4 @@
 use Rattle.std.proofs.Common.{◌≡◌, ℕ, suc, ◌+◌, ◌-◌, ◌<◌, List, ◌∷◌, length, drop, sym, ◌∙◌, ap, subst, arith}
-use Rattle.std.specs.List.{slice_index_or}
 use Rattle.std.proofs.lemmas.List.{at_drop_more}
 use Rattle.qs_nodes.specs.declared.node.Node.{Node}
 use Rattle.qs_nodes.specs.declared.walk.Walk.{Walk}

@@ -1,8 +1,8 @@
 use Rattle.std.proofs.Common.{rules, ◌≡◌, ℕ, List, [], ◌∷◌, ◌++◌, sym, subst, refl}
 use Rattle.std.specs.Prelude.{Some, None, Ok}
 use Rattle.qs_nodes.specs.declared.node.Node.{Node}
-use Rattle.qs_nodes.specs.Nodes.{named, shown, Lies, LowestFree}
-use Rattle.qs_nodes.specs.Table.{raw, with_node, AddsRaw, NodesValue}
+use Rattle.qs_nodes.specs.Nodes.{named, Lies, LowestFree}
+use Rattle.qs_nodes.specs.Table.{raw, with_node, NodesValue}
 use Rattle.qs_nodes.specs.Tree.{IsTree}
 use Rattle.qs_nodes.proofs.Keeps.{adds_raw}
 use Rattle.qs_nodes.proofs.nodes.Nodes.add_raw.Goals as goal

@@ -1,10 +1,10 @@
-use Rattle.std.proofs.Common.{rules, ◌≡◌, ◌≢◌, ℕ, ◌<◌, List, length, sym, subst, refl}
+use Rattle.std.proofs.Common.{rules, ◌≡◌, ℕ, ◌<◌, List, length, sym, subst, refl}
 use Rattle.std.specs.Prelude.{Some, None, Ok, position}
 use Rattle.std.specs.List.{remove, slice_get, slice_index_or}
 use Rattle.std.proofs.lemmas.Option.{slice_get_read}
 use Rattle.qs_nodes.specs.declared.node.Node.{Node}
 use Rattle.qs_nodes.specs.Nodes.{first_user, has_name}
-use Rattle.qs_nodes.specs.Table.{without_node, IsUpper, NodesValue}
+use Rattle.qs_nodes.specs.Table.{without_node, NodesValue}
 use Rattle.qs_nodes.specs.Tree.{IsTree}
 use Rattle.qs_nodes.proofs.Keeps.{deletes}
 use Rattle.qs_nodes.proofs.nodes.Nodes.del.Goals as goal

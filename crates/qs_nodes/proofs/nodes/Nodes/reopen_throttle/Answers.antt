@@ -1,5 +1,5 @@
-use Rattle.std.proofs.Common.{rules, ◌≡◌, ℕ, ◌<◌, List, length, sym, subst, refl}
-use Rattle.std.specs.Prelude.{Option, Some, None, Ok, position}
+use Rattle.std.proofs.Common.{rules, ◌≡◌, ℕ, ◌<◌, length, subst, refl}
+use Rattle.std.specs.Prelude.{Some, Ok, position}
 use Rattle.std.specs.List.{slice_get, slice_index_or}
 use Rattle.std.proofs.lemmas.Option.{slice_get_read}
 use Rattle.qs_nodes.specs.declared.node.Kind.TheVariants.{Throttle}

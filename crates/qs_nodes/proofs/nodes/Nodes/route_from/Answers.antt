@@ -1,5 +1,4 @@
-use Rattle.std.proofs.Common.{rules, ◌≡◌, List, sym, subst}
-use Rattle.qs_nodes.specs.declared.node.Node.{Node}
+use Rattle.std.proofs.Common.{rules, ◌≡◌, sym, subst}
 use Rattle.qs_nodes.specs.Tree.{IsRooted}
 use Rattle.qs_nodes.proofs.nodes.Nodes.route_from.Goals as goal
 
