@@ -1,6 +1,7 @@
 ghost use Rattle.std.specs.Prelude.{◌≡◌};
 ghost use Rattle.std.specs.Str.{bytes_eq};
 ghost use Rattle.qs_nodes.specs.Nodes.{is_in_group, is_over, raw_child, throttle_child};
+ghost use Rattle.qs_nodes.specs.Ways.{child_of};
 
 use qs_bytes::Name;
 use qs_part::graph::User;
@@ -82,6 +83,16 @@ impl Node {
         match self.kind {
             Kind::Throttle { slot: own, .. } => own == slot,
             _ => false,
+        }
+    }
+
+    /// The place of its child.
+    pub fn child(&self) -> Option<u8>
+        ensures { result ≡ child_of self.now.kind }
+    {
+        match self.kind {
+            Kind::File => None,
+            Kind::Raw { child, .. } | Kind::Throttle { child, .. } => Some(child),
         }
     }
 

@@ -1,8 +1,11 @@
 ghost use Rattle.std.specs.Prelude.{◌≡◌, ◌<◌, length, IfOk};
 ghost use Rattle.qs_nodes.specs.Table.{fresh, set_node, AddsGroup, AddsRaw, AddsThrottle, Deletes, EndsGroup, ReopensRaw, ReopensThrottle};
+ghost use Rattle.qs_nodes.specs.Tree.{IsTree};
+ghost use Rattle.qs_nodes.specs.Ways.{place_of, way_from};
 
 use crate::node::{Kind, Node, Refused};
-use crate::scan;
+use crate::way::WayDown;
+use crate::{scan, walk};
 use qs_bytes::{Memory, Name};
 use qs_part::graph::User;
 use std::alloc::Global;
@@ -25,14 +28,14 @@ pub struct Nodes {
 }
 
 impl Model for Nodes {
-    ghost use Rattle.std.specs.Prelude.{◌≡◌, length};
     ghost use Rattle.qs_nodes.specs.Table.{NodesValue};
+    ghost use Rattle.qs_nodes.specs.Tree.{IsTree};
 
     ghost Value = { NodesValue };
 
     ghost view = { λ g. record { size = g.size; nodes = g.nodes.items; groups = g.groups.items } };
 
-    ghost invariant = { λ g. length g.groups.items ≡ 16 };
+    ghost invariant = { λ g. IsTree (record { size = g.size; nodes = g.nodes.items; groups = g.groups.items }) };
 }
 
 impl Nodes {
@@ -173,8 +176,24 @@ impl Nodes {
         Ok(())
     }
 
+    /// The place of the node of a name. `None` exactly where no node has it.
+    pub fn place_of(&self, name: &Name) -> Option<u8>
+        ensures { result ≡ place_of self.now.nodes name.now }
+    {
+        scan::place_of(&self.nodes, name)
+    }
+
+    /// The way from the node at a place down to the image, with offsets in bytes (a request's path
+    /// through QEMU's `bs->file` children, block.c). `None` exactly where no node is there.
+    pub fn route_from(&self, place: u8) -> Option<WayDown>
+        ensures { result ≡ way_from self.now.nodes place }
+    {
+        walk::way_from(&self.nodes, place)
+    }
+
     fn set(&mut self, at: usize, node: Node)
-        requires { at < length self.old.nodes }
+        requires inside { at < length self.old.nodes }
+        requires tree { IsTree (set_node self.old at node) }
         ensures { self.new ≡ set_node self.old at node }
     {
         self.nodes[at] = node;

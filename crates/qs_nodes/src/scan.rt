@@ -1,5 +1,7 @@
 ghost use Rattle.std.specs.Prelude.{◌≡◌, ◌<◌, length, position, IfSome};
 ghost use Rattle.qs_nodes.specs.Nodes.{first_member, first_user, free_slot, has_id, has_name, is_taken, named, resized_user, slot_of, user_of, IsPart, LowestFree};
+ghost use Rattle.qs_nodes.specs.Tree.{node_at};
+ghost use Rattle.qs_nodes.specs.Ways.{place_of};
 
 use crate::node::Node;
 use qs_bytes::Name;
@@ -13,6 +15,23 @@ pub fn named(nodes: &[Node], name: &Name) -> Option<Node>
     ensures { result ≡ named nodes.now name.now }
 {
     nodes.iter().copied().find(|node| node.is_named(name))
+}
+
+/// The node at a place.
+pub fn at_place(nodes: &[Node], place: u8) -> Option<Node>
+    ensures { result ≡ node_at nodes.now place }
+{
+    nodes.iter().copied().find(|node| node.place == place)
+}
+
+/// The place of the node of a name.
+pub fn place_of(nodes: &[Node], name: &Name) -> Option<u8>
+    ensures { result ≡ place_of nodes.now name.now }
+{
+    match named(nodes, name) {
+        Some(node) => Some(node.place),
+        None => None,
+    }
 }
 
 /// The number, in order of making, of the node of a name.

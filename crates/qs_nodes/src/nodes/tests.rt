@@ -143,3 +143,30 @@ fn nodes_are_reopened(rt: HostRuntime) -> Result<(), Fail> {
     assert_eq!(rt; nodes.reopen_throttle(high, low, &group), Ok(()));
     Ok(())
 }
+
+#[test]
+fn way_down_is_summed(rt: HostRuntime) -> Result<(), Fail> {
+    let (file, low, mid, top) = (name(b"file")?, name(b"low")?, name(b"mid")?, name(b"top")?);
+    let (slow, fast) = (name(b"slow")?, name(b"fast")?);
+    let mut nodes = Nodes::new(rt.alloc(), 4096, file, false)?;
+    assert_eq!(rt; nodes.group_add(slow), Ok(0));
+    assert_eq!(rt; nodes.group_add(fast), Ok(1));
+    assert_eq!(rt; nodes.add_raw(low, file, 512, Some(2048), true), Ok(1));
+    assert_eq!(rt; nodes.add_throttle(mid, low, &slow, false), Ok(2));
+    assert_eq!(rt; nodes.add_raw(top, mid, 256, None, false), Ok(3));
+    assert_eq!(rt; nodes.add_throttle(fast, top, &fast, false), Ok(4));
+    assert_eq!(rt; nodes.place_of(&top), Some(3));
+    assert_eq!(rt; nodes.place_of(&slow), None);
+    let way = nodes.route_from(4).ok_or("no way")?;
+    assert_eq!(rt; way.offset, 768);
+    assert_eq!(rt; way.size, 1792);
+    assert_eq!(rt; way.count, 2);
+    assert_eq!(rt; way.groups[0], (1, 4));
+    assert_eq!(rt; way.groups[1], (0, 2));
+    assert_eq!(rt; way.read_only, Some(low));
+    let way = nodes.route_from(0).ok_or("no way")?;
+    assert_eq!(rt; (way.offset, way.size, way.count), (0, 4096, 0));
+    assert_eq!(rt; way.read_only, None);
+    assert!(rt; nodes.route_from(5).is_none());
+    Ok(())
+}
