@@ -286,3 +286,25 @@ whole all (root ∷ rest) p n way a at kind is = go (root.place == p) refl
         sym (ap (λ (w : Walk). w.way) steps ∙ to_n) ∙ way_at (root ∷ rest) p n way at is in
         subst (IsWhole n) all_way (through_file n p n.kind kind)
     go false e = absurd (other_kind (root ∷ []) rest p n a.1 (sym (find_miss (has_place p) root rest e) ∙ at) kind)
+
+-- the size is that of the upper node
+kind_size : (kind : Kind) (place : ℕ) (way : WayDown) → (through kind place way).size ≡ way.size
+kind_size File place way = refl
+kind_size (Raw child offset) place way = refl
+kind_size (Throttle child slot) place way = refl
+
+passed_size : (x : Node) (s : Walk) → (passed x s).way.size ≡ s.way.size
+passed_size x s = go (is_next x.place s.next)
+  where
+    go : (t : Bool) → (if t then record { next = child_of x.kind; way = met x s.way } else s).way.size ≡ s.way.size
+    go true = kind_size x.kind x.place s.way
+    go false = refl
+
+walked_size : (nodes : List Node) (s : Walk) → (walked nodes s).way.size ≡ s.way.size
+walked_size [] s = refl
+walked_size (x ∷ nodes) s = passed_size x (walked nodes s) ∙ walked_size nodes s
+
+pub size_at : (nodes : List Node) (p : ℕ) (n : Node) (way : WayDown) → node_at nodes p ≡ Some n → way_from nodes p ≡ Some way →
+    way.size ≡ n.size
+size_at nodes p n way at is =
+    sym (ap (λ (w : WayDown). w.size) (way_at nodes p n way at is)) ∙ walked_size nodes (begun p n.size)
