@@ -1,5 +1,6 @@
 -- The way from a node, as the way from its child tells it.
-use Rattle.std.specs.Prelude.{◌≡◌, ℕ, ◌+◌, List, Option, Some, None, if◌then◌else◌}
+use Rattle.std.specs.Prelude.{◌≡◌, ℕ, ◌+◌, ◌<◌, List, Option, Some, None, if◌then◌else◌}
+use Rattle.std.specs.List.{slice_index_or}
 use Rattle.std.specs.Option.{option_or}
 use Rattle.qs_nodes.specs.declared.node.Kind.{Kind}
 use Rattle.qs_nodes.specs.declared.node.Kind.TheVariants.{File, Raw, Throttle}
@@ -27,6 +28,10 @@ pub record Follows (n : Node) (way below : WayDown) : Type 0 where
   pub offset : way.offset ≡ offset_of n.kind + below.offset
   pub count : way.count ≡ members_of n.kind + below.count
   pub read_only : way.read_only ≡ option_or (name_if_read_only n) below.read_only
+  pub first : (child slot : ℕ) → n.kind ≡ Throttle child slot →
+      slice_index_or way.groups 0 (0, 0) ≡ (slot, n.place)
+  pub groups : (k : ℕ) → k < below.count →
+      slice_index_or way.groups (members_of n.kind + k) (0, 0) ≡ slice_index_or below.groups k (0, 0)
 
 -- the way from the file node
 abbrev pub IsWhole : Node → WayDown → Type 0

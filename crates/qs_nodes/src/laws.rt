@@ -61,11 +61,14 @@ pub fn sized()
         EndsGroup v id r new → (place : ℕ) → KeepsSize v new place }
 {}
 
-/// The way from the file node is the whole image. The way from another node adds to the way from its
-/// child what the node does: its offset, one throttle node, and its name where it is read-only.
+/// A way has the size of its node. The way from the file node is the whole image. The way from another
+/// node adds to the way from its child what the node does: its offset, itself as the first throttle
+/// node, and its name where it is read-only.
 pub fn followed()
-    ensures file { (v : NodesValue) (place : ℕ) (n : Standing) (way : WayDown) → IsTree v → node_at v.nodes place ≡ Some n →
-        n.kind ≡ File → way_from v.nodes place ≡ Some way → IsWhole n way }
+    ensures file { (v : NodesValue) (place : ℕ) (n : Standing) (way : WayDown) → IsTree v →
+        node_at v.nodes place ≡ Some n → n.kind ≡ File → way_from v.nodes place ≡ Some way → IsWhole n way }
+    ensures size { (v : NodesValue) (place : ℕ) (n : Standing) (way : WayDown) → node_at v.nodes place ≡ Some n →
+        way_from v.nodes place ≡ Some way → way.size ≡ n.size }
     ensures child { (v : NodesValue) (place child : ℕ) (n : Standing) (way below : WayDown) → IsTree v →
         node_at v.nodes place ≡ Some n → child_of n.kind ≡ Some child →
         way_from v.nodes place ≡ Some way → way_from v.nodes child ≡ Some below → Follows n way below }
