@@ -10,7 +10,7 @@ use Rattle.qs_model.specs.Acts.{Stores, StoreFails}
 use Rattle.qs_model.specs.Guards.{MayDo}
 use Rattle.qs_model.specs.Histories.{writes_in}
 use Rattle.qs_model.specs.Laws.{reply_at}
-use Rattle.qs_model.specs.Steps.{written}
+use Rattle.qs_model.specs.Steps.{block_written}
 use Rattle.qs_model.proofs.Basics.{block_high, block_low, blocks_lt, either}
 use Rattle.qs_model.proofs.Cells.{row_leads}
 use Rattle.qs_model.proofs.Facts.{Keeps, Loading, Storing}
@@ -125,7 +125,7 @@ after_refused r u v false = refl
 -- a store of block b
 pub front_stored : (A r : ℕ) (w : World) (old : Image) (d : Client) (p : Pads) (k b : ℕ) (bytes : List ℕ) (past : List (List ℕ)) → 0 < A → IsTrue w.tells → Storing A d b →
     Keeps A w.tells w.image d p (In k (ToStore b)) → MayDo A w d p (Stores {k = k} {b = b} bytes past) → Front A old d (b * A) w.image →
-    Front A old d (b * A + A) (written w.image b bytes past)
+    Front A old d (b * A + A) (block_written w.image b bytes past)
 front_stored A r w old d p k b bytes past pos told fit kept may front x =
     (row_leads A x r w d p (Stores {k = k} {b = b} bytes past) pos told fit kept may).leaves
     ∙ after_write r (body_at d x) (byte_at A w.image x) (writes_in A d b x)
@@ -135,7 +135,7 @@ front_stored A r w old d p k b bytes past pos told fit kept may front x =
 -- a store that the disk refused leaves the block written, or as it was
 pub front_refused : (A r : ℕ) (w : World) (old : Image) (d : Client) (p : Pads) (k b : ℕ) (bytes : List ℕ) (took : Bool) (past : List (List ℕ)) → 0 < A → IsTrue w.tells →
     Storing A d b → Keeps A w.tells w.image d p (In k (ToStore b)) → MayDo A w d p (StoreFails {k = k} {b = b} bytes took past) → Front A old d (b * A) w.image →
-    (n : ℕ) × Front A old d n (written w.image b (cond took bytes (w.image.now b)) past)
+    (n : ℕ) × Front A old d n (block_written w.image b (cond took bytes (w.image.now b)) past)
 front_refused A r w old d p k b bytes true past pos told fit kept may front = (
   b * A + A,
   λ x. (row_leads A x r w d p (StoreFails {k = k} {b = b} bytes true past) pos told fit kept may).leaves

@@ -3,12 +3,12 @@ use Rattle.std.proofs.Common.{◌≡◌, ℕ, ◌<◌, ◌⊎◌, inl, inr, Bool
 use Rattle.qs_bytes.specs.Geometry.{stripe_of}
 use Rattle.qs_graph.specs.Table.{GraphValue}
 use Rattle.qs_part.specs.declared.stripe.Side.TheVariants.{Head, Tail}
-use Rattle.qs_model.specs.Requests.{Client, Pads, Req, Stage, asked, edge, is_flush, no_route, span_of, syncs, touches, writes}
+use Rattle.qs_model.specs.Requests.{Client, Pads, Req, Stage, new_request, edge, is_flush, no_route, span_of, syncs, touches, writes}
 use Rattle.qs_model.specs.Worlds.{Image, World}
 use Rattle.qs_model.specs.Acts.{Act, Answers, Waits, Enters, Routes, Shuts, Lists, Starts, Loads, LoadFails, Holds, HoldFails, Stores, StoreFails, Syncs, Cleans, SyncFails, Frees, Ends, Element, Asked, Did}
-use Rattle.qs_model.specs.Guards.{May, MayDo}
+use Rattle.qs_model.specs.Guards.{CanCome, MayDo}
 use Rattle.qs_model.specs.Histories.{Acts}
-use Rattle.qs_model.specs.Steps.{Runs, after, happens, imaged, moved}
+use Rattle.qs_model.specs.Steps.{Runs, world_after, happens, imaged, moved}
 use Rattle.qs_model.proofs.Basics.{either, put_here, put_tells}
 use Rattle.qs_model.proofs.Facts.{Ok, Shaped, Syncing, Well}
 use Rattle.qs_model.proofs.Geometry.{Reaches, head_reached, reaches_edge}
@@ -157,18 +157,18 @@ pub record Tracks (A : ℕ) (w : World) (r : ℕ) (c : Client) (steps : List Ele
 same_req : (a b : Req) → Some a ≡ Some b → a ≡ b
 same_req a b e = cc
 
-pub tracks_asked : (A : ℕ) (w : World) (r : ℕ) (c : Client) → 0 < A → Ok A w → IsIdle w → May A w (Asked r c) → Tracks A w r c [] (happens A w (Asked r c))
+pub tracks_asked : (A : ℕ) (w : World) (r : ℕ) (c : Client) → 0 < A → Ok A w → IsIdle w → CanCome A w (Asked r c) → Tracks A w r c [] (happens A w (Asked r c))
 tracks_asked A w r c pos ok idle may = record {
   story = begun c;
   told = refl;
   ok = step_ok A w (Asked r c) pos ok may;
   frame = frame_asked A w r c idle;
   follows = record { made = refl; here = refl; way = inl refl; fault = λ h. absurd (true≢false (sym h)); still = λ _. refl; past = λ _ _. refl };
-  stands = λ q is. subst (λ (x : Req). (x.dropped ≡ false) × Stands A w c x.client w.image x.stage) (same_req (asked c) q (sym (put_here w.req r (Some (asked c))) ∙ is))
+  stands = λ q is. subst (λ (x : Req). (x.dropped ≡ false) × Stands A w c x.client w.image x.stage) (same_req (new_request c) q (sym (put_here w.req r (Some (new_request c))) ∙ is))
       (refl, stands_asked A w c);
 }
 
-pub tracks_step : (A : ℕ) (w : World) (r : ℕ) (c : Client) (steps : List Element) (x : World) (e : Element) → 0 < A → c.route ≡ no_route → May A x e → Acts r e →
+pub tracks_step : (A : ℕ) (w : World) (r : ℕ) (c : Client) (steps : List Element) (x : World) (e : Element) → 0 < A → c.route ≡ no_route → CanCome A x e → Acts r e →
     Tracks A w r c steps x → Tracks A w r c (steps ++ e ∷ []) (happens A x e)
 tracks_step A w r c steps x (Did s q act) pos unrouted may own t =
     let there : x.req r ≡ Some q = subst (λ (k : ℕ). x.req k ≡ Some q) own may.0 in
@@ -192,8 +192,8 @@ tracks_step A w r c steps x (Did s q act) pos unrouted may own t =
 tracks_step A w r c steps x _ pos unrouted may own t = absurd own
 
 pub tracks_run : (A : ℕ) (w : World) (r : ℕ) (c : Client) (steps : List Element) (x : World) (es : List Element) → 0 < A → c.route ≡ no_route → Runs A x es → AreOf r es →
-    Tracks A w r c steps x → Tracks A w r c (steps ++ es) (after A x es)
+    Tracks A w r c steps x → Tracks A w r c (steps ++ es) (world_after A x es)
 tracks_run A w r c steps x [] pos unrouted run own t = subst (λ (l : List Element). Tracks A w r c l x) (sym (append-nil steps)) t
 tracks_run A w r c steps x (e ∷ es) pos unrouted run own t =
-    subst (λ (l : List Element). Tracks A w r c l (after A (happens A x e) es)) (append_assoc steps (e ∷ []) es)
+    subst (λ (l : List Element). Tracks A w r c l (world_after A (happens A x e) es)) (append_assoc steps (e ∷ []) es)
     (tracks_run A w r c (steps ++ e ∷ []) (happens A x e) es pos unrouted run.1 own.1 (tracks_step A w r c steps x e pos unrouted run.0 own.0 t))

@@ -3,8 +3,8 @@ use Rattle.std.proofs.Common.{◌≡◌, ◌≢◌, ℕ, ◌+◌, ◌<◌, List,
 use Rattle.qs_model.specs.Requests.{Client}
 use Rattle.qs_model.specs.Worlds.{Opening, World}
 use Rattle.qs_model.specs.Acts.{Element, Asked, Did}
-use Rattle.qs_model.specs.Laws.{opening}
-use Rattle.qs_model.specs.Steps.{Runs, after, happens}
+use Rattle.qs_model.specs.Laws.{opening_world}
+use Rattle.qs_model.specs.Steps.{Runs, world_after, happens}
 use Rattle.qs_model.specs.Histories.{Acts}
 use Rattle.qs_model.proofs.Basics.{put_other}
 use Rattle.qs_model.proofs.Facts.{Ok}
@@ -41,16 +41,16 @@ frame_step A w r x (Did s q act) own f = record {
 }
 frame_step A w r x _ own f = absurd own
 
-pub frame_run : (A : ℕ) (w : World) (r : ℕ) (x : World) (es : List Element) → AreOf r es → Frame w r x → Frame w r (after A x es)
+pub frame_run : (A : ℕ) (w : World) (r : ℕ) (x : World) (es : List Element) → AreOf r es → Frame w r x → Frame w r (world_after A x es)
 frame_run A w r x [] own f = f
 frame_run A w r x (e ∷ es) own f = frame_run A w r (happens A x e) es own.1 (frame_step A w r x e own.0 f)
 
 -- the steps of the request from its Ask on
 pub own_run : (A : ℕ) (o : Opening) (before : List Element) (r : ℕ) (c : Client) (steps : List Element) → 0 < A → IsAlone A o before r c steps →
-    Ok A (after A (opening o) before) × Runs A (after A (opening o) before) (Asked r c ∷ steps)
+    Ok A (world_after A (opening_world o) before) × Runs A (world_after A (opening_world o) before) (Asked r c ∷ steps)
 own_run A o before r c steps pos alone = (
-  run_ok A (opening o) before pos (new_ok A 0 o) (runs_front A (opening o) before (Asked r c ∷ steps) alone.run),
-  runs_back A (opening o) before (Asked r c ∷ steps) alone.run,
+  run_ok A (opening_world o) before pos (new_ok A 0 o) (runs_front A (opening_world o) before (Asked r c ∷ steps) alone.run),
+  runs_back A (opening_world o) before (Asked r c ∷ steps) alone.run,
 )
 
 -- the own steps up to one of them

@@ -7,20 +7,20 @@ use Rattle.qs_bytes.specs.declared.ask.Verdict.TheVariants.{Got, Refused, Droppe
 use Rattle.qs_model.specs.Requests.{Client, Pads, Stage, verdict}
 use Rattle.qs_model.specs.Worlds.{Image, Opening, World}
 use Rattle.qs_model.specs.Acts.{Act, Answers, Waits, Enters, Routes, Shuts, Lists, Starts, Loads, LoadFails, Holds, HoldFails, Stores, StoreFails, Syncs, Cleans, SyncFails, Frees, Ends, Element, Asked, Did}
-use Rattle.qs_model.specs.Guards.{May}
+use Rattle.qs_model.specs.Guards.{CanCome}
 use Rattle.qs_model.specs.Histories.{answer_of}
-use Rattle.qs_model.specs.Laws.{opening}
-use Rattle.qs_model.specs.Steps.{after, happens, imaged, moved}
+use Rattle.qs_model.specs.Laws.{opening_world}
+use Rattle.qs_model.specs.Steps.{world_after, happens, imaged, moved}
 use Rattle.qs_model.proofs.Basics.{either, put_here, same_or}
 use Rattle.qs_model.proofs.Holders.{some_none}
 use Rattle.qs_model.proofs.Kept.{after_append, new_ok, split_run}
 use Rattle.qs_verdicts.specs.Stories.{Story, Way, Unknown, begun, told, told_from, told_step}
-use Rattle.qs_verdicts.specs.Verdicts.{IsAnswered, IsByTable, is_malformed, reply_by_way, reply_of, verdict_of}
+use Rattle.qs_verdicts.specs.Verdicts.{IsAnswered, IsByTable, is_malformed, reply_by_way, verdict_by_way, verdict_of}
 use Rattle.qs_verdicts.proofs.Folds.{if_same}
 use Rattle.qs_verdicts.proofs.Stories.{ask_step}
 use Rattle.qs_verdicts.proofs.Verdicts.{verdicts}
 use Rattle.std.specs.List.{AllByRecursion}
-use Rattle.qs_alone.specs.Alone.{AreOf, Changes, IsAlone, IsOff, IsOffRow, IsServed, routed_in, way_in}
+use Rattle.qs_alone.specs.Alone.{AreOf, AnswerChanges, IsAlone, IsOff, IsOffRow, IsServed, routed_in, way_in}
 use Rattle.qs_alone.proofs.Frame.{Frame, frame_step, own_front, own_run}
 use Rattle.qs_alone.proofs.Stages.{Stands}
 use Rattle.qs_alone.proofs.Unworked.{got_whole, off_steps}
@@ -43,8 +43,8 @@ told_own A r c before steps =
     ∙ ap (λ (o : Option Story). told_from A r o steps) (ask_step A r r c (told A r before) ∙ if_same r r (Some (begun c)) (told A r before) refl)
 
 -- an answer that hangs on no way is the same over each
-reply_unknown : (a : Ask) (buffered : Bool) (way : Way) (fault : Bool) (got : List ℕ) (v : Verdict) → reply_of a buffered Unknown fault got ≡ Some v →
-    reply_of a buffered way fault got ≡ Some v
+reply_unknown : (a : Ask) (buffered : Bool) (way : Way) (fault : Bool) (got : List ℕ) (v : Verdict) → verdict_by_way a buffered Unknown fault got ≡ Some v →
+    verdict_by_way a buffered way fault got ≡ Some v
 reply_unknown a buffered way fault got v is = go (is_malformed a) buffered is
   where
     go : (m b : Bool) → cond m (Some (Refused Inval)) (cond (not b) (Some (Refused NoMem)) (reply_by_way a Unknown fault got)) ≡ Some v →
@@ -55,35 +55,35 @@ reply_unknown a buffered way fault got v is = go (is_malformed a) buffered is
 
 -- the line of the table, over the way that the graph gives
 own_reply : (A : ℕ) (w : World) (c : Client) (steps : List Element) (i : Image) (n : Story) (v : Verdict) → Follows A w c steps i n → verdict_of n ≡ Some v →
-    reply_of c.ask c.buffered (way_in w.graph c.export) n.fault n.got ≡ Some v
-own_reply A w c steps i n v f line = subst (λ (d : Client). reply_of d.ask d.buffered (way_in w.graph c.export) n.fault n.got ≡ Some v) f.made (elim f.way [
+    verdict_by_way c.ask c.buffered (way_in w.graph c.export) n.fault n.got ≡ Some v
+own_reply A w c steps i n v f line = subst (λ (d : Client). verdict_by_way d.ask d.buffered (way_in w.graph c.export) n.fault n.got ≡ Some v) f.made (elim f.way [
   | inl unknown ↦ reply_unknown n.client.ask n.client.buffered (way_in w.graph c.export) n.fault n.got v
-      (ap (λ (way : Way). reply_of n.client.ask n.client.buffered way n.fault n.got) (sym unknown) ∙ known)
-  | inr given ↦ ap (λ (way : Way). reply_of n.client.ask n.client.buffered way n.fault n.got) (sym given) ∙ known
+      (ap (λ (way : Way). verdict_by_way n.client.ask n.client.buffered way n.fault n.got) (sym unknown) ∙ known)
+  | inr given ↦ ap (λ (way : Way). verdict_by_way n.client.ask n.client.buffered way n.fault n.got) (sym given) ∙ known
 ])
   where
-    known : reply_of n.client.ask n.client.buffered n.way n.fault n.got ≡ Some v
-    known = sym (ap (λ (b : Bool). cond b (Some Dropped) (reply_of n.client.ask n.client.buffered n.way n.fault n.got)) f.here) ∙ line
+    known : verdict_by_way n.client.ask n.client.buffered n.way n.fault n.got ≡ Some v
+    known = sym (ap (λ (b : Bool). cond b (Some Dropped) (verdict_by_way n.client.ask n.client.buffered n.way n.fault n.got)) f.here) ∙ line
 
 -- the row that answers changes nothing, and the request is gone
 record Ending (A : ℕ) (w : World) (c d : Client) (b : Bool) (p : Pads) (i : Image) {stage : Stage} (act : Act stage) (v : Verdict) : Type 0 where
   image : imaged A i d act ≡ i
   gone : moved A d b p act ≡ None
-  changes : IsTrue w.tells → Changes A w.image (routed_in w.graph c) v i
+  changes : IsTrue w.tells → AnswerChanges A w.image (routed_in w.graph c) v i
 
 ending : (A : ℕ) (w : World) (c d : Client) (b : Bool) (p : Pads) (i : Image) {stage : Stage} (act : Act stage) (v : Verdict) → b ≡ false → answer_of b act ≡ Some v →
     Stands A w c d i stage → Ending A w c d b p i act v
 ending A w c d b p i (Answers {v = u}) v here is at = record {
   image = refl;
   gone = refl;
-  changes = λ told. subst (λ (x : Verdict). Changes A w.image (routed_in w.graph c) x i) (some_one u v is) (at (routed_in w.graph c) told);
+  changes = λ told. subst (λ (x : Verdict). AnswerChanges A w.image (routed_in w.graph c) x i) (some_one u v is) (at (routed_in w.graph c) told);
 }
 ending A w c d b p i (Ends {v = u}) v here is at =
     let same : u ≡ v = some_one u v (ap (λ (t : Bool). Some (verdict t u)) (sym here) ∙ is) in
     record {
       image = refl;
       gone = refl;
-      changes = λ told. subst (λ (x : Verdict). Changes A w.image (routed_in w.graph c) x i) same (subst (λ (e : Client). Changes A w.image e u i) at.0 (at.1 told));
+      changes = λ told. subst (λ (x : Verdict). AnswerChanges A w.image (routed_in w.graph c) x i) same (subst (λ (e : Client). AnswerChanges A w.image e u i) at.0 (at.1 told));
     }
 ending A w c d b p i (Waits wait) v here is at = absurd (some_none (sym is))
 ending A w c d b p i (Enters k) v here is at = absurd (some_none (sym is))
@@ -128,7 +128,7 @@ off_all [] e all is = (is, tt)
 off_all (x ∷ xs) e all is = (all.0, off_all xs e all.1 is)
 
 -- the answer behind the request's own steps
-answered : (A : ℕ) (w : World) (r : ℕ) (c : Client) (front : List Element) (x : World) (e : Element) (v : Verdict) → May A x e → IsAnswered r v e → (t : Tracks A w r c front x) →
+answered : (A : ℕ) (w : World) (r : ℕ) (c : Client) (front : List Element) (x : World) (e : Element) (v : Verdict) → CanCome A x e → IsAnswered r v e → (t : Tracks A w r c front x) →
     IsByTable A t.story v → ((bytes : List ℕ) → v ≡ Got bytes → length bytes ≡ c.ask.length) → AreOf r (front ++ e ∷ []) →
     told_from A r (Some (begun c)) front ≡ Some t.story → IsServed A w c (front ++ e ∷ []) v (happens A x e)
 answered A w r c front x (Did s q act) v may is t table whole own tells =
@@ -141,7 +141,7 @@ answered A w r c front x (Did s q act) v may is t table whole own tells =
       fault = n.fault;
       got = n.got;
       reply = own_reply A w c front x.image n v t.follows table.line;
-      changes = λ told. subst (λ (i : Image). Changes A w.image (routed_in w.graph c) v i) (sym end.image) (end.changes told);
+      changes = λ told. subst (λ (i : Image). AnswerChanges A w.image (routed_in w.graph c) v i) (sym end.image) (end.changes told);
       whole = whole;
       off = λ none. elim (either n.worked) [
         | inl worked ↦ absurd (none (table.idle worked))
@@ -165,21 +165,21 @@ answered A w r c front x _ v may is t table whole own tells = absurd is
 -- the law
 pub served : (A : ℕ) (o : Opening) (before : List Element) (r : ℕ) (c : Client) (front : List Element) (e : Element) (v : Verdict) → 0 < A →
     IsAlone A o before r c (front ++ e ∷ []) → IsAnswered r v e →
-    IsServed A (after A (opening o) before) c (front ++ e ∷ []) v (after A (opening o) (before ++ Asked r c ∷ (front ++ e ∷ [])))
+    IsServed A (world_after A (opening_world o) before) c (front ++ e ∷ []) v (world_after A (opening_world o) (before ++ Asked r c ∷ (front ++ e ∷ [])))
 served A o before r c front e v pos alone is =
-    let w : World = after A (opening o) before in
+    let w : World = world_after A (opening_world o) before in
     let (ok, run) = own_run A o before r c (front ++ e ∷ []) pos alone in
     let w1 : World = happens A w (Asked r c) in
     let (up, may) = split_run A w1 (front ++ e ∷ []) front e run.1 ([], refl) in
-    let t : Tracks A w r c front (after A w1 front) =
+    let t : Tracks A w r c front (world_after A w1 front) =
     tracks_run A w r c [] w1 front pos run.0.unrouted up (own_front r front (e ∷ []) alone.own) (tracks_asked A w r c pos ok alone.idle run.0) in
-    let (n, (tells, table)) = verdicts A (opening o) (before ++ Asked r c ∷ (front ++ e ∷ [])) pos (new_ok A 0 o) (λ s. refl) alone.run r v
+    let (n, (tells, table)) = verdicts A (opening_world o) (before ++ Asked r c ∷ (front ++ e ∷ [])) pos (new_ok A 0 o) (λ s. refl) alone.run r v
     (before ++ Asked r c ∷ front) e ([], sym (append_assoc before (Asked r c ∷ front) (e ∷ []))) is in
     let same : n ≡ t.story = same_story n t.story (sym tells ∙ told_own A r c before front ∙ t.told) in
-    let there : after A (opening o) (before ++ Asked r c ∷ (front ++ e ∷ [])) ≡ happens A (after A w1 front) e =
-    after_append A (opening o) before (Asked r c ∷ (front ++ e ∷ [])) ∙ after_append A w1 front (e ∷ []) in
+    let there : world_after A (opening_world o) (before ++ Asked r c ∷ (front ++ e ∷ [])) ≡ happens A (world_after A w1 front) e =
+    after_append A (opening_world o) before (Asked r c ∷ (front ++ e ∷ [])) ∙ after_append A w1 front (e ∷ []) in
     subst (λ (x : World). IsServed A w c (front ++ e ∷ []) v x) (sym there)
-    (answered A w r c front (after A w1 front) e v may is t (subst (λ (m : Story). IsByTable A m v) same table)
+    (answered A w r c front (world_after A w1 front) e v may is t (subst (λ (m : Story). IsByTable A m v) same table)
     (λ bytes got. got_whole A o (before ++ Asked r c ∷ (front ++ e ∷ [])) r c (before ++ Asked r c ∷ front) t.story e bytes pos alone.run
     ([], sym (append_assoc before (Asked r c ∷ front) (e ∷ []))) (subst (λ (x : Verdict). IsAnswered r x e) got is) (told_own A r c before front ∙ t.told) t.follows.made)
     alone.own t.told)

@@ -10,7 +10,7 @@ use Rattle.qs_part.specs.declared.graph.GraphReply.TheVariants.{Routed, Shutting
 use Rattle.qs_part.specs.declared.graph.Route.{Route}
 use Rattle.qs_part.specs.declared.stripe.Side.{Side}
 use Rattle.qs_part.specs.declared.stripe.Side.TheVariants.{Head, Tail}
-use Rattle.qs_model.specs.Requests.{Client, Pads, Step, Stage, ToRoute, ToList, ToStart, ToLoad, ToHold, ToStore, ToSync, ToFree, ToEnd, Ready, Entering, In, asked, edge, form_error, has, held, hold_failed, is_flush, is_trim, loaded, no_route, piece, reads, routed, span_of, started, store_failed, stored, stores_bytes, success, synced, syncs, to_sync, wants_writable, writes}
+use Rattle.qs_model.specs.Requests.{Client, Pads, Step, Stage, ToRoute, ToList, ToStart, ToLoad, ToHold, ToStore, ToSync, ToFree, ToEnd, Ready, Entering, In, new_request, edge, form_error, has, held, hold_failed, is_flush, is_trim, loaded, no_route, piece, reads, routed, span_of, started, store_failed, stored, stores_bytes, success, synced, syncs, to_sync, wants_writable, writes}
 use Rattle.qs_model.specs.Worlds.{Image, World}
 use Rattle.qs_model.specs.Acts.{Act, Answers, Waits, Enters, Routes, Shuts, Lists, Starts, Loads, LoadFails, Holds, HoldFails, Stores, StoreFails, Syncs, Cleans, SyncFails, Frees, Ends}
 use Rattle.qs_model.specs.Guards.{MayDo}
@@ -22,7 +22,7 @@ use Rattle.qs_model.proofs.Machine.{ForMoved, loaded_whole}
 use Rattle.qs_model.proofs.RequestKinds.{other_one, trim_no_read}
 use Rattle.qs_verdicts.specs.Stories.{Way, Shut, Given, route_by}
 use Rattle.qs_verdicts.proofs.Stripes.{chosen, flush_picks, to_sync_from}
-use Rattle.qs_alone.specs.Alone.{Changes, routed_in, way_by, way_in}
+use Rattle.qs_alone.specs.Alone.{AnswerChanges, routed_in, way_by, way_in}
 use Rattle.qs_alone.proofs.Bytes.{Front, HasRead, Same, front_last, front_next, front_none, front_refused, front_stored, none_empty, none_first, none_plain, none_zero, read_last, read_more, read_next, read_none}
 
 -- the request is with the way that the graph gave
@@ -39,15 +39,15 @@ At A w c d i (ToHold side) = IsSent w c d × (IsTrue w.tells → Same A w.image 
 At A w c d i (ToStore b) = IsSent w c d × (IsTrue w.tells → Front A w.image d (b * A) i)
 At A w c d i (ToSync s) = IsSent w c d × (syncs A d s ≡ true) × (IsTrue w.tells → Front A w.image d (span_of d).hi i)
 At A w c d i (ToFree side) = IsSent w c d × (IsTrue w.tells → (n : ℕ) × Front A w.image d n i)
-At A w c d i (ToEnd v) = IsSent w c d × (IsTrue w.tells → Changes A w.image d v i)
+At A w c d i (ToEnd v) = IsSent w c d × (IsTrue w.tells → AnswerChanges A w.image d v i)
 
 abbrev pub Stands : ℕ → World → Client → Client → Image → Stage → Type 0
-Stands A w c d i (Ready v) = (e : Client) → IsTrue w.tells → Changes A w.image e v i
+Stands A w c d i (Ready v) = (e : Client) → IsTrue w.tells → AnswerChanges A w.image e v i
 Stands A w c d i Entering = (d ≡ c) × (IsTrue w.tells → Same A w.image i)
 Stands A w c d i (In k step) = At A w c d i step
 
 -- a request that was just made
-pub stands_asked : (A : ℕ) (w : World) (c : Client) → Stands A w c c w.image (asked c).stage
+pub stands_asked : (A : ℕ) (w : World) (c : Client) → Stands A w c c w.image (new_request c).stage
 stands_asked A w c =
     let P : Stage → Type 0 = λ g. Stands A w c c w.image g in
     choose P (form_error c.ask) _ _ (λ _ e told x. refl)
@@ -83,8 +83,8 @@ trim_no_store Zero e = absurd (true≢false (sym e))
 trim_no_store (Unknown n) e = refl
 
 -- a request for no place, or a TRIM
-pub ended_at : (A : ℕ) (w : World) (d : Client) (i : Image) → (d.ask.length == 0 || is_trim d.ask.kind) ≡ true → Same A w.image i → Changes A w.image d (success d []) i
-ended_at A w d i is same = choose (λ v. Changes A w.image d v i) (reads d) (Got []) Fine
+pub ended_at : (A : ℕ) (w : World) (d : Client) (i : Image) → (d.ask.length == 0 || is_trim d.ask.kind) ≡ true → Same A w.image i → AnswerChanges A w.image d (success d []) i
+ended_at A w d i is same = choose (λ v. AnswerChanges A w.image d v i) (reads d) (Got []) Fine
     (λ reading.
     let none : d.ask.length ≡ 0 = empty reading in (
       sym none,
@@ -113,7 +113,7 @@ routed_at A w c d i own same =
     (λ _. choose P (is_flush d.ask.kind) _ _
     (λ flush. (own, flush_picks A d 0 flush, λ told. front_none A w.image i d (span_of d).hi (λ x. none_plain d (span_of d).hi x (flush_no_store d.ask.kind flush)) (same told)))
     (λ _. choose P (nat_lt d.route.size (d.ask.offset + d.ask.length)) _ _
-    (λ _. (own, λ told. choose (λ e. Changes A w.image d (Refused e) i) (writes d) NoSpace Inval (λ _. same told) (λ _. same told)))
+    (λ _. (own, λ told. choose (λ e. AnswerChanges A w.image d (Refused e) i) (writes d) NoSpace Inval (λ _. same told) (λ _. same told)))
     (λ _. choose P (d.ask.length == 0 || is_trim d.ask.kind) _ _ (λ is. (own, λ told. ended_at A w d i is (same told))) (λ _. (own, same)))))
 
 pub held_at : (A : ℕ) (w : World) (c d : Client) (i : Image) (side : Side) → 0 < A → IsSent w c d → (IsTrue w.tells → Same A w.image i) → At A w c d i (held A d side)

@@ -5,7 +5,7 @@ use Rattle.qs_bytes.specs.declared.ask.Verdict.TheVariants.{Got}
 use Rattle.qs_model.specs.Requests.{Client, Stage}
 use Rattle.qs_model.specs.Worlds.{Opening}
 use Rattle.qs_model.specs.Acts.{Act, Answers, Waits, Enters, Routes, Shuts, Lists, Starts, Loads, LoadFails, Holds, HoldFails, Stores, StoreFails, Syncs, Cleans, SyncFails, Frees, Ends, Element, Did}
-use Rattle.qs_model.specs.Laws.{ComesBehind, opening}
+use Rattle.qs_model.specs.Laws.{ComesBehind, opening_world}
 use Rattle.qs_model.specs.Steps.{Runs}
 use Rattle.qs_model.proofs.Kept.{new_ok}
 use Rattle.qs_model.proofs.ReadsOnce.{reads_once}
@@ -50,12 +50,12 @@ off_steps A r n m (Did s q act ∷ es) are tells idle =
 off_steps A r n m (e ∷ es) are tells idle = absurd are.0
 
 -- a READ that is Got has as many bytes as it asked for
-pub got_whole : (A : ℕ) (o : Opening) (es : List Element) (r : ℕ) (c : Client) (before : List Element) (n : Story) (e : Element) (bytes : List ℕ) → 0 < A → Runs A (opening o) es →
+pub got_whole : (A : ℕ) (o : Opening) (es : List Element) (r : ℕ) (c : Client) (before : List Element) (n : Story) (e : Element) (bytes : List ℕ) → 0 < A → Runs A (opening_world o) es →
     ComesBehind before e es → IsAnswered r (Got bytes) e → told A r before ≡ Some n → n.client ≡ c → length bytes ≡ c.ask.length
 got_whole A o es r c before n (Did s q act) bytes pos run comes is tells made =
     let long : length bytes ≡ q.client.ask.length =
-    (reads_once A (opening o) es pos (new_ok A 0 o) (λ k. refl) refl run).whole s q.client bytes before (Did s q act) comes (refl, refl, is.1) in
-    let owned = own A (opening o) es pos (new_ok A 0 o) (λ k. refl) run before (Did s q act) comes in
+    (reads_once A (opening_world o) es pos (new_ok A 0 o) (λ k. refl) refl run).whole s q.client bytes before (Did s q act) comes (refl, refl, is.1) in
+    let owned = own A (opening_world o) es pos (new_ok A 0 o) (λ k. refl) run before (Did s q act) comes in
     let same : owned.0 ≡ n = same_story owned.0 n (sym owned.1.0 ∙ ap (λ (k : ℕ). told A k before) is.0 ∙ tells) in
     long ∙ ap (λ (d : Client). d.ask.length) owned.1.1.client ∙ ap (λ (m : Story). m.client.ask.length) same ∙ ap (λ (d : Client). d.ask.length) made
 got_whole A o es r c before n e bytes pos run comes is tells made = absurd is

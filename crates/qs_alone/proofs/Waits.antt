@@ -10,9 +10,9 @@ use Rattle.qs_part.specs.declared.tracker.TrackerReply.TheVariants.{NotYet as No
 use Rattle.qs_model.specs.Requests.{Client, Pads, Req, Step, Stage, ToRoute, ToList, ToStart, ToLoad, ToHold, ToStore, ToSync, ToFree, ToEnd, Ready, Entering, In}
 use Rattle.qs_model.specs.Worlds.{Opening, World}
 use Rattle.qs_model.specs.Acts.{Act, Waits, Enters, Lists, Starts, Ends, Wait, Quiesced, Full, NotYet, HeldBy, Taken, Strange, NotHeld, Element, Asked, Did, Crashed}
-use Rattle.qs_model.specs.Guards.{May, MayDo, MayWait}
-use Rattle.qs_model.specs.Laws.{ComesBehind, opening}
-use Rattle.qs_model.specs.Steps.{after, happens, tracked}
+use Rattle.qs_model.specs.Guards.{CanCome, MayDo, MayWait}
+use Rattle.qs_model.specs.Laws.{ComesBehind, opening_world}
+use Rattle.qs_model.specs.Steps.{world_after, happens, tracked}
 use Rattle.qs_model.proofs.Basics.{choose, same_or}
 use Rattle.qs_model.proofs.Between.{vacant_or}
 use Rattle.qs_model.proofs.Facts.{IsAt, Manned, Ok, Sits}
@@ -20,7 +20,7 @@ use Rattle.qs_model.proofs.Holders.{some_none}
 use Rattle.qs_model.proofs.Kept.{run_ok, split_run, step_ok}
 use Rattle.qs_model.proofs.Never.{wait_never}
 use Rattle.qs_model.proofs.Once.{lt_true}
-use Rattle.qs_alone.specs.Alone.{AreOf, IsAlone, IsWait, IsWaitRow}
+use Rattle.qs_alone.specs.Alone.{AreOf, IsAlone, IsWaitStep, IsWaitRow}
 use Rattle.qs_alone.proofs.Frame.{Frame, frame_asked, frame_run, own_front, own_run}
 
 -- nothing quiesces the tracker
@@ -36,7 +36,7 @@ quiet_step A w (Did s q act) h = quiet_row A w.tracker q.client act h
 quiet_step A w (Crashed left) h = refl
 quiet_step A w _ h = h
 
-pub quiet_run : (A : ℕ) (w : World) (es : List Element) → w.tracker.quiesced ≡ false → (after A w es).tracker.quiesced ≡ false
+pub quiet_run : (A : ℕ) (w : World) (es : List Element) → w.tracker.quiesced ≡ false → (world_after A w es).tracker.quiesced ≡ false
 quiet_run A w [] h = h
 quiet_run A w (e ∷ es) h = quiet_run A (happens A w e) es (quiet_step A w e h)
 
@@ -149,7 +149,7 @@ pub row_alone : (A : ℕ) (w : World) (r : ℕ) (c : Client) (d : Bool) (p : Pad
 row_alone A w r c d p x (Waits {stage = stage} wait) pos ok f quiet is may waits = wait_alone A w r c d p x stage wait pos ok f quiet is may
 row_alone A w r c d p x _ pos ok f quiet is may waits = waits
 
-step_alone : (A : ℕ) (w : World) (r : ℕ) (x : World) (e : Element) → 0 < A → Ok A x → Frame w r x → x.tracker.quiesced ≡ false → May A x e → IsWait e →
+step_alone : (A : ℕ) (w : World) (r : ℕ) (x : World) (e : Element) → 0 < A → Ok A x → Frame w r x → x.tracker.quiesced ≡ false → CanCome A x e → IsWaitStep e →
     (s : ℕ) × (q : Req) × ((x.req s ≡ Some q) × (s ≢ r))
 step_alone A w r x (Did s q act) pos ok f quiet may waits = elim (same_or s r) [
   | inl e ↦ absurd (row_alone A w r q.client q.dropped q.pads x act pos ok f quiet (subst (λ (n : ℕ). x.req n ≡ Some q) e may.0) may.1 waits)
@@ -159,15 +159,15 @@ step_alone A w r x _ pos ok f quiet may waits = absurd waits
 
 -- the law
 pub never_waits : (A : ℕ) (o : Opening) (before : List Element) (r : ℕ) (c : Client) (steps : List Element) → 0 < A → IsAlone A o before r c steps →
-    (front : List Element) (e : Element) → ComesBehind front e steps → IsWait e → ⊥
+    (front : List Element) (e : Element) → ComesBehind front e steps → IsWaitStep e → ⊥
 never_waits A o before r c steps pos alone front e at waits =
-    let w : World = after A (opening o) before in
+    let w : World = world_after A (opening_world o) before in
     let (ok, run) = own_run A o before r c steps pos alone in
     let w1 : World = happens A w (Asked r c) in
     let ok1 : Ok A w1 = step_ok A w (Asked r c) pos ok run.0 in
     let (up, may) = split_run A w1 steps front e run.1 at in
-    let f : Frame w r (after A w1 front) =
+    let f : Frame w r (world_after A w1 front) =
     frame_run A w r w1 front (own_front r front (e ∷ at.0) (subst (λ (l : List Element). AreOf r l) at.1 alone.own)) (frame_asked A w r c alone.idle) in
-    let quiet : (after A w1 front).tracker.quiesced ≡ false = quiet_run A w1 front (quiet_run A (opening o) before refl) in
-    let (s, q, (there, other)) = step_alone A w r (after A w1 front) e pos (run_ok A w1 front pos ok1 up) f quiet may waits in
+    let quiet : (world_after A w1 front).tracker.quiesced ≡ false = quiet_run A w1 front (quiet_run A (opening_world o) before refl) in
+    let (s, q, (there, other)) = step_alone A w r (world_after A w1 front) e pos (run_ok A w1 front pos ok1 up) f quiet may waits in
     some_none (sym there ∙ f.others s other)

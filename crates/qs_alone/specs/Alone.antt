@@ -13,10 +13,10 @@ use Rattle.qs_model.specs.Requests.{Client, Stage, body_at, covers, edge, is_flu
 use Rattle.qs_model.specs.Worlds.{Image, Opening, World, byte_at}
 use Rattle.qs_model.specs.Acts.{Act, Waits, Loads, LoadFails, Holds, HoldFails, Stores, StoreFails, Syncs, Cleans, SyncFails, Frees, Element, Asked, Did}
 use Rattle.qs_model.specs.Histories.{Acts}
-use Rattle.qs_model.specs.Laws.{ComesBehind, opening, reply_at}
-use Rattle.qs_model.specs.Steps.{Runs, after}
+use Rattle.qs_model.specs.Laws.{ComesBehind, opening_world, reply_at}
+use Rattle.qs_model.specs.Steps.{Runs, world_after}
 use Rattle.qs_verdicts.specs.Stories.{Way, Shut, Given, route_by}
-use Rattle.qs_verdicts.specs.Verdicts.{MayWork, Meets, reply_of}
+use Rattle.qs_verdicts.specs.Verdicts.{MayWork, Meets, verdict_by_way}
 
 -- every step is one of request r
 abbrev pub AreOf : ℕ → List Element → Type 0
@@ -31,14 +31,14 @@ abbrev pub IsWaitRow : {stage : Stage} → Act stage → Type 0
 IsWaitRow (Waits wait) = Unit {0}
 IsWaitRow _ = ⊥
 
-abbrev pub IsWait : Element → Type 0
-IsWait (Did s q act) = IsWaitRow act
-IsWait _ = ⊥
+abbrev pub IsWaitStep : Element → Type 0
+IsWaitStep (Did s q act) = IsWaitRow act
+IsWaitStep _ = ⊥
 
 -- Request r was made for client c where no request was live, and only its own steps follow.
 pub record IsAlone (A : ℕ) (o : Opening) (before : List Element) (r : ℕ) (c : Client) (steps : List Element) : Type 0 where
-  pub run : Runs A (opening o) (before ++ Asked r c ∷ steps)
-  pub idle : IsIdle (after A (opening o) before)
+  pub run : Runs A (opening_world o) (before ++ Asked r c ∷ steps)
+  pub idle : IsIdle (world_after A (opening_world o) before)
   pub own : AreOf r steps
 
 -- what the graph says of the way of the export at place e: ESHUTDOWN where none stands there (this server's table of replies)
@@ -59,13 +59,13 @@ written_to A old c n x = if writes c && covers c x && nat_lt x n then body_at c 
 
 -- What the answer says of the bytes: a READ that is Got has the bytes that it covers, a write that is Fine wrote all of its bytes, one
 -- that failed a front of them; nothing else changes a byte (NBD proto.md, "Request types").
-abbrev pub Changes : ℕ → Image → Client → Verdict → Image → Type 0
-Changes A old c (Got bytes) new =
+abbrev pub AnswerChanges : ℕ → Image → Client → Verdict → Image → Type 0
+AnswerChanges A old c (Got bytes) new =
     (length bytes ≡ c.ask.length) × ((x : ℕ) → covers c x ≡ true → reply_at c bytes x ≡ byte_at A old x)
     × ((x : ℕ) → byte_at A new x ≡ byte_at A old x)
-Changes A old c Fine new = (x : ℕ) → byte_at A new x ≡ written_to A old c (span_of c).hi x
-Changes A old c (Refused Io) new = (n : ℕ) × ((x : ℕ) → byte_at A new x ≡ written_to A old c n x)
-Changes A old c other new = (x : ℕ) → byte_at A new x ≡ byte_at A old x
+AnswerChanges A old c Fine new = (x : ℕ) → byte_at A new x ≡ written_to A old c (span_of c).hi x
+AnswerChanges A old c (Refused Io) new = (n : ℕ) × ((x : ℕ) → byte_at A new x ≡ written_to A old c n x)
+AnswerChanges A old c other new = (x : ℕ) → byte_at A new x ≡ byte_at A old x
 
 -- a disk of stripe j failed in this step
 abbrev pub FailsRow : ℕ → ℕ → Client → {stage : Stage} → Act stage → Type 0
@@ -114,8 +114,8 @@ IsOff _ = ⊥
 pub record IsServed (A : ℕ) (w : World) (c : Client) (steps : List Element) (v : Verdict) (w' : World) : Type 0 where
   pub fault : Bool
   pub got : List ℕ
-  pub reply : reply_of c.ask c.buffered (way_in w.graph c.export) fault got ≡ Some v
-  pub changes : IsTrue w.tells → Changes A w.image (routed_in w.graph c) v w'.image
+  pub reply : verdict_by_way c.ask c.buffered (way_in w.graph c.export) fault got ≡ Some v
+  pub changes : IsTrue w.tells → AnswerChanges A w.image (routed_in w.graph c) v w'.image
   pub whole : (bytes : List ℕ) → v ≡ Got bytes → length bytes ≡ c.ask.length
   pub uncalled : (MayWork v → ⊥) → w'.image ≡ w.image
   pub off : (MayWork v → ⊥) → AllByRecursion IsOff steps

@@ -3,13 +3,13 @@ use Rattle.std.proofs.Common.{◌≡◌, ◌≢◌, ℕ, ◌+◌, List, [], ◌�
 use Rattle.std.proofs.lemmas.Bool.Decides.{nat_tests}
 use Rattle.std.specs.Prelude.{◌==◌}
 use Rattle.qs_bucket.specs.Admissions.{Admission}
-use Rattle.qs_bucket.specs.Level.{LevelValue, effective, level_at, added, IsOwedBy}
+use Rattle.qs_bucket.specs.Level.{LevelValue, effective, level_at, level_added, IsOwedBy}
 use Rattle.qs_bucket.specs.Bucket.{BucketValue, first_wait, filled, Holds}
 use Rattle.qs_bucket.proofs.Owed.{owed_added}
 
 -- an admission changes neither rate nor bucket
 pub added_rate : (b : LevelValue) (now units : ℕ) →
-    ((added b now units).rate ≡ b.rate) × ((added b now units).bucket ≡ b.bucket)
+    ((level_added b now units).rate ≡ b.rate) × ((level_added b now units).bucket ≡ b.bucket)
 added_rate b now units = go (b.rate == 0)
   where
     more : LevelValue
@@ -24,7 +24,7 @@ added_rate b now units = go (b.rate == 0)
     go true = (refl, refl)
     go false = (refl, refl)
 
-pub added_last : (b : LevelValue) (now units : ℕ) → b.rate ≢ 0 → (added b now units).last ≡ effective b now
+pub added_last : (b : LevelValue) (now units : ℕ) → b.rate ≢ 0 → (level_added b now units).last ≡ effective b now
 added_last b now units some = go (b.rate == 0) refl
   where
     more : LevelValue
@@ -54,7 +54,7 @@ holds_filled b xs now units holds = record {
   first = λ h. let some : b.first.rate ≢ 0 = rw (added_rate b.first now units).0 at h in
       owed_added b.first xs now units some (holds.first some);
   second = λ h. let some : b.second.rate ≢ 0 = rw (added_rate b.second now units).0 at h in
-      subst (λ (t : ℕ). IsOwedBy (added b.second now units) (xs ++ record { reading = t; units = units } ∷ []))
+      subst (λ (t : ℕ). IsOwedBy (level_added b.second now units) (xs ++ record { reading = t; units = units } ∷ []))
       (same some)
       (owed_added b.second xs now units some (holds.second some));
   together = λ h. let some : b.second.rate ≢ 0 = rw (added_rate b.second now units).0 at h in (

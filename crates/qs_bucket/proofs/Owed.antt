@@ -3,7 +3,7 @@ use Rattle.std.proofs.Common.{◌≡◌, ◌≢◌, ℕ, ◌+◌, ◌-◌, ◌*�
 use Rattle.std.proofs.lemmas.Bool.Decides.{nat_tests}
 use Rattle.std.specs.Prelude.{max, ◌==◌}
 use Rattle.qs_bucket.specs.Admissions.{Admission, units_of, owed, UpTo}
-use Rattle.qs_bucket.specs.Level.{LevelValue, effective, level_at, added, IsOwedBy}
+use Rattle.qs_bucket.specs.Level.{LevelValue, effective, level_at, level_added, IsOwedBy}
 
 -- what leaks while d passes leaks in its two parts
 pub spread : (rate d e f : ℕ) → d ≡ e + f → rate * d ≡ rate * e + rate * f
@@ -38,7 +38,7 @@ owed_more rate (a ∷ xs) b t upto h =
 
 -- a level that is what its admissions owe stays so as one more is counted
 pub owed_added : (b : LevelValue) (xs : List Admission) (now units : ℕ) → b.rate ≢ 0 → IsOwedBy b xs →
-    IsOwedBy (added b now units) (xs ++ record { reading = effective b now; units = units } ∷ [])
+    IsOwedBy (level_added b now units) (xs ++ record { reading = effective b now; units = units } ∷ [])
 owed_added b xs now units some stands = go (b.rate == 0) refl
   where
     more : List Admission

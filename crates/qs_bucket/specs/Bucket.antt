@@ -4,7 +4,7 @@ use Rattle.qs_bucket.specs.declared.bucket.Ask.{Ask}
 use Rattle.qs_bucket.specs.declared.bucket.Ask.TheVariants.{Go, Wait}
 use Rattle.qs_bucket.specs.declared.bucket.Burst.{Burst}
 use Rattle.qs_bucket.specs.Admissions.{Admission}
-use Rattle.qs_bucket.specs.Level.{LevelValue, empty, effective, level_at, wait_at, added, Asked, IsOwedBy}
+use Rattle.qs_bucket.specs.Level.{LevelValue, empty, effective, level_at, wait_at, level_added, Asked, IsOwedBy}
 
 -- the level of the long run and that of a burst; where there is no burst the second has rate 0, which is no limit
 pub record BucketValue : Type 0 where
@@ -21,8 +21,8 @@ burst_level None = empty 0 0
 burst_level (Some b) = empty b.rate b.bucket
 
 -- a bucket that has admitted nothing
-abbrev pub opened : ℕ → ℕ → Option Burst → BucketValue
-opened rate bucket burst = record { first = empty rate bucket; second = burst_level burst }
+abbrev pub opened_bucket : ℕ → ℕ → Option Burst → BucketValue
+opened_bucket rate bucket burst = record { first = empty rate bucket; second = burst_level burst }
 
 -- a request goes where what is owed of each rate is at most its bucket, and else waits for the first level where that
 -- exceeds, or for the second
@@ -34,8 +34,8 @@ AskedOf b debt burst_debt (Wait w) =
     ⊎ (Asked b.first.rate b.first.bucket debt Go × Asked b.second.rate b.second.bucket burst_debt (Wait w))
 
 -- the answer to a request at a reading
-abbrev pub Asks : BucketValue → ℕ → Ask → Type 0
-Asks b now answer =
+abbrev pub AsksBucket : BucketValue → ℕ → Ask → Type 0
+AsksBucket b now answer =
     AskedOf b (level_at b.first (effective b.first now)) (level_at b.second (effective b.second now)) answer
 
 -- the first of two waits that isn't 0
@@ -48,7 +48,7 @@ wait_of b now = first_wait (wait_at b.first now) (wait_at b.second now)
 
 -- the bucket with one admission more
 abbrev pub filled : BucketValue → ℕ → ℕ → BucketValue
-filled b now units = record { first = added b.first now units; second = added b.second now units }
+filled b now units = record { first = level_added b.first now units; second = level_added b.second now units }
 
 -- each level that is a limit is what these admissions owe at its rate, and both count from the same reading
 pub record Holds (b : BucketValue) (xs : List Admission) : Type 0 where

@@ -34,8 +34,8 @@ abbrev pub wait_at : LevelValue → ℕ → ℕ
 wait_at b now = if b.rate == 0 then 0 else div_ceil (level_at b (effective b now) - b.bucket) b.rate
 
 -- the level with one admission more; where there is no limit nothing is counted
-abbrev pub added : LevelValue → ℕ → ℕ → LevelValue
-added b now units =
+abbrev pub level_added : LevelValue → ℕ → ℕ → LevelValue
+level_added b now units =
     if b.rate == 0 then b else record { rate = b.rate; bucket = b.bucket; level = level_at b (effective b now) + units; last = effective b now }
 
 -- the level is what these admissions owe

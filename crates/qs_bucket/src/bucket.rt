@@ -1,5 +1,5 @@
 ghost use Rattle.std.specs.Prelude.{◌≡◌, ◌≤◌, ◌^◌};
-ghost use Rattle.qs_bucket.specs.Bucket.{BurstFits, opened, burst_level, wait_of, filled, Asks};
+ghost use Rattle.qs_bucket.specs.Bucket.{BurstFits, opened_bucket, burst_level, wait_of, filled, AsksBucket};
 
 use crate::level::Level;
 use std::marker::Model;
@@ -63,7 +63,7 @@ impl Bucket {
         requires rate { rate ≤ 10 ^ 15 }
         requires bucket { bucket ≤ 10 ^ 27 }
         requires burst { BurstFits rate burst }
-        ensures { result ≡ opened rate bucket burst }
+        ensures { result ≡ opened_bucket rate bucket burst }
     {
         Bucket {
             first: Level::new(rate, bucket),
@@ -74,7 +74,7 @@ impl Bucket {
     /// Whether a request may go at this reading, and if not, how long it has to wait.
     #[tactic(auto, using(crate::proofs::Ceil::none_of_ceil))]
     pub fn ask(&self, now: u64) -> Ask
-        ensures asks { Asks self.now now result }
+        ensures asks { AsksBucket self.now now result }
         ensures go { result ≡ Ask.Go → wait_of self.now now ≡ 0 }
         ensures no_limit { self.now.first.rate ≡ 0 → result ≡ Ask.Go }
     {

@@ -2,8 +2,8 @@ ghost use Rattle.std.specs.Prelude.{◌≡◌, ◌≢◌, ℕ, ◌+◌, ◌-◌,
 ghost use Rattle.qs_bucket.specs.declared.bucket.Ask.{Ask};
 ghost use Rattle.qs_bucket.specs.declared.bucket.Burst.{Burst};
 ghost use Rattle.qs_bucket.specs.Admissions.{Admission, owed, window, units_of, last_units, AdmittedByRule};
-ghost use Rattle.qs_bucket.specs.Level.{LevelValue, empty, effective, level_at, wait_at, added, Asked, IsOwedBy};
-ghost use Rattle.qs_bucket.specs.Bucket.{BucketValue, BurstFits, opened, AskedOf, Asks, wait_of, filled, Holds};
+ghost use Rattle.qs_bucket.specs.Level.{LevelValue, empty, effective, level_at, wait_at, level_added, Asked, IsOwedBy};
+ghost use Rattle.qs_bucket.specs.Bucket.{BucketValue, BurstFits, opened_bucket, AskedOf, AsksBucket, wait_of, filled, Holds};
 
 /// What a level holds is what its admissions owe, and by that alone a request goes or waits.
 ///
@@ -12,7 +12,7 @@ ghost use Rattle.qs_bucket.specs.Bucket.{BucketValue, BurstFits, opened, AskedOf
 pub fn level_is_owed()
     ensures opening { (rate bucket : ℕ) → IsOwedBy (empty rate bucket) [] }
     ensures kept { (b : LevelValue) (xs : List Admission) (now units : ℕ) → b.rate ≢ 0 → IsOwedBy b xs →
-        IsOwedBy (added b now units) (xs ++ record { reading = effective b now; units = units } ∷ []) }
+        IsOwedBy (level_added b now units) (xs ++ record { reading = effective b now; units = units } ∷ []) }
     ensures asked { (b : LevelValue) (xs : List Admission) (now : ℕ) (answer : Ask) → IsOwedBy b xs →
         Asked b.rate b.bucket (level_at b (effective b now)) answer →
         Asked b.rate b.bucket (owed b.rate xs (effective b now)) answer }
@@ -27,10 +27,10 @@ pub fn level_is_owed()
 /// It is so of a new bucket, and of one that has counted a request that it let go.
 pub fn bucket_is_owed()
     ensures opening { (rate bucket : ℕ) (burst : Option Burst) → BurstFits rate burst →
-        Holds (opened rate bucket burst) [] }
+        Holds (opened_bucket rate bucket burst) [] }
     ensures kept { (b : BucketValue) (xs : List Admission) (now units : ℕ) → Holds b xs →
         Holds (filled b now units) (xs ++ record { reading = effective b.first now; units = units } ∷ []) }
-    ensures asked { (b : BucketValue) (xs : List Admission) (now : ℕ) (answer : Ask) → Holds b xs → Asks b now answer →
+    ensures asked { (b : BucketValue) (xs : List Admission) (now : ℕ) (answer : Ask) → Holds b xs → AsksBucket b now answer →
         let t = effective b.first now in
         AskedOf b (owed b.first.rate xs t) (owed b.second.rate xs t) answer }
 {}

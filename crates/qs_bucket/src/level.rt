@@ -1,5 +1,5 @@
 ghost use Rattle.std.specs.Prelude.{◌≡◌, ◌≤◌, ◌^◌};
-ghost use Rattle.qs_bucket.specs.Level.{empty, level_at, wait_at, added};
+ghost use Rattle.qs_bucket.specs.Level.{empty, level_at, wait_at, level_added};
 
 use std::marker::Model;
 
@@ -63,7 +63,7 @@ impl Level {
     pub fn add(&mut self, now: u64, units: u128)
         requires go { wait_at self.old now ≡ 0 }
         requires units { units ≤ 2 ^ 94 }
-        ensures { self.new ≡ added self.old now units }
+        ensures { self.new ≡ level_added self.old now units }
     {
         if self.rate == 0 {
             return;

@@ -15,7 +15,7 @@ use Rattle.qs_model.specs.Requests.{edge, has, is_flush, is_trim, reads, wants_w
 use Rattle.qs_model.specs.Worlds.{World}
 use Rattle.qs_model.specs.Acts.{Act, Answers, Waits, Enters, Routes, Shuts, Lists, Starts, Loads, LoadFails, Holds, HoldFails, Stores, StoreFails, Syncs, Cleans, SyncFails, Frees, Ends}
 use Rattle.qs_model.specs.Acts.{Wait, Quiesced, Full, NotYet, HeldBy, Taken, Strange, NotHeld, Element, Did, block_of}
-use Rattle.qs_model.specs.Guards.{May}
+use Rattle.qs_model.specs.Guards.{CanCome}
 use Rattle.qs_model.specs.Steps.{moved, happens}
 use Rattle.qs_model.specs.Events.{IsEvent, outcome_of, row_outcome, wait_note, moved_out}
 use Rattle.qs_model.proofs.Basics.{blocks_le, choose, put_here}
@@ -159,7 +159,7 @@ did_falls seen w w' m r now q act stands there stands' inside kept on =
 
 -- the event of an element that goes on steps a request
 element_falls : {D : Type 0} (seen : D → Seen) (w w' : WorldValue D) (m : World) (event : Event) (e : Element) → Stands seen w m → IsEvent event e →
-    May w.shape.align m e → Stands seen w' (happens w.shape.align m e) → IsInside w.shape e → w'.shape ≡ w.shape →
+    CanCome w.shape.align m e → Stands seen w' (happens w.shape.align m e) → IsInside w.shape e → w'.shape ≡ w.shape →
     goes (outcome_of w.shape.align e) ≡ true → Falls w event w'
 element_falls seen w w' m (StepEvent actor now) (Did r q act) stands is may stands' inside kept on =
     subst (λ (a : Actor). Falls w (StepEvent a now) w') (sym is) (did_falls seen w w' m r now q act stands may.0 stands' inside kept on)

@@ -8,8 +8,8 @@ use Rattle.qs_part.specs.declared.event.Outcome.TheVariants.{Attached, NoExport,
 use Rattle.qs_part.specs.declared.graph.GraphOp.{GraphOp}
 use Rattle.qs_model.specs.Acts.{Element, Exported as ExportedStep, Planned as PlannedStep, Crashed as CrashedStep}
 use Rattle.qs_model.specs.Events.{outcome_of}
-use Rattle.qs_model.specs.Guards.{May}
-use Rattle.qs_model.specs.Steps.{after, happens, Runs}
+use Rattle.qs_model.specs.Guards.{CanCome}
+use Rattle.qs_model.specs.Steps.{world_after, happens, Runs}
 use Rattle.qs_model.specs.Worlds.{World}
 use Rattle.qs_world.specs.Events.{Does, HasCause, IsAsPlanned, Steps, StepsTo}
 use Rattle.qs_world.specs.Stands.{Stands}
@@ -17,11 +17,11 @@ use Rattle.qs_world.specs.Values.{WorldValue}
 use Rattle.qs_request_state.specs.declared.shape.Shape.{Shape}
 use Rattle.qs_calls.specs.Calls.{AreCalls, Call, Happened, Rigged, PowerFailed, ExportMade, MakesExport, Makes, MakesStep, Plays, Walks, full_at}
 
-pub runs_more : (A : ℕ) (w : World) (es fs : List Element) → Runs A w es → Runs A (after A w es) fs → Runs A w (es ++ fs)
+pub runs_more : (A : ℕ) (w : World) (es fs : List Element) → Runs A w es → Runs A (world_after A w es) fs → Runs A w (es ++ fs)
 runs_more A w [] fs run more = more
 runs_more A w (e ∷ es) fs run more = (run.0, runs_more A (happens A w e) es fs run.1 more)
 
-pub after_more : (A : ℕ) (w : World) (es fs : List Element) → after A (after A w es) fs ≡ after A w (es ++ fs)
+pub after_more : (A : ℕ) (w : World) (es fs : List Element) → world_after A (world_after A w es) fs ≡ world_after A w (es ++ fs)
 after_more A w [] fs = refl
 after_more A w (e ∷ es) fs = after_more A (happens A w e) es fs
 
@@ -80,10 +80,10 @@ step_shape {D} seen w (ExportMade op place) e v made = ap (λ (x : WorldValue D)
 
 -- the state of the model that the core stands for behind a call
 pub step_stands : {D : Type 0} (seen : D → Seen) (A : ℕ) (w : WorldValue D) (c : Call) (e : Element) (v : WorldValue D) (m : World) → w.shape.align ≡ A → Stands seen w m →
-    MakesStep seen w c e v → May A m e × Stands seen v (happens A m e) × (v.shape.align ≡ A)
+    MakesStep seen w c e v → CanCome A m e × Stands seen v (happens A m e) × (v.shape.align ≡ A)
 step_stands {D} seen A w c e v m align stands made =
-    let does : May A m e × Stands seen v (happens A m e) =
-    subst (λ (a : ℕ). May a m e × Stands seen v (happens a m e)) align (step_does seen w c e v made m stands) in
+    let does : CanCome A m e × Stands seen v (happens A m e) =
+    subst (λ (a : ℕ). CanCome a m e × Stands seen v (happens a m e)) align (step_does seen w c e v made m stands) in
     (does.0, does.1, ap (λ (s : Shape). s.align) (step_shape seen w c e v made) ∙ align)
 
 step_one : {D : Type 0} (seen : D → Seen) (A : ℕ) (w : WorldValue D) (c : Call) (e : Element) (v : WorldValue D) (cs : List Call) (es : List Element) → w.shape.align ≡ A →
@@ -102,7 +102,7 @@ pub record Leads {D : Type 0} (seen : D → Seen) (A : ℕ) (w : WorldValue D) (
   pub are : AreCalls A calls elements
   pub walked : Walks seen w calls elements fulls v
   pub run : Runs A m elements
-  pub stands : Stands seen v (after A m elements)
+  pub stands : Stands seen v (world_after A m elements)
 
 pub leads : {D : Type 0} (seen : D → Seen) (A : ℕ) (w : WorldValue D) (calls : List Call) (v : WorldValue D) (m : World) → w.shape.align ≡ A → Stands seen w m →
     Plays seen w calls v → Leads seen A w m calls v

@@ -7,8 +7,8 @@ use Rattle.qs_outside.specs.Blocks.{Seen}
 use Rattle.qs_image.specs.Image.{align_of}
 use Rattle.qs_image.specs.Opening.{Opens}
 use Rattle.qs_model.specs.Acts.{Element, Exported}
-use Rattle.qs_model.specs.Laws.{Besides, Headline, opening}
-use Rattle.qs_model.specs.Steps.{Runs, after, happens}
+use Rattle.qs_model.specs.Laws.{Besides, Headline, opening_world}
+use Rattle.qs_model.specs.Steps.{Runs, world_after, happens}
 use Rattle.qs_model.specs.Worlds.{World}
 use Rattle.qs_part.specs.declared.graph.GraphOp.{GraphOp}
 use Rattle.qs_part.specs.declared.graph.GraphOp.TheVariants.{ExportAdd}
@@ -20,16 +20,16 @@ use Rattle.qs_world.specs.Values.{WorldValue}
 use Rattle.qs_calls.specs.Calls.{AreCalls, Call, Walks}
 
 -- what the core is opened over: these disks, and the file node `file0`
-abbrev pub opened : List Seen → Bool → World
-opened disks read_only = opening (opening_over disks (codes "file0") read_only)
+abbrev pub opened_world : List Seen → Bool → World
+opened_world disks read_only = opening_world (opening_over disks (codes "file0") read_only)
 
 -- the export `disk`, which may be written where the file node may
-abbrev pub export : Bool → GraphOp
-export read_only = ExportAdd (codes "disk") (codes "disk") (codes "file0") (not read_only) true
+abbrev pub image_export : Bool → GraphOp
+image_export read_only = ExportAdd (codes "disk") (codes "disk") (codes "file0") (not read_only) true
 
 -- the state behind the making of that export, at this place
 abbrev pub exported : List Seen → Bool → ℕ → World
-exported disks read_only place = happens (align_of disks) (opened disks read_only) (Exported (export read_only) place)
+exported disks read_only place = happens (align_of disks) (opened_world disks read_only) (Exported (image_export read_only) place)
 
 -- A run of the model from its opening state: the export is made, and then each step is a call's, in order, as the core
 -- went through them; before each the disks told this of being full. The headline holds of it, and so do the other laws
@@ -41,13 +41,13 @@ pub record HasRun {D : Type 0} (seen : D → Seen) (disks : List Seen) (read_onl
   pub fulls : List (ℕ → Option Bool)
   pub are : AreCalls (align_of disks) calls elements
   pub walked : Walks seen start calls elements fulls w
-  pub run : Runs (align_of disks) (opened disks read_only) (Exported (export read_only) place ∷ elements)
-  pub headline : Headline (align_of disks) (opened disks read_only) (Exported (export read_only) place ∷ elements)
-  pub besides : Besides (align_of disks) (opened disks read_only) (Exported (export read_only) place ∷ elements)
-  pub judged : Judged (align_of disks) (opened disks read_only) (Exported (export read_only) place ∷ elements)
+  pub run : Runs (align_of disks) (opened_world disks read_only) (Exported (image_export read_only) place ∷ elements)
+  pub headline : Headline (align_of disks) (opened_world disks read_only) (Exported (image_export read_only) place ∷ elements)
+  pub besides : Besides (align_of disks) (opened_world disks read_only) (Exported (image_export read_only) place ∷ elements)
+  pub judged : Judged (align_of disks) (opened_world disks read_only) (Exported (image_export read_only) place ∷ elements)
   pub durable : IsTrue (tells_of disks) → IsHandedInSettled (opening_over disks (codes "file0") read_only) →
-      Durable (align_of disks) (opened disks read_only) (Exported (export read_only) place ∷ elements)
-  pub stands : Stands seen w (after (align_of disks) (opened disks read_only) (Exported (export read_only) place ∷ elements))
+      Durable (align_of disks) (opened_world disks read_only) (Exported (image_export read_only) place ∷ elements)
+  pub stands : Stands seen w (world_after (align_of disks) (opened_world disks read_only) (Exported (image_export read_only) place ∷ elements))
 
 -- A core over the disks, with the file node `file0` and the export `disk`.
 pub record Begins {D : Type 0} (seen : D → Seen) (disks : List D) (read_only : Bool) (w : WorldValue D) : Type 0 where
@@ -56,9 +56,9 @@ pub record Begins {D : Type 0} (seen : D → Seen) (disks : List D) (read_only :
   pub exports : Exports seen fresh (codes "disk") (not read_only) w
 
 -- the status where no core could be made
-abbrev pub fault_of : Option OpenBad → Status
-fault_of (Some bad) = status.OpenBad bad
-fault_of None = status.Memory
+abbrev pub opening_status : Option OpenBad → Status
+opening_status (Some bad) = status.OpenBad bad
+opening_status None = status.Memory
 
 -- The disks come back: they break this rule first, or memory was refused.
 abbrev pub ComesBack : {D : Type 0} → (D → Seen) → List D → List D → Status → Type 0

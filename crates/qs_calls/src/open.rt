@@ -1,5 +1,5 @@
 ghost use Rattle.std.specs.Prelude.{◌≡◌, MatchResult};
-ghost use Rattle.qs_calls.specs.Runs.{Begins, ComesBack, fault_of};
+ghost use Rattle.qs_calls.specs.Runs.{Begins, ComesBack, opening_status};
 
 use qs_bytes::Name;
 use qs_outside::Disk;
@@ -9,7 +9,7 @@ use std::alloc::Global;
 
 /// The status where no core could be made: the rule that the disks break, or refused memory.
 fn fault(bad: Option<OpenBad>) -> Status
-    ensures { result ≡ fault_of bad }
+    ensures { result ≡ opening_status bad }
 {
     match bad {
         Some(bad) => Status::OpenBad(bad),

@@ -11,7 +11,7 @@ use Rattle.qs_graph.specs.Exports.{clients_of, export_at, found_at}
 use Rattle.qs_graph.specs.Table.{GraphValue, info_at, May as GraphMay}
 use Rattle.qs_model.specs.Worlds.{Session, Live, Leaving, World}
 use Rattle.qs_model.specs.Guards.{CanAsk}
-use Rattle.qs_model.specs.Events.{Brings}
+use Rattle.qs_model.specs.Events.{BringsBytes}
 use Rattle.qs_model.proofs.Basics.{either}
 
 -- an Attach by one name has one answer: what the client learns of one export
@@ -52,7 +52,7 @@ pub session_one : (actor : Actor) (s t : ℕ) → actor ≡ ASession s → actor
 session_one actor s t a b = cc
 
 -- the bytes of a WRITE are those that came with it
-pub write_one : (c d : Client) (body : Option (List ℕ)) → d.ask ≡ c.ask → brings_bytes c.ask.kind ≡ true → brings_bytes d.ask.kind ≡ true → Brings body c → Brings body d → d.body ≡ c.body
+pub write_one : (c d : Client) (body : Option (List ℕ)) → d.ask ≡ c.ask → brings_bytes c.ask.kind ≡ true → brings_bytes d.ask.kind ≡ true → BringsBytes body c → BringsBytes body d → d.body ≡ c.body
 write_one c d None same writing too a b = b.empty ∙ sym a.empty
 write_one c d (Some body) same writing too (inl a) (inl b) = sym (b.1 too) ∙ a.1 writing
 write_one c d (Some body) same writing too (inl a) (inr b) = absurd (b.0 (a.0 ∙ sym (ap (λ (x : Ask). x.length) same)))
@@ -61,7 +61,7 @@ write_one c d (Some body) same writing too (inr a) (inr b) = b.1.empty ∙ sym a
 
 -- what a client asked for
 pub asked_one : (w : World) (r s : ℕ) (c d : Client) (body : Option (List ℕ)) → d.session ≡ c.session → d.ask ≡ c.ask → d.buffered ≡ c.buffered →
-    CanAsk w r c → CanAsk w s d → Brings body c → Brings body d → d ≡ c
+    CanAsk w r c → CanAsk w s d → BringsBytes body c → BringsBytes body d → d ≡ c
 asked_one w r s c d body session ask given can too a b = λ i. record {
   session = session i;
   export = live_one w.session c.session d.session c.export d.export session can.live too.live i;

@@ -15,7 +15,7 @@ use Rattle.qs_model.specs.Requests.{Client, Pads, Req, Stage}
 use Rattle.qs_model.specs.Worlds.{World}
 use Rattle.qs_bytes.specs.Geometry.{stripe_of}
 use Rattle.qs_model.specs.Acts.{Act, Stores, StoreFails, Syncs, Element, Attached, NoExport, Crowded, Left, Detached, NotAttached, Asked, Did, Exported, Planned, Crashed}
-use Rattle.qs_model.specs.Guards.{May, CanAsk}
+use Rattle.qs_model.specs.Guards.{CanCome, CanAsk}
 use Rattle.qs_model.specs.Steps.{happens}
 use Rattle.qs_model.specs.Events.{outcome_of}
 use Rattle.qs_model.specs.Histories.{IsOddStep}
@@ -71,7 +71,7 @@ same_step A w past e kept = (refl, with_alike (happens A w e) past)
 
 -- a step that may come for an input: where the disk failed that was planned, and it isn't odd
 pub record Comes (A : ℕ) (w : World) (input : Input) (e : Element) : Type 0 where
-  pub may : May A w e
+  pub may : CanCome A w e
   pub is : IsInput input e
   pub undisturbed : IsUndisturbed A w e
   pub plain : IsOddStep e → ⊥

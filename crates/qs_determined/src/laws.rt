@@ -1,7 +1,7 @@
 ghost use Rattle.std.specs.Prelude.{◌≡◌, ℕ, IsTrue};
 ghost use Rattle.qs_model.specs.Acts.{Element};
 ghost use Rattle.qs_model.specs.Events.{outcome_of};
-ghost use Rattle.qs_model.specs.Guards.{May};
+ghost use Rattle.qs_model.specs.Guards.{CanCome};
 ghost use Rattle.qs_model.specs.Histories.{IsOddStep};
 ghost use Rattle.qs_model.specs.Steps.{happens};
 ghost use Rattle.qs_model.specs.Worlds.{World};
@@ -12,7 +12,7 @@ ghost use Rattle.qs_determined.specs.Determined.{Alike, Input, IsGivenAlike, IsI
 /// to neither, and no answer was odd.
 pub fn one_outcome()
     ensures { (A : ℕ) (w v : World) (input : Input) (e d : Element) → IsTrue w.tells → Alike w v →
-        May A w e → May A v d → IsInput input e → IsInput input d → IsUndisturbed A w e → IsUndisturbed A v d →
+        CanCome A w e → CanCome A v d → IsInput input e → IsInput input d → IsUndisturbed A w e → IsUndisturbed A v d →
         IsGivenAlike e d → (IsOddStep e → ⊥) → (IsOddStep d → ⊥) →
         (outcome_of A d ≡ outcome_of A e) × Alike (happens A w e) (happens A v d) }
 {}

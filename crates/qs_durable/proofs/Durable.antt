@@ -7,10 +7,10 @@ use Rattle.qs_bytes.specs.declared.ask.Verdict.TheVariants.{Fine}
 use Rattle.qs_model.specs.Requests.{Client, Pads, Req, Stage, abandon, stores_bytes}
 use Rattle.qs_model.specs.Worlds.{Image, Opening, World}
 use Rattle.qs_model.specs.Acts.{Act, Answers, Waits, Enters, Routes, Shuts, Lists, Starts, Loads, LoadFails, Holds, HoldFails, Stores, StoreFails, Syncs, Cleans, SyncFails, Frees, Ends, Element, Did, Crashed}
-use Rattle.qs_model.specs.Guards.{May}
-use Rattle.qs_model.specs.Steps.{after, happens, imaged, leaves, moved, Runs}
+use Rattle.qs_model.specs.Guards.{CanCome}
+use Rattle.qs_model.specs.Steps.{world_after, happens, imaged, leaves, moved, Runs}
 use Rattle.qs_model.specs.Histories.{Acts, Answered}
-use Rattle.qs_model.specs.Laws.{Begins, ComesBehind, opening}
+use Rattle.qs_model.specs.Laws.{Begins, ComesBehind, opening_world}
 use Rattle.qs_model.proofs.Along.{Lasts, lasts_run, lasts_step}
 use Rattle.qs_model.proofs.Basics.{choose}
 use Rattle.qs_model.proofs.Cells.{told_run}
@@ -159,17 +159,17 @@ flush_row A i b c (StoreFails bytes took past) fit flush alone = absurd (true≢
 flush_row A i b c (Syncs {s = s}) fit flush alone = choose (λ l. l ≡ i.now b ∷ []) (stripe_of b == s) _ _ (λ e. refl) (λ e. alone)
 flush_row A i b c _ fit flush alone = alone
 
-flush_step : (A : ℕ) (w : World) (r b : ℕ) (e : Element) → Ok A w → May A w e → Acts r e → HasKind Flush (w.req r) → IsAlone w.image b → IsAlone (happens A w e).image b
+flush_step : (A : ℕ) (w : World) (r b : ℕ) (e : Element) → Ok A w → CanCome A w e → Acts r e → HasKind Flush (w.req r) → IsAlone w.image b → IsAlone (happens A w e).image b
 flush_step A w r b (Did s q act) ok may own kind alone =
     flush_row A w.image b q.client act (ok.well s q may.0).shaped (subst (HasKind Flush) (ap w.req (sym own) ∙ may.0) kind) alone
 flush_step A w r b _ ok may own kind alone = absurd own
 
-made_before : (A : ℕ) (w : World) (r : ℕ) (e : Element) → Ok A w → May A w e → Acts r e → r < w.next
+made_before : (A : ℕ) (w : World) (r : ℕ) (e : Element) → Ok A w → CanCome A w e → Acts r e → r < w.next
 made_before A w r (Did s q act) ok may own = subst (λ (k : ℕ). k < w.next) own (ok.below s q may.0)
 made_before A w r _ ok may own = absurd own
 
 flush_run : (A : ℕ) (w : World) (r b : ℕ) (es : List Element) → 0 < A → Ok A w → Runs A w es → AreOwn r es → HasKind Flush (w.req r) → IsAlone w.image b →
-    IsAlone (after A w es).image b
+    IsAlone (world_after A w es).image b
 flush_run A w r b [] pos ok run own kind alone = alone
 flush_run A w r b (e ∷ es) pos ok run own kind alone =
     flush_run A (happens A w e) r b es pos (step_ok A w e pos ok run.0) run.1 own.1
@@ -181,7 +181,7 @@ own_back r [] ys own = own
 own_back r (e ∷ xs) ys own = own_back r xs ys own.1
 
 -- a request that answers is there, and so it was where it did a step before
-answer_there : (A : ℕ) (w : World) (r : ℕ) (c : Client) (answer : Element) → May A w answer → Answered r c Fine answer → HasKind c.ask.kind (w.req r)
+answer_there : (A : ℕ) (w : World) (r : ℕ) (c : Client) (answer : Element) → CanCome A w answer → Answered r c Fine answer → HasKind c.ask.kind (w.req r)
 answer_there A w r c (Did s q act) may is = subst (HasKind c.ask.kind) (sym may.0 ∙ ap w.req is.0) (ap (λ (d : Client). d.ask.kind) is.1)
 answer_there A w r c _ may is = absurd is
 
@@ -195,20 +195,20 @@ same_kind j k (Some p) q is here there = sym here ∙ there
 
 -- A request does a step, then others, and then answers: it had its kind all along.
 kind_before : (A : ℕ) (w : World) (r : ℕ) (c : Client) (e : Element) (more : List Element) (answer : Element) → Ok A w → Runs A w (e ∷ more) → Acts r e →
-    May A (after A w (e ∷ more)) answer → Answered r c Fine answer → HasKind c.ask.kind (w.req r)
+    CanCome A (world_after A w (e ∷ more)) answer → Answered r c Fine answer → HasKind c.ask.kind (w.req r)
 kind_before A w r c e more answer ok run own may is =
     let (q, there) = acts_at A w r e run.0 own in
     let k : Kind = q.client.ask.kind in
-    let (p, still) = acts_at A (after A w (e ∷ more)) r answer may (answer_acts r c answer is) in
-    let lasted : HasKind k ((after A w (e ∷ more)).req r) =
+    let (p, still) = acts_at A (world_after A w (e ∷ more)) r answer may (answer_acts r c answer is) in
+    let lasted : HasKind k ((world_after A w (e ∷ more)).req r) =
     lasts_run A (HasKind k) (kind_lasts A k) w (e ∷ more) r run (made_before A w r e ok run.0 own) (subst (HasKind k) (sym there) refl) in
-    let same : k ≡ c.ask.kind = same_kind k c.ask.kind _ p still lasted (answer_there A (after A w (e ∷ more)) r c answer may is) in
+    let same : k ≡ c.ask.kind = same_kind k c.ask.kind _ p still lasted (answer_there A (world_after A w (e ∷ more)) r c answer may is) in
     subst (HasKind c.ask.kind) (sym there) same
 
 -- where a FLUSH ran alone, a crash leaves at its answer what each block holds
 pub flush_alone : (A : ℕ) (w : World) (es front between : List Element) (answer : Element) (r : ℕ) (c : Client) (b : ℕ) → Given A w es → c.ask.kind ≡ Flush →
     Answered r c Fine answer → ComesBehind (front ++ between) answer es → ((s : ℕ) → Had s (told A r front) → ⊥) → AreOwn r between →
-    IsAlone (happens A (after A w (front ++ between)) answer).image b
+    IsAlone (happens A (world_after A w (front ++ between)) answer).image b
 flush_alone A w es front between answer r c b g flush fine at none own =
     let sync : SyncedSince (stripe_of b) [] between =
     flush_syncs A w es front between answer r c (stripe_of b) g flush fine at (none (stripe_of b)) (stripe_small b) in
@@ -218,29 +218,29 @@ flush_alone A w es front between answer r c b g flush fine at none own =
     ap (λ (l : List Element). front ++ l) sync.before.1 ∙ sym (append_assoc front sync.position (sync.sync ∷ more)) in
     let (whole, may) = split_run A w es (front ++ between) answer g.run at in
     let halves : Runs A w (position ++ sync.sync ∷ more) = subst (λ (l : List Element). Runs A w l) parts whole in
-    let u : World = after A w position in
+    let u : World = world_after A w position in
     let run : Runs A u (sync.sync ∷ more) = runs_back A w position (sync.sync ∷ more) halves in
     let ok : Ok A u = run_ok A w position g.pos g.ok (runs_front A w position (sync.sync ∷ more) halves) in
     let steps : AreOwn r (sync.sync ∷ more) = own_back r sync.position (sync.sync ∷ more) (subst (AreOwn r) sync.before.1 own) in
-    let meet : after A w (front ++ between) ≡ after A u (sync.sync ∷ more) = ap (after A w) parts ∙ after_append A w position (sync.sync ∷ more) in
-    let ends : May A (after A u (sync.sync ∷ more)) answer = subst (λ (v : World). May A v answer) meet may in
+    let meet : world_after A w (front ++ between) ≡ world_after A u (sync.sync ∷ more) = ap (world_after A w) parts ∙ after_append A w position (sync.sync ∷ more) in
+    let ends : CanCome A (world_after A u (sync.sync ∷ more)) answer = subst (λ (v : World). CanCome A v answer) meet may in
     let kind : HasKind Flush (u.req r) =
     subst (λ (k : Kind). HasKind k (u.req r)) flush (kind_before A u r c sync.sync more answer ok run steps.0 ends fine) in
     let settled : IsAlone (happens A u sync.sync).image b = synced_alone A u sync.sync b run.0 (run_alone A w position g.alone) sync.synced in
-    let still : IsAlone (after A u (sync.sync ∷ more)).image b =
+    let still : IsAlone (world_after A u (sync.sync ∷ more)).image b =
     flush_run A (happens A u sync.sync) r b more g.pos (step_ok A u sync.sync g.pos ok run.0) run.1 steps.1
     (lasts_step A (HasKind Flush) (kind_lasts A Flush) u sync.sync r run.0 (made_before A u r sync.sync ok run.0 steps.0) kind) settled in
-    let answered_so : IsAlone (happens A (after A u (sync.sync ∷ more)) answer).image b =
-    flush_step A (after A u (sync.sync ∷ more)) r b answer (run_ok A u (sync.sync ∷ more) g.pos ok run) ends (answer_acts r c answer fine)
-    (subst (λ (k : Kind). HasKind k ((after A u (sync.sync ∷ more)).req r)) flush (answer_there A (after A u (sync.sync ∷ more)) r c answer ends fine)) still in
+    let answered_so : IsAlone (happens A (world_after A u (sync.sync ∷ more)) answer).image b =
+    flush_step A (world_after A u (sync.sync ∷ more)) r b answer (run_ok A u (sync.sync ∷ more) g.pos ok run) ends (answer_acts r c answer fine)
+    (subst (λ (k : Kind). HasKind k ((world_after A u (sync.sync ∷ more)).req r)) flush (answer_there A (world_after A u (sync.sync ∷ more)) r c answer ends fine)) still in
     subst (λ (v : World). IsAlone (happens A v answer).image b) (sym meet) answered_so
 
 reached_alone : (A : ℕ) (w : World) (es entered answered : List Element) (b : ℕ) → Given A w es → (f : ReachedFlush entered answered) → AreOwn f.number f.between →
-    Begins answered es → IsAlone (after A w answered).image b
+    Begins answered es → IsAlone (world_after A w answered).image b
 reached_alone A w es entered answered b g f own at =
     let front : List Element = entered ++ f.enter ∷ [] in
     subst (λ (v : World). IsAlone v.image b)
-    (sym (ap (after A w) (flush_course entered answered f) ∙ after_append A w (front ++ f.between) (f.answer ∷ [])))
+    (sym (ap (world_after A w) (flush_course entered answered f) ∙ after_append A w (front ++ f.between) (f.answer ∷ [])))
     (flush_alone A w es front f.between f.answer f.number f.client b g f.flush f.fine (reached_answer entered answered es f at)
     (λ s. reached_none A w es entered answered s g f at) own)
 
@@ -258,14 +258,14 @@ left_bounds A w es x position answered steps g at reached (WrittenBefore {entere
 left_bounds A w es x position answered steps g at reached (WrittenThrough f) = forced_bounds A w es x position answered steps g at reached f
 left_bounds A w es x position answered steps g at reached (FlushedAlone {entered = entered} f own) = alone_bounds A w es x entered answered steps g at reached f own
 
-pub durable : (A : ℕ) (o : Opening) (es : List Element) → 0 < A → IsTrue o.tells → IsHandedInSettled o → Runs A (opening o) es → Durable A (opening o) es
+pub durable : (A : ℕ) (o : Opening) (es : List Element) → 0 < A → IsTrue o.tells → IsHandedInSettled o → Runs A (opening_world o) es → Durable A (opening_world o) es
 durable A o es pos told settled run = record {
-  left = λ x position answered steps at reached bound. left_bounds A (opening o) es x position answered steps given at reached bound;
+  left = λ x position answered steps at reached bound. left_bounds A (opening_world o) es x position answered steps given at reached bound;
   crashed = λ x position answered before left at reached bound.
-      let may : May A (after A (opening o) before) (Crashed left) = (split_run A (opening o) es before (Crashed left) run at).1 in
-      left_bounds A (opening o) es x position answered before given (before_step before (Crashed left) es at) reached bound _
-      (record { content = left (x / A); left = may (x / A) (told_run A (opening o) before told); byte = refl });
+      let may : CanCome A (world_after A (opening_world o) before) (Crashed left) = (split_run A (opening_world o) es before (Crashed left) run at).1 in
+      left_bounds A (opening_world o) es x position answered before given (before_step before (Crashed left) es at) reached bound _
+      (record { content = left (x / A); left = may (x / A) (told_run A (opening_world o) before told); byte = refl });
 }
   where
-    given : Given A (opening o) es
+    given : Given A (opening_world o) es
     given = record { pos = pos; told = told; ok = new_ok A 0 o; none = λ r. refl; alone = settled; run = run }

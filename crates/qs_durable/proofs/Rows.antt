@@ -9,8 +9,8 @@ use Rattle.qs_model.specs.Puts.{put}
 use Rattle.qs_model.specs.Requests.{Client, Pads, Stage, ToStore, In, covers, body_at, writes}
 use Rattle.qs_model.specs.Worlds.{Image, World, byte_at}
 use Rattle.qs_model.specs.Acts.{Act, Stores, StoreFails, Syncs, Element, Did, Crashed}
-use Rattle.qs_model.specs.Guards.{CanStore, MayDo, May}
-use Rattle.qs_model.specs.Steps.{imaged, happens, settled, written}
+use Rattle.qs_model.specs.Guards.{CanStore, MayDo, CanCome}
+use Rattle.qs_model.specs.Steps.{imaged, happens, stripe_settled, block_written}
 use Rattle.qs_model.specs.Histories.{cell_at, cell_of, writes_in}
 use Rattle.qs_model.proofs.Basics.{choose, either, put_here, put_other, put_tells, same_or}
 use Rattle.qs_model.proofs.Cells.{covered_byte, pad_byte, row_leads, three, unwritten, written_byte}
@@ -95,12 +95,12 @@ pub row_comes : (A x r v : ℕ) (w : World) (c : Client) (p : Pads) {stage : Sta
     Keeps A w.tells w.image c p stage → MayDo A w c p act → MayBeLeft A (imaged A w.image c act) x v →
     Comes A x v w.image (imaged A w.image c act) (cell_of A x r c act)
 row_comes A x r v w c p (Stores {k = k} {b = b} bytes past) pos told fit kept may h =
-    elim (stored_left A w.image k c p b x v bytes past may.0 (left_in A (written w.image b bytes past) x v h)) [
+    elim (stored_left A w.image k c p b x v bytes past may.0 (left_in A (block_written w.image b bytes past) x v h)) [
       | inl old ↦ inl old
       | inr is ↦ inr (inl (written_byte A w.image b x bytes is.0 ∙ is.1))
     ]
 row_comes A x r v w c p (StoreFails {k = k} {b = b} bytes took past) pos told fit kept may h =
-    elim (stored_left A w.image k c p b x v bytes past may.0 (left_in A (written w.image b (cond took bytes (w.image.now b)) past) x v h)) [
+    elim (stored_left A w.image k c p b x v bytes past may.0 (left_in A (block_written w.image b (cond took bytes (w.image.now b)) past) x v h)) [
       | inl old ↦ inl old
       | inr is ↦ inr (refused_byte A x r v w k c p b bytes took past pos told fit kept may is.0 is.1)
     ]
@@ -108,10 +108,10 @@ row_comes A x r v w c p (Syncs {s = s}) pos told fit kept may h =
     choose (λ l. LeftIn A x v l → MayBeLeft A w.image x v ⊎ ((byte_at A w.image x ≡ v) ⊎ IsRefusal A x v [])) (stripe_of (x / A) == s) _ _
     (λ e is. inr (inl (ap (λ (l : List ℕ). get_or l (x % A) 0) (sym (only_member (w.image.now (x / A)) is.content is.left)) ∙ is.byte)))
     (λ e is. inl (may_leave A w.image x v is))
-    (left_in A (settled w.image s) x v h)
+    (left_in A (stripe_settled w.image s) x v h)
 row_comes A x r v w c p _ pos told fit kept may h = inl (record { content = h.content; left = h.left; byte = h.byte })
 
-pub step_comes : (A x v : ℕ) (w : World) (e : Element) → 0 < A → IsTrue w.tells → Ok A w → May A w e → MayBeLeft A (happens A w e).image x v →
+pub step_comes : (A x v : ℕ) (w : World) (e : Element) → 0 < A → IsTrue w.tells → Ok A w → CanCome A w e → MayBeLeft A (happens A w e).image x v →
     Comes A x v w.image (happens A w e).image (cell_at A x e)
 step_comes A x v w (Did r q act) pos told ok may h =
     row_comes A x r v w q.client q.pads act pos told (ok.well r q may.0).shaped (ok.well r q may.0).kept may.1 h
@@ -126,7 +126,7 @@ IsAlone i b = i.past b ≡ i.now b ∷ []
 abbrev pub KeepsAlone : Image → Type 0
 KeepsAlone i = (b : ℕ) → i.clean (stripe_of b) ≡ true → IsAlone i b
 
-written_alone : (i : Image) (b : ℕ) (now : List ℕ) (past : List (List ℕ)) → KeepsAlone i → KeepsAlone (written i b now past)
+written_alone : (i : Image) (b : ℕ) (now : List ℕ) (past : List (List ℕ)) → KeepsAlone i → KeepsAlone (block_written i b now past)
 written_alone i b now past alone c clean = elim (put_tells i.clean (stripe_of b) false (stripe_of c) true clean) [
   | inl h ↦ absurd (true≢false (sym h.1))
   | inr h ↦
@@ -134,7 +134,7 @@ written_alone i b now past alone c clean = elim (put_tells i.clean (stripe_of b)
       put_other i.past b past c other ∙ alone c h.1 ∙ ap (λ (l : List ℕ). l ∷ []) (sym (put_other i.now b now c other))
 ]
 
-settled_alone : (i : Image) (s : ℕ) → KeepsAlone i → KeepsAlone (settled i s)
+settled_alone : (i : Image) (s : ℕ) → KeepsAlone i → KeepsAlone (stripe_settled i s)
 settled_alone i s alone c clean =
     choose (λ l. l ≡ i.now c ∷ []) (stripe_of c == s) _ _ (λ e. refl) (λ e. elim (put_tells i.clean s true (stripe_of c) true clean) [
       | inl h ↦ absurd (true≢false (sym (eq-eqb (stripe_of c) s h.0) ∙ e))

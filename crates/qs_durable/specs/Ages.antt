@@ -3,7 +3,7 @@ use Rattle.std.specs.Prelude.{◌≡◌, ℕ, ◌/◌, ◌%◌, ◌⊎◌, Bool,
 use Rattle.qs_cells.specs.declared.cell.CellEntry.TheVariants.{Maybe}
 use Rattle.qs_model.specs.Worlds.{Image, World, byte_at}
 use Rattle.qs_model.specs.Acts.{Element}
-use Rattle.qs_model.specs.Steps.{after}
+use Rattle.qs_model.specs.Steps.{world_after}
 use Rattle.qs_model.specs.Histories.{cell_at}
 use Rattle.qs_model.specs.Laws.{Begins, ComesBehind}
 
@@ -18,7 +18,7 @@ pub record WasSince (A : ℕ) (w : World) (x v : ℕ) (since steps : List Elemen
   pub position : List Element
   pub later : Begins since position
   pub before : Begins position steps
-  pub value : byte_at A (after A w position).image x ≡ v
+  pub value : byte_at A (world_after A w position).image x ≡ v
 
 -- from `since` on, a disk refused a store that had the byte v for x
 pub record WasRefusedSince (A x v : ℕ) (since steps : List Element) : Type 0 where
@@ -37,4 +37,4 @@ IsNoOlder A w x v since steps = WasSince A w x v since steps ⊎ WasRefusedSince
 
 -- whatever a crash leaves of the byte at x behind these steps is no older than the position `since`
 abbrev pub LeavesNoOlder : ℕ → World → ℕ → List Element → List Element → Type 0
-LeavesNoOlder A w x since steps = (v : ℕ) → MayBeLeft A (after A w steps).image x v → IsNoOlder A w x v since steps
+LeavesNoOlder A w x since steps = (v : ℕ) → MayBeLeft A (world_after A w steps).image x v → IsNoOlder A w x v since steps

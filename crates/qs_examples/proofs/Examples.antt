@@ -1,17 +1,17 @@
 -- Each example is a run, and is answered so.
 use Rattle.std.proofs.Common.{◌≡◌, ℕ, inl, inr, true, false, [], ◌∷◌, Option, Some, None, refl, sym, ap, ◌∙◌, true≢false, lit<}
 use Rattle.std.specs.List.{filter_map}
-use Rattle.qs_graph.specs.Exports.{made}
+use Rattle.qs_graph.specs.Exports.{new_export}
 use Rattle.qs_tracker.specs.declared.seat.Listing.{Listing}
 use Rattle.qs_model.specs.Puts.{put}
 use Rattle.qs_model.specs.Requests.{Req, edge, has, serial, routed, held, hold_failed, started, loaded}
-use Rattle.qs_model.specs.Steps.{after, leaves, Runs}
-use Rattle.qs_model.specs.Laws.{opening}
+use Rattle.qs_model.specs.Steps.{world_after, leaves, Runs}
+use Rattle.qs_model.specs.Laws.{opening_world}
 use Rattle.qs_model.specs.Events.{outcome_of}
 use Rattle.qs_model.proofs.Basics.{put_other, put_tells}
 use Rattle.qs_model.proofs.Holders.{some_none}
 use Rattle.qs_model.proofs.Padded.{alone, other_side}
-use Rattle.qs_examples.specs.Examples.{opened, first, second, reading, reading_answers, failing, failing_answers, dropping, dropping_answers, refusing, refusing_answers}
+use Rattle.qs_examples.specs.Examples.{small_opening, first_half, second, reading, reading_answers, failing, failing_answers, dropping, dropping_answers, refusing, refusing_answers}
 
 pub reading_told : filter_map (outcome_of 4) reading ≡ reading_answers
 unfolding edge
@@ -36,7 +36,7 @@ of_reader = record { span = record { lo = 0; hi = 8 }; serial = false; number = 
 abbrev of_writer : Listing
 of_writer = record { span = record { lo = 0; hi = 8 }; serial = true; number = 0; started = false }
 
-pub reading_runs : Runs 4 (opening opened) reading
+pub reading_runs : Runs 4 (opening_world small_opening) reading
 unfolding put edge has serial routed held started loaded
 reading_runs = (
   ((((refl, refl), refl), refl), refl),
@@ -47,7 +47,7 @@ reading_runs = (
       (
         (refl, (refl, refl)),
         (
-          (refl, (record (made (101 ∷ []) (100 ∷ []) true false) { clients = 1 }, (refl, refl))),
+          (refl, (record (new_export (101 ∷ []) (100 ∷ []) true false) { clients = 1 }, (refl, refl))),
           (
             (refl, (refl, refl)),
             (
@@ -70,7 +70,7 @@ reading_runs = (
   ),
 )
 
-pub failing_runs : Runs 4 (opening opened) failing
+pub failing_runs : Runs 4 (opening_world small_opening) failing
 unfolding put edge has serial routed held hold_failed started
 failing_runs = (
   ((((refl, refl), refl), refl), refl),
@@ -81,7 +81,7 @@ failing_runs = (
       (
         (refl, (refl, refl)),
         (
-          (refl, (record (made (101 ∷ []) (100 ∷ []) true false) { clients = 1 }, (refl, refl))),
+          (refl, (record (new_export (101 ∷ []) (100 ∷ []) true false) { clients = 1 }, (refl, refl))),
           (
             (refl, (refl, refl)),
             (
@@ -107,11 +107,11 @@ failing_runs = (
   ),
 )
 
-pub failing_blocks : ((after 4 (opening opened) failing).image.now 0 ≡ first) × ((after 4 (opening opened) failing).image.now 1 ≡ second)
+pub failing_blocks : ((world_after 4 (opening_world small_opening) failing).image.now 0 ≡ first_half) × ((world_after 4 (opening_world small_opening) failing).image.now 1 ≡ second)
 unfolding put edge
 failing_blocks = (refl, refl)
 
-pub refusing_runs : Runs 4 (opening opened) refusing
+pub refusing_runs : Runs 4 (opening_world small_opening) refusing
 unfolding put edge has serial routed
 refusing_runs = (
   ((((refl, refl), refl), refl), refl),
@@ -122,7 +122,7 @@ refusing_runs = (
       (
         (refl, (refl, refl)),
         (
-          (refl, (record (made (101 ∷ []) (100 ∷ []) true false) { clients = 1 }, (refl, refl))),
+          (refl, (record (new_export (101 ∷ []) (100 ∷ []) true false) { clients = 1 }, (refl, refl))),
           (
             (refl, λ e. cc),
             tt,
@@ -140,7 +140,7 @@ none_left a b r q is = elim (put_tells (λ j. leaves 1 (put (put {X = Option Req
   | inr h ↦ some_none (sym (sym (ap (λ (o : Option Req). leaves 1 o) (put_other (put {X = Option Req} (λ i. None) 0 a) 0 b r h.0 ∙ put_other {X = Option Req} (λ i. None) 0 a r h.0)) ∙ h.1))
 ]
 
-pub dropping_runs : Runs 4 (opening opened) dropping
+pub dropping_runs : Runs 4 (opening_world small_opening) dropping
 unfolding put edge has serial routed
 dropping_runs = (
   ((((refl, refl), refl), refl), refl),

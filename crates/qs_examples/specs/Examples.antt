@@ -18,19 +18,19 @@ use Rattle.qs_part.specs.declared.stripe.Side.TheVariants.{Head, Tail}
 use Rattle.qs_model.specs.Requests.{Client, Pads, Req, Stage, no_route, ToRoute, ToList, ToStart, ToLoad, ToHold, ToFree, ToEnd, Entering, In}
 use Rattle.qs_model.specs.Worlds.{Opening}
 use Rattle.qs_model.specs.Acts.{Enters, Routes, Lists, Starts, Loads, Holds, HoldFails, Frees, Ends, Element, Attached, Asked, Did, Exported, Left, Detached}
-use Rattle.qs_model.specs.Example.{info, note, pads, whole}
+use Rattle.qs_model.specs.Example.{info, note, pads, image_route}
 
-abbrev pub first : List ℕ
-first = 1 ∷ 2 ∷ 3 ∷ 4 ∷ []
+abbrev pub first_half : List ℕ
+first_half = 1 ∷ 2 ∷ 3 ∷ 4 ∷ []
 
 abbrev pub second : List ℕ
 second = 5 ∷ 6 ∷ 7 ∷ 8 ∷ []
 
 abbrev pub block : ℕ → List ℕ
-block b = if b == 0 then first else second
+block b = if b == 0 then first_half else second
 
-abbrev pub opened : Opening
-opened = record {
+abbrev pub small_opening : Opening
+small_opening = record {
   tells = true;
   plans = λ j. no_plans;
   now = block;
@@ -72,16 +72,16 @@ entered_answers os = AttachedOut info ∷ Made 0 ∷ note Enter None (OfTracker 
 
 -- the request has its way
 abbrev pub routed : (Route → Client) → List Element → List Element
-routed c es = entered c (Did 0 (request (c no_route) no_pads (In 0 ToRoute)) (Routes whole) ∷ es)
+routed c es = entered c (Did 0 (request (c no_route) no_pads (In 0 ToRoute)) (Routes image_route) ∷ es)
 
 abbrev pub routed_answers : List Outcome → List Outcome
-routed_answers os = entered_answers (note RouteOp None (OfGraph (Routed whole)) ∷ os)
+routed_answers os = entered_answers (note RouteOp None (OfGraph (Routed image_route)) ∷ os)
 
 -- its span is listed and goes
 abbrev pub started : (Route → Client) → List Element → List Element
 started c es = routed c (
-    Did 0 (request (c whole) no_pads (In 0 ToList)) (Lists 0)
-    ∷ Did 0 (request (c whole) no_pads (In 0 ToStart)) Starts
+    Did 0 (request (c image_route) no_pads (In 0 ToList)) (Lists 0)
+    ∷ Did 0 (request (c image_route) no_pads (In 0 ToStart)) Starts
     ∷ es)
 
 abbrev pub started_answers : List Outcome → List Outcome
@@ -93,9 +93,9 @@ reader = client Read 3 []
 
 abbrev pub reading : List Element
 reading = started reader (
-    Did 0 (request (reader whole) no_pads (In 0 (ToLoad 0 []))) (Loads first)
-    ∷ Did 0 (request (reader whole) no_pads (In 0 (ToLoad 1 (4 ∷ [])))) (Loads second)
-    ∷ Did 0 (request (reader whole) no_pads (In 0 (ToEnd (Got (4 ∷ 5 ∷ []))))) Ends
+    Did 0 (request (reader image_route) no_pads (In 0 (ToLoad 0 []))) (Loads first_half)
+    ∷ Did 0 (request (reader image_route) no_pads (In 0 (ToLoad 1 (4 ∷ [])))) (Loads second)
+    ∷ Did 0 (request (reader image_route) no_pads (In 0 (ToEnd (Got (4 ∷ 5 ∷ []))))) Ends
     ∷ [])
 
 abbrev pub reading_answers : List Outcome
@@ -111,10 +111,10 @@ writer = client Write 3 (9 ∷ 9 ∷ [])
 
 abbrev pub failing : List Element
 failing = started writer (
-    Did 0 (request (writer whole) no_pads (In 0 (ToHold Head))) (Holds first)
-    ∷ Did 0 (request (writer whole) (pads first []) (In 0 (ToHold Tail))) HoldFails
-    ∷ Did 0 (request (writer whole) (pads first []) (In 0 (ToFree Head))) Frees
-    ∷ Did 0 (request (writer whole) (pads first []) (In 0 (ToEnd (Refused Io)))) Ends
+    Did 0 (request (writer image_route) no_pads (In 0 (ToHold Head))) (Holds first_half)
+    ∷ Did 0 (request (writer image_route) (pads first_half []) (In 0 (ToHold Tail))) HoldFails
+    ∷ Did 0 (request (writer image_route) (pads first_half []) (In 0 (ToFree Head))) Frees
+    ∷ Did 0 (request (writer image_route) (pads first_half []) (In 0 (ToEnd (Refused Io)))) Ends
     ∷ [])
 
 abbrev pub failing_answers : List Outcome
@@ -145,7 +145,7 @@ abbrev pub outsider : Route → Client
 outsider = client Read 7 []
 
 abbrev pub refusing : List Element
-refusing = routed outsider (Did 0 (request (outsider whole) no_pads (In 0 (ToEnd (Refused Inval)))) Ends ∷ [])
+refusing = routed outsider (Did 0 (request (outsider image_route) no_pads (In 0 (ToEnd (Refused Inval)))) Ends ∷ [])
 
 abbrev pub refusing_answers : List Outcome
 refusing_answers = routed_answers (Answered (Refused Inval) (Some (record { kind = End; at = None; reply = OfTracker Ended })) ∷ [])

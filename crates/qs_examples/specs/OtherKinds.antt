@@ -16,12 +16,12 @@ use Rattle.qs_part.specs.declared.graph.Route.{Route}
 use Rattle.qs_model.specs.Requests.{Client, no_route, ToRoute, ToStore, ToSync, ToEnd, Entering, In}
 use Rattle.qs_model.specs.Worlds.{Opening}
 use Rattle.qs_model.specs.Acts.{Enters, Routes, Stores, Syncs, Cleans, Ends, Element, Attached, Asked, Did, Exported}
-use Rattle.qs_model.specs.Example.{info, note, whole, zeros}
-use Rattle.qs_examples.specs.Examples.{client, no_pads, opened, request, routed, routed_answers, second, started, started_answers}
+use Rattle.qs_model.specs.Example.{info, note, image_route, zeros}
+use Rattle.qs_examples.specs.Examples.{client, no_pads, small_opening, request, routed, routed_answers, second, started, started_answers}
 
 -- something was stored on stripe 0 since its last sync
 abbrev pub dirty : Opening
-dirty = record opened { clean = λ s. not (s == 0) }
+dirty = record small_opening { clean = λ s. not (s == 0) }
 
 -- a FLUSH; the places that it names, behind the end, say nothing
 abbrev pub flusher : Route → Client
@@ -29,15 +29,15 @@ flusher = client Flush 9 []
 
 abbrev pub flushing : List Element
 flushing = routed flusher (
-    Did 0 (request (flusher whole) no_pads (In 0 (ToSync 0))) Syncs
-    ∷ Did 0 (request (flusher whole) no_pads (In 0 (ToSync 1))) Cleans
-    ∷ Did 0 (request (flusher whole) no_pads (In 0 (ToSync 2))) Cleans
-    ∷ Did 0 (request (flusher whole) no_pads (In 0 (ToSync 3))) Cleans
-    ∷ Did 0 (request (flusher whole) no_pads (In 0 (ToSync 4))) Cleans
-    ∷ Did 0 (request (flusher whole) no_pads (In 0 (ToSync 5))) Cleans
-    ∷ Did 0 (request (flusher whole) no_pads (In 0 (ToSync 6))) Cleans
-    ∷ Did 0 (request (flusher whole) no_pads (In 0 (ToSync 7))) Cleans
-    ∷ Did 0 (request (flusher whole) no_pads (In 0 (ToEnd Fine))) Ends
+    Did 0 (request (flusher image_route) no_pads (In 0 (ToSync 0))) Syncs
+    ∷ Did 0 (request (flusher image_route) no_pads (In 0 (ToSync 1))) Cleans
+    ∷ Did 0 (request (flusher image_route) no_pads (In 0 (ToSync 2))) Cleans
+    ∷ Did 0 (request (flusher image_route) no_pads (In 0 (ToSync 3))) Cleans
+    ∷ Did 0 (request (flusher image_route) no_pads (In 0 (ToSync 4))) Cleans
+    ∷ Did 0 (request (flusher image_route) no_pads (In 0 (ToSync 5))) Cleans
+    ∷ Did 0 (request (flusher image_route) no_pads (In 0 (ToSync 6))) Cleans
+    ∷ Did 0 (request (flusher image_route) no_pads (In 0 (ToSync 7))) Cleans
+    ∷ Did 0 (request (flusher image_route) no_pads (In 0 (ToEnd Fine))) Ends
     ∷ [])
 
 abbrev pub flushing_answers : List Outcome
@@ -66,9 +66,9 @@ zeroer route = record {
 
 abbrev pub zeroing : List Element
 zeroing = started zeroer (
-    Did 0 (request (zeroer whole) no_pads (In 0 (ToStore 1))) (Stores zeros (second ∷ zeros ∷ []))
-    ∷ Did 0 (request (zeroer whole) no_pads (In 0 (ToSync 0))) Syncs
-    ∷ Did 0 (request (zeroer whole) no_pads (In 0 (ToEnd Fine))) Ends
+    Did 0 (request (zeroer image_route) no_pads (In 0 (ToStore 1))) (Stores zeros (second ∷ zeros ∷ []))
+    ∷ Did 0 (request (zeroer image_route) no_pads (In 0 (ToSync 0))) Syncs
+    ∷ Did 0 (request (zeroer image_route) no_pads (In 0 (ToEnd Fine))) Ends
     ∷ [])
 
 abbrev pub zeroing_answers : List Outcome
@@ -80,13 +80,13 @@ zeroing_answers = started_answers (
 
 -- the same image, read-only, and an export that may be read alone
 abbrev pub locked : Opening
-locked = record opened { read_only = true }
+locked = record small_opening { read_only = true }
 
 abbrev pub read_info : ExportInfo
 read_info = record info { writable = false }
 
 abbrev pub read_way : Route
-read_way = record whole { writable = false }
+read_way = record image_route { writable = false }
 
 -- a TRIM at 3
 abbrev pub trimmer : Route → Client

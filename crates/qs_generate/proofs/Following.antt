@@ -5,10 +5,10 @@ use Rattle.std.specs.Prelude.{◌-◌, ◌<◌, ◌≤◌, Result}
 use Rattle.qs_script.specs.declared.line.Line.{Line}
 use Rattle.qs_script.specs.declared.line.LineFault.{LineFault}
 use Rattle.qs_generate.specs.Drawing.{drawn, round_draws, state_after}
-use Rattle.qs_generate.specs.Generated.{Makes, made, made_at}
+use Rattle.qs_generate.specs.Generated.{Makes, made_next, made_at}
 use Rattle.qs_generate.specs.Lives.{Generated}
 use Rattle.qs_generate.specs.declared.live.LiveRequest.{LiveRequest}
-use Rattle.qs_generate.specs.declared.live.Turn.{Turn}
+use Rattle.qs_generate.specs.declared.live.NextMove.{NextMove}
 
 pub first_state : (x : ℕ) → (x * 6364136223846793005 % 18446744073709551616 + 1442695040888963407) % 18446744073709551616 ≡ state_after x 1
 unfolding state_after
@@ -29,6 +29,6 @@ inside size x large =
     let offset = mod-lt (state_after x 3 / 2 ^ 33) {m = size - 2048} (omega arith) in omega (arith, offset)
 
 -- what comes next, by what the run does next
-pub at_turn : (g : Generated) (live : List LiveRequest) {new : Generated} {t : Turn} {result : Option (Result Line LineFault)} → g.turn ≡ t →
-    Makes (made_at g live t) result new → Makes (made g live) result new
-at_turn g live {new} {result = result} e is = subst (λ (t : Turn). Makes (made_at g live t) result new) (sym e) is
+pub at_turn : (g : Generated) (live : List LiveRequest) {new : Generated} {t : NextMove} {result : Option (Result Line LineFault)} → g.turn ≡ t →
+    Makes (made_at g live t) result new → Makes (made_next g live) result new
+at_turn g live {new} {result = result} e is = subst (λ (t : NextMove). Makes (made_at g live t) result new) (sym e) is

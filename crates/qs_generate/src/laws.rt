@@ -1,7 +1,7 @@
 //! What the definitions of a made-up run say: each law is the contract of a function that does nothing.
 ghost use Rattle.std.specs.Prelude.{◌≡◌, ◌+◌, ◌<◌, ◌≤◌, ◌++◌, List, ℕ, length};
 ghost use Rattle.qs_generate.specs.Drawing.{round_draws};
-ghost use Rattle.qs_generate.specs.Generated.{made};
+ghost use Rattle.qs_generate.specs.Generated.{made_next};
 ghost use Rattle.qs_generate.specs.Lives.{Generated};
 ghost use Rattle.qs_generate.specs.Numbering.{AsksAnew};
 ghost use Rattle.qs_generate.specs.Sums.{weighted};
@@ -9,7 +9,7 @@ ghost use Rattle.qs_generate.specs.declared.live.LiveRequest.{LiveRequest as ALi
 
 /// No two requests of a run have one cookie.
 pub fn new_cookies()
-    ensures { (g : Generated) (live : List ALive) → AsksAnew g.turn (made g live) }
+    ensures { (g : Generated) (live : List ALive) → AsksAnew g.turn (made_next g live) }
 {}
 
 /// Each request of a run lies inside the image.

@@ -9,7 +9,7 @@ mod run;
 mod totals;
 
 pub use draws::{Draws, RoundDraws};
-pub use live::{LiveRequest, Turn};
+pub use live::{LiveRequest, NextMove};
 pub use request::{Wanted, request_line};
 pub use run::GeneratedRun;
 pub use totals::{RunTotals, add_weighted, put_totals};

@@ -1,5 +1,5 @@
 ghost use Rattle.std.specs.Prelude.{◌≡◌, ◌<◌, IfSome, find, nat_lt};
-ghost use Rattle.qs_generate.specs.Lives.{actor_of, session_line as the_line};
+ghost use Rattle.qs_generate.specs.Lives.{actor_of, attach_line as the_line};
 
 use crate::request::session_name;
 use qs_bytes::Name;
@@ -23,7 +23,7 @@ impl LiveRequest {
 
 /// What a made-up run does next.
 #[derive(Clone, Copy, Debug, PartialEq, Eq)]
-pub enum Turn {
+pub enum NextMove {
     /// A session is made, counted from 0.
     Attach(u64),
     /// A round's request is made.

@@ -1,6 +1,6 @@
 ghost use Rattle.std.specs.Prelude.{◌≡◌, ◌<◌, false, replicate};
 ghost use Rattle.qs_script.specs.declared.line.Line.TheVariants as line;
-ghost use Rattle.qs_generate.specs.Rounds.{Comes, kind_of, name_of, request_line as the_line};
+ghost use Rattle.qs_generate.specs.Rounds.{LineComes, wanted_kind, nth_session, request_line as the_line};
 
 use crate::draws::RoundDraws;
 use qs_bytes::Bytes;
@@ -18,7 +18,7 @@ pub enum Wanted {
 
 /// What a round asks for, by the kind that it drew. Each 64th round flushes, whatever it drew.
 fn wanted_in(round: u64, kind: u64) -> Wanted
-    ensures { result ≡ kind_of round kind }
+    ensures { result ≡ wanted_kind round kind }
 {
     if round % 64 == 0 {
         return Wanted::Flush;
@@ -34,7 +34,7 @@ fn wanted_in(round: u64, kind: u64) -> Wanted
 /// The name of a session: A, B, C or D.
 pub fn session_name(session: u64) -> SessionName
     requires { session < 4 }
-    ensures { result ≡ name_of session }
+    ensures { result ≡ nth_session session }
 {
     match SessionName::of(&[b'A' + session as u8]) {
         Some(name) => name,
@@ -46,7 +46,7 @@ pub fn session_name(session: u64) -> SessionName
 /// is refused for the bytes of a WRITE, that is told.
 pub fn request_line(alloc: Global, round: u64, draws: &RoundDraws) -> Result<Line, LineFault>
     requires { draws.now.session < 4 }
-    ensures { Comes (the_line round draws.now) result }
+    ensures { LineComes (the_line round draws.now) result }
 {
     let session = session_name(draws.session);
     let offset = draws.offset;
@@ -80,7 +80,7 @@ fn write_line(
     round: u64,
     draws: &RoundDraws,
 ) -> Result<Line, LineFault>
-    ensures { Comes (line.Write session round draws.now.offset (replicate draws.now.length draws.now.byte) false) result }
+    ensures { LineComes (line.Write session round draws.now.offset (replicate draws.now.length draws.now.byte) false) result }
 {
     let RoundDraws {
         offset,

@@ -1,11 +1,11 @@
 ghost use Rattle.std.specs.Prelude.{◌≡◌, ◌+◌, ◌-◌, ◌*◌, ◌^◌, ◌<◌, ◌≤◌, IsSome, find, nat_lt};
-ghost use Rattle.qs_generate.specs.Generated.{Makes, asked, attached, begun, made, passed, ran, stepped};
-ghost use Rattle.qs_generate.specs.Nearing.{rank_of, span};
-ghost use Rattle.qs_generate.specs.declared.live.Turn.TheVariants.{Attach};
-ghost use Rattle.qs_generate.specs.declared.live.Turn.TheVariants as turn;
+ghost use Rattle.qs_generate.specs.Generated.{Makes, round_asked, session_attached, pass_begun, made_next, pass_over, ran, stepped};
+ghost use Rattle.qs_generate.specs.Nearing.{turn_rank, span};
+ghost use Rattle.qs_generate.specs.declared.live.NextMove.TheVariants.{Attach};
+ghost use Rattle.qs_generate.specs.declared.live.NextMove.TheVariants as next_move;
 
 use crate::draws::Draws;
-use crate::live::{LiveRequest, Turn, first_left, session_line};
+use crate::live::{LiveRequest, NextMove, first_left, session_line};
 use crate::request::request_line;
 use qs_script::{Line, LineFault};
 use std::alloc::Global;
@@ -27,7 +27,7 @@ const PASSES: u64 = 16;
 pub struct GeneratedRun {
     size: u64,
     draws: Draws,
-    turn: Turn,
+    turn: NextMove,
 }
 
 impl Model for GeneratedRun {
@@ -50,7 +50,7 @@ impl GeneratedRun {
         GeneratedRun {
             size,
             draws: Draws { state: seed },
-            turn: Turn::Attach(0),
+            turn: NextMove::Attach(0),
         }
     }
 
@@ -62,27 +62,27 @@ impl GeneratedRun {
         alloc: Global,
         live: &[LiveRequest],
     ) -> Option<Result<Line, LineFault>>
-        ensures line { Makes (made self.old live.now) result self.new }
-        ensures ends { IsSome result → rank_of self.new.turn < rank_of self.old.turn }
+        ensures line { Makes (made_next self.old live.now) result self.new }
+        ensures ends { IsSome result → turn_rank self.new.turn < turn_rank self.old.turn }
     {
         match self.turn {
-            Turn::Attach(session) => self.attach(session),
-            Turn::Ask(round) => self.ask(alloc, round),
-            Turn::Step { round, left } => self.step(alloc, round, left, live),
-            Turn::Run { round, pass, done } => self.pass(alloc, round, pass, done, live),
+            NextMove::Attach(session) => self.attach(session),
+            NextMove::Ask(round) => self.ask(alloc, round),
+            NextMove::Step { round, left } => self.step(alloc, round, left, live),
+            NextMove::Run { round, pass, done } => self.pass(alloc, round, pass, done, live),
         }
     }
 
     /// A session is made; the first round follows the last one.
     fn attach(&mut self, session: u64) -> Option<Result<Line, LineFault>>
         requires { session < 4 }
-        ensures line { Makes (attached self.old session) result self.new }
-        ensures ends { rank_of self.new.turn < rank_of (Attach session) }
+        ensures line { Makes (session_attached self.old session) result self.new }
+        ensures ends { turn_rank self.new.turn < turn_rank (Attach session) }
     {
         self.turn = if session < 3 {
-            Turn::Attach(session + 1)
+            NextMove::Attach(session + 1)
         } else {
-            Turn::Ask(1)
+            NextMove::Ask(1)
         };
         Some(Ok(session_line(session)))
     }
@@ -90,15 +90,15 @@ impl GeneratedRun {
     /// The request of a round, if there is such a round.
     fn ask(&mut self, alloc: Global, round: u64) -> Option<Result<Line, LineFault>>
         requires { round ≤ 10001 }
-        ensures line { Makes (asked self.old round) result self.new }
-        ensures ends { IsSome result → rank_of self.new.turn < rank_of (turn.Ask round) }
+        ensures line { Makes (round_asked self.old round) result self.new }
+        ensures ends { IsSome result → turn_rank self.new.turn < turn_rank (next_move.Ask round) }
     {
         if round > ROUNDS {
-            self.turn = Turn::Ask(round);
+            self.turn = NextMove::Ask(round);
             return None;
         }
         let draws = self.draws.draw_round(self.size);
-        self.turn = Turn::Step {
+        self.turn = NextMove::Step {
             round,
             left: draws.steps,
         };
@@ -115,7 +115,7 @@ impl GeneratedRun {
     ) -> Option<Result<Line, LineFault>>
         requires { round ≤ 10000 }
         ensures line { Makes (stepped self.old round left live.now) result self.new }
-        ensures ends { IsSome result → rank_of self.new.turn < rank_of (turn.Step round left) }
+        ensures ends { IsSome result → turn_rank self.new.turn < turn_rank (next_move.Step round left) }
     {
         if left == 0 || live.is_empty() {
             return if round % RUN_ROUNDS == 0 {
@@ -125,7 +125,7 @@ impl GeneratedRun {
             };
         }
         let place = self.draws.draw(live.len() as u64);
-        self.turn = Turn::Step {
+        self.turn = NextMove::Step {
             round,
             left: left - 1,
         };
@@ -146,8 +146,8 @@ impl GeneratedRun {
         live: &[LiveRequest],
     ) -> Option<Result<Line, LineFault>>
         requires { round ≤ 10000 }
-        ensures line { Makes (passed self.old round pass live.now (find (λ r. nat_lt done r.cookie) live.now)) result self.new }
-        ensures ends { IsSome result → rank_of self.new.turn < rank_of (turn.Run round pass done) }
+        ensures line { Makes (pass_over self.old round pass live.now (find (λ r. nat_lt done r.cookie) live.now)) result self.new }
+        ensures ends { IsSome result → turn_rank self.new.turn < turn_rank (next_move.Run round pass done) }
     {
         match first_left(live, done) {
             Some(request) => self.run(round, pass, request),
@@ -166,8 +166,8 @@ impl GeneratedRun {
     ) -> Option<Result<Line, LineFault>>
         requires round { round ≤ 10000 }
         requires pass { pass ≤ 16 }
-        ensures line { Makes (begun self.old round pass live.now) result self.new }
-        ensures ends { IsSome result → rank_of self.new.turn ≤ (10000 - round) * span + (17 - pass) * 2 ^ 64 }
+        ensures line { Makes (pass_begun self.old round pass live.now) result self.new }
+        ensures ends { IsSome result → turn_rank self.new.turn ≤ (10000 - round) * span + (17 - pass) * 2 ^ 64 }
     {
         match live {
             [] => self.ask(alloc, round + 1),
@@ -185,7 +185,7 @@ impl GeneratedRun {
         requires { round ≤ 10000 }
         ensures { Makes (ran self.old round pass request) result self.new }
     {
-        self.turn = Turn::Run {
+        self.turn = NextMove::Run {
             round,
             pass,
             done: request.cookie,

@@ -14,8 +14,8 @@ use Rattle.qs_part.specs.declared.graph.GraphOp.TheVariants.{ExportAdd, Find, At
 use Rattle.qs_part.specs.declared.graph.GraphReply.{GraphReply}
 use Rattle.qs_part.specs.declared.graph.GraphReply.TheVariants.{Added, Attached, Detached}
 use Rattle.qs_graph.specs.declared.export.Export.{Export}
-use Rattle.qs_graph.specs.Exports.{clients_of, counted, export_at, found_at, has_alike, has_name, is_standing, is_vacant, made}
-use Rattle.qs_graph.specs.Table.{GraphValue, IsShared, May, after, placed}
+use Rattle.qs_graph.specs.Exports.{clients_of, clients_counted, export_at, found_at, has_alike, has_name, is_standing, is_vacant, new_export}
+use Rattle.qs_graph.specs.Table.{GraphValue, IsShared, May, after, export_placed}
 use Rattle.qs_graph.proofs.Standing.{at_set, none_not, same_export}
 
 -- a test that passes nowhere fails at each place
@@ -128,10 +128,10 @@ shared_fresh v x node e new free =
     }
 
 -- a place after a write: what was written, or what was there
-pub placed_here : (v : GraphValue) (e : ℕ) (p : Option Export) → e < length v.places → export_at (placed v e p).places e ≡ p
+pub placed_here : (v : GraphValue) (e : ℕ) (p : Option Export) → e < length v.places → export_at (export_placed v e p).places e ≡ p
 placed_here v e p inside = get_or-set_same v.places e p None inside
 
-pub placed_other : (v : GraphValue) (e : ℕ) (p : Option Export) (d : ℕ) → d ≢ e → export_at (placed v e p).places d ≡ export_at v.places d
+pub placed_other : (v : GraphValue) (e : ℕ) (p : Option Export) (d : ℕ) → d ≢ e → export_at (export_placed v e p).places d ≡ export_at v.places d
 placed_other v e p d apart = get_or-set_other v.places e d p None apart
 
 -- an export with a client stands
@@ -159,8 +159,8 @@ stands_inside places e x at = go (nat_lt e (length places)) refl
 
 -- a place whose export is given another number of clients has that many
 pub counted_here : (v : GraphValue) (e n : ℕ) → e < length v.places → (x : Export) → export_at v.places e ≡ Some x →
-    clients_of (export_at (placed v e (counted (export_at v.places e) n)).places e) ≡ n
-counted_here v e n inside x at = ap clients_of (placed_here v e _ inside) ∙ ap (λ (p : Option Export). clients_of (counted p n)) at
+    clients_of (export_at (export_placed v e (clients_counted (export_at v.places e) n)).places e) ≡ n
+counted_here v e n inside x at = ap clients_of (placed_here v e _ inside) ∙ ap (λ (p : Option Export). clients_of (clients_counted p n)) at
 
 -- how many clients the export at a place has, after a client more, a client less, and a new export
 pub attach_here : (v : GraphValue) (name : List ℕ) (info : ExportInfo) → found_at v.places name ≡ Some info.e →
@@ -187,7 +187,7 @@ pub added_counts : (v : GraphValue) (op : GraphOp) (e d : ℕ) → May v op (Add
     clients_of (export_at (after v op (Added e)).places d) ≡ clients_of (export_at v.places d)
 added_counts v (ExportAdd id name node writable share) e d may =
     at_set (λ (p : Option Export). clients_of p ≡ clients_of (export_at v.places d)) v.places e _ d refl
-    (λ same. sym (ap clients_of (ap (export_at v.places) same ∙ (shared_fresh v (made id name writable share) node e may.0 may.1).free)))
+    (λ same. sym (ap clients_of (ap (export_at v.places) same ∙ (shared_fresh v (new_export id name writable share) node e may.0 may.1).free)))
 added_counts v (Find name) e d may = absurd may
 added_counts v (Attach name) e d may = absurd may
 added_counts v (Detach k) e d may = absurd may

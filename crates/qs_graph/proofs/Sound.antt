@@ -11,8 +11,8 @@ use Rattle.qs_part.specs.Histories.{Call, StandsFor}
 use Rattle.qs_part.proofs.Histories.{stands_fixed, stands_keeps}
 use Rattle.qs_graph.specs.declared.export.Export.{Export}
 use Rattle.qs_graph.specs.declared.export.Right.{Right}
-use Rattle.qs_graph.specs.Exports.{clients_of, counted, export_at, is_vacant, made, shares, takes}
-use Rattle.qs_graph.specs.Table.{GraphValue, Fits, IsShared, May, after, answers, fresh, placed, route_of}
+use Rattle.qs_graph.specs.Exports.{clients_of, clients_counted, export_at, is_vacant, new_export, shares, takes}
+use Rattle.qs_graph.specs.Table.{GraphValue, Fits, IsShared, May, after, answers, fresh, export_placed, route_of}
 use Rattle.qs_graph.specs.History.{lawful_call, StandsForFresh, IsAllowed, SameExport, StandsAt}
 use Rattle.qs_graph.proofs.Standing.{at_set, nobody, none_against, none_not, same_export}
 use Rattle.qs_graph.proofs.Rights.{same-shares, same-takes, same-writable, together}
@@ -29,23 +29,23 @@ pub same_more : (x y z : Export) → SameExport x y → SameExport y z → SameE
 same_more x y z a b = b ∙ ap (λ (t : Export). record t { clients = z.clients }) a
 
 -- a place with another number of clients
-pub counted_before : (v : GraphValue) (k n e : ℕ) (y : Export) → StandsAt (placed v k (counted (export_at v.places k) n)) e y → Before v e y
+pub counted_before : (v : GraphValue) (k n e : ℕ) (y : Export) → StandsAt (export_placed v k (clients_counted (export_at v.places k) n)) e y → Before v e y
 counted_before v k n e y =
-    at_set (λ (p : Option Export). p ≡ Some y → Before v e y) v.places k (counted (export_at v.places k) n) e
+    at_set (λ (p : Option Export). p ≡ Some y → Before v e y) v.places k (clients_counted (export_at v.places k) n) e
     (λ at. (y, (at, refl))) (λ same. here (export_at v.places k) (ap (export_at v.places) same))
   where
-    here : (p : Option Export) → export_at v.places e ≡ p → counted p n ≡ Some y → Before v e y
+    here : (p : Option Export) → export_at v.places e ≡ p → clients_counted p n ≡ Some y → Before v e y
     here None at is = absurd (none_not y is)
     here (Some x) at is =
         let same : record x { clients = n } ≡ y = same_export (record x { clients = n }) y is in
         (x, (at, sym same ∙ ap (λ (m : ℕ). record x { clients = m }) (ap (λ (t : Export). t.clients) same)))
 
-pub counted_still : (v : GraphValue) (k n e : ℕ) (x : Export) → StandsAt v e x → Still (placed v k (counted (export_at v.places k) n)) e x
+pub counted_still : (v : GraphValue) (k n e : ℕ) (x : Export) → StandsAt v e x → Still (export_placed v k (clients_counted (export_at v.places k) n)) e x
 counted_still v k n e x at =
-    at_set (λ (p : Option Export). (y : Export) × ((p ≡ Some y) × SameExport x y)) v.places k (counted (export_at v.places k) n) e
+    at_set (λ (p : Option Export). (y : Export) × ((p ≡ Some y) × SameExport x y)) v.places k (clients_counted (export_at v.places k) n) e
     (x, (at, refl)) (λ same. here (export_at v.places k) (sym (ap (export_at v.places) same) ∙ at))
   where
-    here : (p : Option Export) → p ≡ Some x → (y : Export) × ((counted p n ≡ Some y) × SameExport x y)
+    here : (p : Option Export) → p ≡ Some x → (y : Export) × ((clients_counted p n ≡ Some y) × SameExport x y)
     here None is = absurd (none_not x is)
     here (Some z) is =
         let same : z ≡ x = same_export z x is in
@@ -71,12 +71,12 @@ kept_allowed v w file before ok = record {
 abbrev pub NewOrOld : GraphValue → ℕ → Export → ℕ → Export → Type 0
 NewOrOld v k x e y = StandsAt v e y ⊎ ((e ≡ k) × (x ≡ y))
 
-pub placed_was : (v : GraphValue) (k : ℕ) (x : Export) (e : ℕ) (y : Export) → StandsAt (placed v k (Some x)) e y → NewOrOld v k x e y
+pub placed_was : (v : GraphValue) (k : ℕ) (x : Export) (e : ℕ) (y : Export) → StandsAt (export_placed v k (Some x)) e y → NewOrOld v k x e y
 placed_was v k x e y =
     at_set (λ (p : Option Export). p ≡ Some y → NewOrOld v k x e y) v.places k (Some x) e
     (λ at. inl at) (λ same is. inr (same, same_export x y is))
 
-pub added_allowed : (v : GraphValue) (k : ℕ) (x : Export) (node : List ℕ) → IsShared v x node → IsAllowed v → IsAllowed (placed v k (Some x))
+pub added_allowed : (v : GraphValue) (k : ℕ) (x : Export) (node : List ℕ) → IsShared v x node → IsAllowed v → IsAllowed (export_placed v k (Some x))
 added_allowed v k x node new ok = record {
   shared = λ d e y z right apart a b h. shared d e y z right apart (placed_was v k x d y a) (placed_was v k x e z b) h;
   writable = λ e y at h. writable e y (placed_was v k x e y at) h;
@@ -103,7 +103,7 @@ added_allowed v k x node new ok = record {
 -- each answer keeps the graph allowed
 pub after_allowed : (v : GraphValue) (op : GraphOp) (reply : GraphReply) → May v op reply → IsAllowed v → IsAllowed (after v op reply)
 after_allowed v (ExportAdd id name node writable share) (Added e) may ok =
-    added_allowed v e (made id name writable share) node may.0 ok
+    added_allowed v e (new_export id name writable share) node may.0 ok
 after_allowed v (Attach name) (Attached info) may ok =
     kept_allowed v (after v (Attach name) (Attached info)) refl
     (counted_before v info.e (clients_of (export_at v.places info.e) + 1)) ok
@@ -131,7 +131,7 @@ stands_size opening cs v stands = stands_fixed (λ (g : GraphValue). g.size) Fit
 
 -- each answer leaves an export where it stands
 pub placed_still : (v : GraphValue) (k : ℕ) (p : Option Export) (e : ℕ) (x : Export) → position is_vacant v.places ≡ Some k → StandsAt v e x →
-    Still (placed v k p) e x
+    Still (export_placed v k p) e x
 placed_still v k p e x free at =
     at_set (λ (q : Option Export). (y : Export) × ((q ≡ Some y) × SameExport x y)) v.places k p e
     (x, (at, refl)) (λ same. absurd (taken (export_at v.places k) (sym (ap (export_at v.places) same) ∙ at) (position-Some is_vacant v.places k None free).1))
@@ -143,7 +143,7 @@ placed_still v k p e x free at =
 pub after_still : (v : GraphValue) (op : GraphOp) (reply : GraphReply) (e : ℕ) (x : Export) → May v op reply → StandsAt v e x →
     Still (after v op reply) e x
 after_still v (ExportAdd id name node writable share) (Added k) e x may at =
-    placed_still v k (Some (made id name writable share)) e x may.1 at
+    placed_still v k (Some (new_export id name writable share)) e x may.1 at
 after_still v (Attach name) (Attached info) e x may at =
     counted_still v info.e (clients_of (export_at v.places info.e) + 1) e x at
 after_still v (Detach k) Detached e x may at = counted_still v k (clients_of (export_at v.places k) - 1) e x at

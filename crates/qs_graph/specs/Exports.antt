@@ -7,8 +7,8 @@ use Rattle.qs_graph.specs.declared.export.Right.{Right}
 use Rattle.qs_graph.specs.declared.export.Right.TheVariants.{Read, Write}
 
 -- an export without clients
-abbrev pub made : List ℕ → List ℕ → Bool → Bool → Export
-made id name writable share_write = record { id = id; name = name; writable = writable; share_write = share_write; clients = 0 }
+abbrev pub new_export : List ℕ → List ℕ → Bool → Bool → Export
+new_export id name writable share_write = record { id = id; name = name; writable = writable; share_write = share_write; clients = 0 }
 
 -- every export takes read, and a writable one takes write
 abbrev pub takes : Export → Right → Bool
@@ -88,6 +88,6 @@ writable_of None = false
 writable_of (Some x) = x.writable
 
 -- the place with another number of clients
-abbrev pub counted : Option Export → ℕ → Option Export
-counted None n = None
-counted (Some x) n = Some (record x { clients = n })
+abbrev pub clients_counted : Option Export → ℕ → Option Export
+clients_counted None n = None
+clients_counted (Some x) n = Some (record x { clients = n })

@@ -15,5 +15,5 @@ abbrev pub names_of : GraphValue → List (List ℕ)
 names_of v = map (λ (x : Export). x.name) (standing v.places)
 
 -- the name of the standing export of this number in that order, from 0 on
-abbrev pub name_of : GraphValue → ℕ → Option (List ℕ)
-name_of v n = slice_get (names_of v) n
+abbrev pub export_name_at : GraphValue → ℕ → Option (List ℕ)
+export_name_at v n = slice_get (names_of v) n

@@ -9,7 +9,7 @@ use Rattle.qs_part.specs.declared.graph.GraphOp.TheVariants.{ExportAdd, Find, At
 use Rattle.qs_part.specs.declared.graph.GraphReply.{GraphReply}
 use Rattle.qs_part.specs.declared.graph.GraphReply.TheVariants.{Duplicate, NoNode, Full, Added, ReadOnly, Conflict, NoExport, Found, Crowded, Attached, NotAttached, Detached, Shutting, Routed}
 use Rattle.qs_graph.specs.declared.export.Export.{Export}
-use Rattle.qs_graph.specs.Exports.{clients_of, counted, export_at, first_against, found_at, has_alike, is_vacant, made, writable_of}
+use Rattle.qs_graph.specs.Exports.{clients_of, clients_counted, export_at, first_against, found_at, has_alike, is_vacant, new_export, writable_of}
 
 -- The graph: the bytes of the image, the name of the file node over it, whether that is read-only,
 -- and the 64 places of exports.
@@ -42,15 +42,15 @@ abbrev pub info_at : GraphValue → ℕ → ExportInfo
 info_at v e = record { e = e; size = v.size; writable = writable_of (export_at v.places e) }
 
 -- place e is now so
-abbrev pub placed : GraphValue → ℕ → Option Export → GraphValue
-placed v e place = record { size = v.size; file = v.file; read_only = v.read_only; places = slice_set v.places e place }
+abbrev pub export_placed : GraphValue → ℕ → Option Export → GraphValue
+export_placed v e place = record { size = v.size; file = v.file; read_only = v.read_only; places = slice_set v.places e place }
 
 -- what an answer leaves
 abbrev pub after : GraphValue → GraphOp → GraphReply → GraphValue
-after v (ExportAdd id name node writable share_write) (Added e) = placed v e (Some (made id name writable share_write))
+after v (ExportAdd id name node writable share_write) (Added e) = export_placed v e (Some (new_export id name writable share_write))
 after v (Attach name) (Attached info) =
-    placed v info.e (counted (export_at v.places info.e) (clients_of (export_at v.places info.e) + 1))
-after v (Detach e) Detached = placed v e (counted (export_at v.places e) (clients_of (export_at v.places e) - 1))
+    export_placed v info.e (clients_counted (export_at v.places info.e) (clients_of (export_at v.places info.e) + 1))
+after v (Detach e) Detached = export_placed v e (clients_counted (export_at v.places e) (clients_of (export_at v.places e) - 1))
 after v _ _ = v
 
 -- no standing export has the id or the name of a new one
@@ -85,7 +85,7 @@ MayAdd v x node _ = ⊥
 
 -- the answers to an operation
 abbrev pub May : GraphValue → GraphOp → GraphReply → Type 0
-May v (ExportAdd id name node writable share_write) reply = MayAdd v (made id name writable share_write) node reply
+May v (ExportAdd id name node writable share_write) reply = MayAdd v (new_export id name writable share_write) node reply
 May v (Find name) NoExport = found_at v.places name ≡ None
 May v (Find name) (Found info) = (found_at v.places name ≡ Some info.e) × (info ≡ info_at v info.e)
 May v (Attach name) NoExport = found_at v.places name ≡ None

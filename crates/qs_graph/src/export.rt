@@ -1,6 +1,6 @@
 ghost use Rattle.std.specs.Prelude.{◌≡◌};
 ghost use Rattle.std.specs.Str.{bytes_eq};
-ghost use Rattle.qs_graph.specs.Exports.{allows, conflicts, is_alike, made, shares, takes};
+ghost use Rattle.qs_graph.specs.Exports.{allows, conflicts, is_alike, new_export, shares, takes};
 
 use qs_bytes::Name;
 
@@ -38,7 +38,7 @@ pub fn is_same(name: &Name, other: &Name) -> bool
 impl Export {
     /// An export without clients.
     pub fn new(id: Name, name: Name, writable: bool, share_write: bool) -> Self
-        ensures { result ≡ made id name writable share_write }
+        ensures { result ≡ new_export id name writable share_write }
     {
         Export {
             id,

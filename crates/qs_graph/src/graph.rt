@@ -1,5 +1,5 @@
 ghost use Rattle.std.specs.Prelude.{◌≡◌, ◌<◌, IfOk};
-ghost use Rattle.qs_graph.specs.Readings.{info_of, name_of};
+ghost use Rattle.qs_graph.specs.Readings.{info_of, export_name_at};
 ghost use Rattle.qs_graph.specs.Table.{fresh, info_at, Fits, answers};
 
 use crate::export::{Export, is_same};
@@ -88,7 +88,7 @@ impl Graph {
     /// The name of the standing export of this number in the order of making, from 0 on. `None` exactly
     /// where no more stand.
     pub fn export_name(&self, number: usize) -> Option<Name>
-        ensures { result ≡ name_of self.now number }
+        ensures { result ≡ export_name_at self.now number }
     {
         match places::nth_standing(&self.places, number) {
             Some(export) => Some(export.name),

@@ -1,7 +1,7 @@
 ghost use Rattle.std.specs.Prelude.{◌≡◌, ◌<◌, length, position, option_map, IfSome};
 ghost use Rattle.std.specs.List.{slice_get, slice_set};
 ghost use Rattle.qs_graph.specs.declared.export.Export.{Export as Standing};
-ghost use Rattle.qs_graph.specs.Exports.{clients_of, counted, export_at, first_against, found_at, has_alike, has_name, is_standing, is_vacant, standing};
+ghost use Rattle.qs_graph.specs.Exports.{clients_of, clients_counted, export_at, first_against, found_at, has_alike, has_name, is_standing, is_vacant, standing};
 
 use crate::export::{Export, is_same};
 use qs_bytes::Name;
@@ -94,7 +94,7 @@ pub fn nth_standing(places: &[Option<Export>], number: usize) -> Option<Export>
 }
 
 fn with_clients(place: &Option<Export>, clients: u16) -> Option<Export>
-    ensures { result ≡ counted place.now clients }
+    ensures { result ≡ clients_counted place.now clients }
 {
     match place {
         Some(export) => Some(Export { clients, ..*export }),
@@ -115,7 +115,7 @@ pub fn clients(places: &[Option<Export>], e: usize) -> u16
 /// The export at place `e` has so many clients from now on.
 pub fn set_clients(places: &mut [Option<Export>], e: usize, clients: u16)
     requires { e < length places.old }
-    ensures { places.new ≡ slice_set places.old e (counted (export_at places.old e) clients) }
+    ensures { places.new ≡ slice_set places.old e (clients_counted (export_at places.old e) clients) }
 {
     places[e] = with_clients(&places[e], clients);
 }

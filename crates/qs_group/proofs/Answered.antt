@@ -13,7 +13,7 @@ use Rattle.qs_part.specs.Limits.{first_broken}
 use Rattle.qs_group.specs.declared.queue.Queued.{Queued}
 use Rattle.qs_group.specs.Queue.{has_ticket, ticket_at, Queues, earliest, IsTurn}
 use Rattle.qs_group.specs.Turns.{turn_of}
-use Rattle.qs_group.specs.Served.{Serves}
+use Rattle.qs_group.specs.Served.{ServesTicket}
 use Rattle.qs_group.specs.Table.{GroupValue, IsNext, MayAdmit, May}
 use Rattle.qs_group.proofs.Lookups.{found_queues}
 use Rattle.qs_group.proofs.Tickets.{all_taken, none_of}
@@ -74,7 +74,7 @@ admit_answered v now t (Some w) found = first (earliest v.waiting w == w.ticket)
     turn is m it true e =
         let same : m ≡ w.member = grind (arith, nat_tests) in
         let next : IsNext v w = record { earliest_one = is; turn = rw same at it } in
-        let served : (reply : GroupReply) × Serves reply × MayAdmit v now (Some w) reply = next_serves v now w next in
+        let served : (reply : GroupReply) × ServesTicket reply × MayAdmit v now (Some w) reply = next_serves v now w next in
         (served.0, served.2)
 
     round : earliest v.waiting w ≡ w.ticket → ((m : ℕ) × IsTurn v.waiting (turn_of v.turns w.dir) w.dir m) ⊎ ((k : ℕ) → Queues v.waiting w.dir k → ⊥) →

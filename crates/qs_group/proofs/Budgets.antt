@@ -17,7 +17,7 @@ use Rattle.qs_part.specs.Limits.{limit_of, first_broken}
 use Rattle.qs_part.specs.Histories.{Call, StandsFor}
 use Rattle.qs_bucket.specs.declared.bucket.Burst.{Burst}
 use Rattle.qs_bucket.specs.Admissions.{Admission, owed, UpTo, AdmittedByRule}
-use Rattle.qs_bucket.specs.Level.{LevelValue, empty, effective, level_at, wait_at, added, IsOwedBy}
+use Rattle.qs_bucket.specs.Level.{LevelValue, empty, effective, level_at, wait_at, level_added, IsOwedBy}
 use Rattle.qs_bucket.specs.Bucket.{BucketValue, burst_level, wait_of, filled}
 use Rattle.qs_bucket.proofs.Both.{added_rate, no_waits}
 use Rattle.qs_bucket.proofs.Owed.{UpTo-later, UpTo-append, owed_added}
@@ -27,8 +27,8 @@ use Rattle.qs_group.specs.declared.budget.Budget.{Budget}
 use Rattle.qs_group.specs.Budget.{Which, First, Second, IsGood, has_pair, rate_of, capacity, burst_for, bucket_for, budget_for, wait_for, reading_at, charged}
 use Rattle.qs_group.specs.Queue.{ticket_at}
 use Rattle.qs_group.specs.Levels.{Key, bucket_in, level_in, level_of, applies, units_for}
-use Rattle.qs_group.specs.Table.{GroupValue, unlimited, fresh, passed, May, MayAdmit, after}
-use Rattle.qs_group.specs.History.{lawful_call, StandsForFresh, set_by, last_set, counted_go, counted, admissions, greatest_reading, pair_asks, limit_asks, ByAdmissions}
+use Rattle.qs_group.specs.Table.{GroupValue, unlimited, fresh, ticket_passed, May, MayAdmit, after}
+use Rattle.qs_group.specs.History.{lawful_call, StandsForFresh, set_by, last_set, counted_go, admissions_counted, admissions, greatest_reading, pair_asks, limit_asks, ByAdmissions}
 use Rattle.qs_group.proofs.Checked.{good}
 
 -- a level holds what these admissions owe, and they were admitted by the rule
@@ -38,7 +38,7 @@ pub record Keeps (b : LevelValue) (reading : ℕ) (xs : List Admission) : Type 0
   pub is_owed : b.rate ≢ 0 → IsOwedBy b xs
   pub rule : b.rate ≢ 0 → AdmittedByRule b.rate b.bucket xs
 
-pub added_up_to : (b : LevelValue) (r units : ℕ) → b.last ≤ r → (added b r units).last ≤ r
+pub added_up_to : (b : LevelValue) (r units : ℕ) → b.last ≤ r → (level_added b r units).last ≤ r
 added_up_to b r units h = go (b.rate == 0)
   where
     go : (z : Bool) → (cond z b (record { rate = b.rate; bucket = b.bucket; level = level_at b (effective b r) + units; last = effective b r })).last ≤ r
@@ -47,18 +47,18 @@ added_up_to b r units h = go (b.rate == 0)
 
 -- one admission more
 pub keeps_more : (b : LevelValue) (reading : ℕ) (xs : List Admission) (r units : ℕ) → reading ≤ r → wait_at b r ≡ 0 → Keeps b reading xs →
-    Keeps (added b r units) r (xs ++ record { reading = r; units = units } ∷ [])
+    Keeps (level_added b r units) r (xs ++ record { reading = r; units = units } ∷ [])
 keeps_more b reading xs r units later none keeps = record {
   last = added_up_to b r units (omega (arith, keeps.last));
   upto = UpTo-append xs _ r (UpTo-later xs reading r later keeps.upto) (omega arith);
   is_owed = λ h. let some : b.rate ≢ 0 = rw same.0 at h in
-      subst (λ (e : ℕ). IsOwedBy (added b r units) (xs ++ record { reading = e; units = units } ∷ [])) now (owed_added b xs r units some (keeps.is_owed some));
+      subst (λ (e : ℕ). IsOwedBy (level_added b r units) (xs ++ record { reading = e; units = units } ∷ [])) now (owed_added b xs r units some (keeps.is_owed some));
   rule = λ h. let some : b.rate ≢ 0 = rw same.0 at h in
       rw (same.0, same.1) (subst (λ (e : ℕ). AdmittedByRule b.rate b.bucket (xs ++ record { reading = e; units = units } ∷ [])) now
       (rule_added b xs r units some (keeps.is_owed some) none (keeps.rule some)));
 }
   where
-    same : ((added b r units).rate ≡ b.rate) × ((added b r units).bucket ≡ b.bucket)
+    same : ((level_added b r units).rate ≡ b.rate) × ((level_added b r units).bucket ≡ b.bucket)
     same = added_rate b r units
 
     now : max b.last r ≡ r
@@ -115,13 +115,13 @@ charged_bucket b Write n r IopsRead = refl
 charged_bucket b Write n r IopsWrite = refl
 
 pub filled_level : (x : BucketValue) (z : Bool) (r units : ℕ) (which : Which) →
-    level_in (cond z (filled x r units) x) which ≡ cond z (added (level_in x which) r units) (level_in x which)
+    level_in (cond z (filled x r units) x) which ≡ cond z (level_added (level_in x which) r units) (level_in x which)
 filled_level x true r units First = refl
 filled_level x true r units Second = refl
 filled_level x false r units which = refl
 
 pub charged_level : (b : Budget) (d : Dir) (n r : ℕ) (key : Key) →
-    level_of (charged b d n r) key ≡ cond (applies key.dim d) (added (level_of b key) r (units_for b key.dim n)) (level_of b key)
+    level_of (charged b d n r) key ≡ cond (applies key.dim d) (level_added (level_of b key) r (units_for b key.dim n)) (level_of b key)
 charged_level b d n r key =
     ap (λ (x : BucketValue). level_in x key.which) (charged_bucket b d n r key.dim)
     ∙ filled_level (bucket_in b key.dim) (applies key.dim d) r (units_for b key.dim n) key.which
@@ -204,7 +204,7 @@ pub keeps_charged : (b : Budget) (d : Dir) (n r : ℕ) (key : Key) (xs : List Ad
 keeps_charged b d n r key xs later none keeps = rw (charged_level b d n r key) (go (applies key.dim d) refl)
   where
     go : (z : Bool) → applies key.dim d ≡ z →
-        Keeps (cond z (added (level_of b key) r (units_for b key.dim n)) (level_of b key)) r
+        Keeps (cond z (level_added (level_of b key) r (units_for b key.dim n)) (level_of b key)) r
         (cond z (xs ++ record { reading = r; units = units_for b key.dim n } ∷ []) xs)
     go true e = keeps_more (level_of b key) b.reading xs r _ later (goes_at e) keeps
       where
@@ -215,10 +215,10 @@ keeps_charged b d n r key xs later none keeps = rw (charged_level b d n r key) (
 -- each answer keeps what a level holds
 pub answer_keeps : (v : GroupValue) (op : GroupOp) (reply : GroupReply) (key : Key) (xs : List Admission) → May v op reply →
     Keeps (level_of v.budget key) v.budget.reading xs →
-    Keeps (level_of (after v op reply).budget key) (after v op reply).budget.reading (counted key.dim v op reply xs)
+    Keeps (level_of (after v op reply).budget key) (after v op reply).budget.reading (admissions_counted key.dim v op reply xs)
 answer_keeps v (Admit t now) Go key xs may keeps = go (ticket_at v.waiting t) may
   where
-    go : (o : Option Queued) → MayAdmit v now o Go → Keeps (level_of (passed v o now).budget key) (passed v o now).budget.reading (counted_go key.dim v o now xs)
+    go : (o : Option Queued) → MayAdmit v now o Go → Keeps (level_of (ticket_passed v o now).budget key) (ticket_passed v o now).budget.reading (counted_go key.dim v o now xs)
     go None f = absurd f
     go (Some w) f = keeps_charged v.budget w.dir w.bytes (reading_at v.budget now) key xs (omega arith) f.1 keeps
 answer_keeps v (SetTo l) IsSet key xs may keeps = keeps_opened l key.dim key.which
@@ -238,7 +238,7 @@ pub run_keeps : (v : GroupValue) (cs : List (Call GroupOp GroupReply)) (w : Grou
 run_keeps v [] w key xs stands keeps =
     subst (λ (x : GroupValue). Keeps (level_of x.budget key) x.budget.reading xs) stands keeps
 run_keeps v (c ∷ cs) w key xs stands keeps =
-    run_keeps (after v c.op c.reply) cs w key (counted key.dim v c.op c.reply xs) (stands_rest v c cs w stands)
+    run_keeps (after v c.op c.reply) cs w key (admissions_counted key.dim v c.op c.reply xs) (stands_rest v c cs w stands)
     (answer_keeps v c.op c.reply key xs stands.1.1.0 keeps)
 
 pub fresh_keeps : (cs : List (Call GroupOp GroupReply)) (v : GroupValue) (key : Key) → StandsForFresh cs v
@@ -314,7 +314,7 @@ pub charged_counts : (b : Budget) (d : Dir) (n r : ℕ) (key : Key) (x : Limit) 
     Counts (level_of (charged b d n r) key) x key.which
 charged_counts b d n r key x counts = rw (charged_level b d n r key) (go (applies key.dim d))
   where
-    go : (z : Bool) → Counts (cond z (added (level_of b key) r (units_for b key.dim n)) (level_of b key)) x key.which
+    go : (z : Bool) → Counts (cond z (level_added (level_of b key) r (units_for b key.dim n)) (level_of b key)) x key.which
     go true = record {
       rate_is = (added_rate (level_of b key) r (units_for b key.dim n)).0 ∙ counts.rate_is;
       bucket_is = λ h. (added_rate (level_of b key) r (units_for b key.dim n)).1 ∙ counts.bucket_is h;
@@ -328,7 +328,7 @@ pub answer_counts : (v : GroupValue) (op : GroupOp) (reply : GroupReply) (l : Li
     Counts (level_of (after v op reply).budget key) (limit_of (set_by l op reply) key.dim) key.which
 answer_counts v (Admit t now) Go l key may counts = go (ticket_at v.waiting t)
   where
-    go : (o : Option Queued) → Counts (level_of (passed v o now).budget key) (limit_of l key.dim) key.which
+    go : (o : Option Queued) → Counts (level_of (ticket_passed v o now).budget key) (limit_of l key.dim) key.which
     go None = counts
     go (Some w) = charged_counts v.budget w.dir w.bytes (reading_at v.budget now) key _ counts
 answer_counts v (SetTo m) IsSet l key may counts = opened_counts m key.dim key.which may.1
@@ -354,7 +354,7 @@ pub answer_size : (v : GroupValue) (op : GroupOp) (reply : GroupReply) (l : Limi
     (after v op reply).budget.iops_size ≡ (set_by l op reply).iops_size
 answer_size v (Admit t now) Go l e = go (ticket_at v.waiting t)
   where
-    go : (o : Option Queued) → (passed v o now).budget.iops_size ≡ l.iops_size
+    go : (o : Option Queued) → (ticket_passed v o now).budget.iops_size ≡ l.iops_size
     go None = e
     go (Some w) = e
 answer_size v (SetTo m) IsSet l e = refl
@@ -457,10 +457,10 @@ greatest_reading-append (x ∷ xs) a = omega (arith, greatest_reading-append xs 
 
 -- each answer keeps the greatest reading of a request that went
 pub answer_reading : (v : GroupValue) (op : GroupOp) (reply : GroupReply) (xs : List Admission) → v.budget.reading ≡ greatest_reading xs →
-    (after v op reply).budget.reading ≡ greatest_reading (counted BpsTotal v op reply xs)
+    (after v op reply).budget.reading ≡ greatest_reading (admissions_counted BpsTotal v op reply xs)
 answer_reading v (Admit t now) Go xs e = go (ticket_at v.waiting t)
   where
-    go : (o : Option Queued) → (passed v o now).budget.reading ≡ greatest_reading (counted_go BpsTotal v o now xs)
+    go : (o : Option Queued) → (ticket_passed v o now).budget.reading ≡ greatest_reading (counted_go BpsTotal v o now xs)
     go None = e
     go (Some w) = rw (greatest_reading-append xs) (omega (arith, e))
 answer_reading v (SetTo l) IsSet xs e = refl
@@ -473,5 +473,5 @@ pub run_reading : (v : GroupValue) (cs : List (Call GroupOp GroupReply)) (w : Gr
     → w.budget.reading ≡ greatest_reading (admissions BpsTotal v cs xs)
 run_reading v [] w xs stands e = ap (λ (x : GroupValue). x.budget.reading) (sym stands) ∙ e
 run_reading v (c ∷ cs) w xs stands e =
-    run_reading (after v c.op c.reply) cs w (counted BpsTotal v c.op c.reply xs) (stands_rest v c cs w stands)
+    run_reading (after v c.op c.reply) cs w (admissions_counted BpsTotal v c.op c.reply xs) (stands_rest v c cs w stands)
     (answer_reading v c.op c.reply xs e)

@@ -7,7 +7,7 @@ use Rattle.qs_part.specs.declared.group.Dir.TheVariants.{Read, Write}
 use Rattle.qs_part.specs.contracts.group.Dir.{the_type}
 use denote.Enum.Bare.{sameb}
 use Rattle.qs_group.specs.declared.queue.Queued.{Queued}
-use Rattle.qs_group.specs.Queue.{ticket_at, same_dir, is_of, Queues}
+use Rattle.qs_group.specs.Queue.{ticket_at, same_dir, is_queued_by, Queues}
 
 -- what is found has what all have
 pub find_has : {X : Type 0} (P : X → Type 0) (p : X → Bool) (xs : List X) → All P xs → IfSome (find p xs) P
@@ -41,11 +41,11 @@ same_dir_not Write Write h = λ _. absurd (cc)
 same_dir_not Read Write h = λ e. cc
 same_dir_not Write Read h = λ e. cc
 
-pub is_of_self : (w : Queued) → is_of w.member w.dir w ≡ true
+pub is_of_self : (w : Queued) → is_queued_by w.member w.dir w ≡ true
 is_of_self w = rw (same_dir_self w.dir) (grind (arith, nat_tests))
 
 -- a request of this member and direction
-pub is_of_is : (m : ℕ) (d : Dir) (w : Queued) → is_of m d w ≡ true → (w.member ≡ m) × (w.dir ≡ d)
+pub is_of_is : (m : ℕ) (d : Dir) (w : Queued) → is_queued_by m d w ≡ true → (w.member ≡ m) × (w.dir ≡ d)
 is_of_is m d w = go (w.member == m) (same_dir w.dir d) refl refl
   where
     go : (a b : Bool) → (w.member == m) ≡ a → same_dir w.dir d ≡ b → (a && b) ≡ true → (w.member ≡ m) × (w.dir ≡ d)
@@ -55,9 +55,9 @@ is_of_is m d w = go (w.member == m) (same_dir w.dir d) refl refl
 
 -- one more at the front or at the end
 pub queues_front : (x : Queued) (ws : List Queued) (d : Dir) (m : ℕ) → Queues ws d m → Queues (x ∷ ws) d m
-queues_front x ws d m h = go (is_of m d x)
+queues_front x ws d m h = go (is_queued_by m d x)
   where
-    go : (b : Bool) → IsSome (cond b (Some x) (find (is_of m d) ws))
+    go : (b : Bool) → IsSome (cond b (Some x) (find (is_queued_by m d) ws))
     go true = refl
     go false = h
 
@@ -81,15 +81,15 @@ queues_at (x ∷ ws) zero o h = rw (is_of_self x) refl
 queues_at (x ∷ ws) (suc i) o h = queues_front x ws _ _ (queues_at ws i o (omega arith))
 
 pub queues_more : (ws : List Queued) (w : Queued) (d : Dir) (k : ℕ) → Queues (ws ++ w ∷ []) d k → Queues ws d k ⊎ ((w.member ≡ k) × (w.dir ≡ d))
-queues_more [] w d k = go (is_of k d w) refl
+queues_more [] w d k = go (is_queued_by k d w) refl
   where
-    go : (b : Bool) → is_of k d w ≡ b → IsSome (cond b (Some w) None) → Queues [] d k ⊎ ((w.member ≡ k) × (w.dir ≡ d))
+    go : (b : Bool) → is_queued_by k d w ≡ b → IsSome (cond b (Some w) None) → Queues [] d k ⊎ ((w.member ≡ k) × (w.dir ≡ d))
     go true e h = inr (is_of_is k d w e)
     go false e h = absurd (cc)
-queues_more (x ∷ ws) w d k = go (is_of k d x) (queues_more ws w d k)
+queues_more (x ∷ ws) w d k = go (is_queued_by k d x) (queues_more ws w d k)
   where
     go : (b : Bool) → (Queues (ws ++ w ∷ []) d k → Queues ws d k ⊎ ((w.member ≡ k) × (w.dir ≡ d))) →
-        IsSome (cond b (Some x) (find (is_of k d) (ws ++ w ∷ []))) → IsSome (cond b (Some x) (find (is_of k d) ws)) ⊎ ((w.member ≡ k) × (w.dir ≡ d))
+        IsSome (cond b (Some x) (find (is_queued_by k d) (ws ++ w ∷ []))) → IsSome (cond b (Some x) (find (is_queued_by k d) ws)) ⊎ ((w.member ≡ k) × (w.dir ≡ d))
     go true rec h = inl refl
     go false rec h = rec h
 

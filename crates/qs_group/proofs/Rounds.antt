@@ -12,11 +12,11 @@ use Rattle.qs_part.specs.Histories.{Call}
 use Rattle.qs_part.proofs.Histories.{stands_keeps}
 use Rattle.qs_group.specs.declared.queue.Queued.{Queued}
 use Rattle.qs_group.specs.Budget.{wait_for, reading_at}
-use Rattle.qs_group.specs.Queue.{has_ticket, ticket_at, without, same_dir, is_of, Queues, ticket_or, round, IsTurn}
+use Rattle.qs_group.specs.Queue.{has_ticket, ticket_at, queue_without, same_dir, is_queued_by, Queues, ticket_or, round, IsTurn}
 use Rattle.qs_group.specs.Turns.{turn_of, passed_on}
-use Rattle.qs_group.specs.Table.{GroupValue, fresh, Fits, passed, after, IsNext, MayAdmit, May}
+use Rattle.qs_group.specs.Table.{GroupValue, fresh, Fits, ticket_passed, after, IsNext, MayAdmit, May}
 use Rattle.qs_group.specs.History.{lawful_call, StandsForFresh}
-use Rattle.qs_group.specs.Served.{Serves, WaitsIn, OneServed}
+use Rattle.qs_group.specs.Served.{ServesTicket, WaitsIn, OneServed}
 use Rattle.qs_group.proofs.Tickets.{length_without}
 use Rattle.qs_group.proofs.Lookups.{is_of_is, is_of_self, same_dir_is, same_dir_not, queues_front, found_queues}
 
@@ -66,21 +66,21 @@ tickets_push (x ∷ ws) w all below free = go (x.ticket == w.ticket) refl free (
     go true e f rec = absurd (cc)
     go false e f rec = (all.0, none_more ws w x.ticket all.1 (λ g. absurd (grind (arith, nat_tests))), rec f)
 
-pub none_without : (ws : List Queued) (t u : ℕ) → ticket_at ws u ≡ None → ticket_at (without ws t) u ≡ None
+pub none_without : (ws : List Queued) (t u : ℕ) → ticket_at ws u ≡ None → ticket_at (queue_without ws t) u ≡ None
 none_without [] t u none = refl
 none_without (x ∷ ws) t u none = go (x.ticket == t) (x.ticket == u) refl none (none_without ws t u)
   where
-    go : (b e : Bool) → (x.ticket == u) ≡ e → cond e (Some x) (ticket_at ws u) ≡ None → (ticket_at ws u ≡ None → ticket_at (without ws t) u ≡ None) →
-        ticket_at (cond (not b) (x ∷ without ws t) (without ws t)) u ≡ None
+    go : (b e : Bool) → (x.ticket == u) ≡ e → cond e (Some x) (ticket_at ws u) ≡ None → (ticket_at ws u ≡ None → ticket_at (queue_without ws t) u ≡ None) →
+        ticket_at (cond (not b) (x ∷ queue_without ws t) (queue_without ws t)) u ≡ None
     go b true g f rec = absurd (cc)
     go true false g f rec = rec f
     go false false g f rec = rw g (rec f)
 
-pub tickets_without : (ws : List Queued) (t : ℕ) → AreTickets ws → AreTickets (without ws t)
+pub tickets_without : (ws : List Queued) (t : ℕ) → AreTickets ws → AreTickets (queue_without ws t)
 tickets_without [] t all = tt
 tickets_without (x ∷ ws) t all = go (x.ticket == t) (tickets_without ws t all.2)
   where
-    go : (b : Bool) → AreTickets (without ws t) → AreTickets (cond (not b) (x ∷ without ws t) (without ws t))
+    go : (b : Bool) → AreTickets (queue_without ws t) → AreTickets (cond (not b) (x ∷ queue_without ws t) (queue_without ws t))
     go true rec = rec
     go false rec = (all.0, none_without ws t x.ticket all.1, rec)
 
@@ -98,7 +98,7 @@ answer_sound v (Admit t now) Go fits may sound = go (ticket_at v.waiting t)
     turned w Read = (omega arith, sound.write_turn)
     turned w Write = (sound.read_turn, omega arith)
 
-    go : (o : Option Queued) → IsSound (passed v o now)
+    go : (o : Option Queued) → IsSound (ticket_passed v o now)
     go None = sound
     go (Some w) = record {
       tickets = tickets_without v.waiting w.ticket sound.tickets;
@@ -127,9 +127,9 @@ turn_below v Write sound = sound.write_turn
 
 -- a member that queues has the first request, or one further on
 pub queues_split : (x : Queued) (ws : List Queued) (d : Dir) (k : ℕ) → Queues (x ∷ ws) d k → ((x.member ≡ k) × (x.dir ≡ d)) ⊎ Queues ws d k
-queues_split x ws d k h = go (is_of k d x) refl h
+queues_split x ws d k h = go (is_queued_by k d x) refl h
   where
-    go : (b : Bool) → is_of k d x ≡ b → IsSome (cond b (Some x) (find (is_of k d) ws)) → ((x.member ≡ k) × (x.dir ≡ d)) ⊎ Queues ws d k
+    go : (b : Bool) → is_queued_by k d x ≡ b → IsSome (cond b (Some x) (find (is_queued_by k d) ws)) → ((x.member ≡ k) × (x.dir ≡ d)) ⊎ Queues ws d k
     go true e f = inl (is_of_is k d x e)
     go false e f = inr f
 
@@ -237,22 +237,22 @@ own_number p (x ∷ ws) w all h = go (p x) h (own_number p ws w all.2)
     go false f rec = there (x.ticket == w.ticket) refl (rec f)
 
 -- who is served is next
-pub serves_next : (v : GroupValue) (now : ℕ) (w : Queued) (reply : GroupReply) → MayAdmit v now (Some w) reply → Serves reply → IsNext v w
+pub serves_next : (v : GroupValue) (now : ℕ) (w : Queued) (reply : GroupReply) → MayAdmit v now (Some w) reply → ServesTicket reply → IsNext v w
 serves_next v now w Go may serves = may.0
 serves_next v now w (Wait ns) may serves = may.0
 serves_next v now w _ may serves = absurd serves
 
 -- who is next is served
-pub next_serves : (v : GroupValue) (now : ℕ) (w : Queued) → IsNext v w → (reply : GroupReply) × Serves reply × MayAdmit v now (Some w) reply
+pub next_serves : (v : GroupValue) (now : ℕ) (w : Queued) → IsNext v w → (reply : GroupReply) × ServesTicket reply × MayAdmit v now (Some w) reply
 next_serves v now w next = go (wait_for v.budget w.dir (reading_at v.budget now)) refl
   where
-    go : (n : ℕ) → wait_for v.budget w.dir (reading_at v.budget now) ≡ n → (reply : GroupReply) × Serves reply × MayAdmit v now (Some w) reply
+    go : (n : ℕ) → wait_for v.budget w.dir (reading_at v.budget now) ≡ n → (reply : GroupReply) × ServesTicket reply × MayAdmit v now (Some w) reply
     go zero e = (Go, tt, (next, e))
     go (suc n) e = (Wait (suc n), tt, (next, omega arith, sym e))
 
 -- one ticket of a direction is next
 pub next_one : (v : GroupValue) (d : Dir) (w u : Queued) → IsSound v → w.dir ≡ d → u.dir ≡ d → IsNext v w → IsNext v u → w.ticket ≡ u.ticket
-next_one v d w u sound here there next also = go (some_of (find (is_of w.member d) v.waiting) turn.queues)
+next_one v d w u sound here there next also = go (some_of (find (is_queued_by w.member d) v.waiting) turn.queues)
   where
     turn : IsTurn v.waiting (turn_of v.turns d) d w.member
     turn = subst (λ (e : Dir). IsTurn v.waiting (turn_of v.turns e) e w.member) here next.turn
@@ -260,14 +260,14 @@ next_one v d w u sound here there next also = go (some_of (find (is_of w.member 
     same : w.member ≡ u.member
     same = turn_one v d w.member u.member sound turn (subst (λ (e : Dir). IsTurn v.waiting (turn_of v.turns e) e u.member) there also.turn)
 
-    first : ticket_or w.ticket (find (is_of w.member d) v.waiting) ≡ w.ticket
-    first = subst (λ (e : Dir). ticket_or w.ticket (find (is_of w.member e) v.waiting) ≡ w.ticket) here next.earliest_one
+    first : ticket_or w.ticket (find (is_queued_by w.member d) v.waiting) ≡ w.ticket
+    first = subst (λ (e : Dir). ticket_or w.ticket (find (is_queued_by w.member e) v.waiting) ≡ w.ticket) here next.earliest_one
 
-    second : ticket_or u.ticket (find (is_of w.member d) v.waiting) ≡ u.ticket
-    second = subst (λ (m : ℕ). ticket_or u.ticket (find (is_of m d) v.waiting) ≡ u.ticket) (sym same)
-        (subst (λ (e : Dir). ticket_or u.ticket (find (is_of u.member e) v.waiting) ≡ u.ticket) there also.earliest_one)
+    second : ticket_or u.ticket (find (is_queued_by w.member d) v.waiting) ≡ u.ticket
+    second = subst (λ (m : ℕ). ticket_or u.ticket (find (is_queued_by m d) v.waiting) ≡ u.ticket) (sym same)
+        (subst (λ (e : Dir). ticket_or u.ticket (find (is_queued_by u.member e) v.waiting) ≡ u.ticket) there also.earliest_one)
 
-    go : (x : Queued) × (find (is_of w.member d) v.waiting ≡ Some x) → w.ticket ≡ u.ticket
+    go : (x : Queued) × (find (is_queued_by w.member d) v.waiting ≡ Some x) → w.ticket ≡ u.ticket
     go (x, f) = sym (rw f at first) ∙ (rw f at second)
 
 -- just one ticket of a direction is served, if one waits
@@ -277,9 +277,9 @@ one_served v d t sound waits = go (first_member v.waiting (turn_of v.turns d) d)
     queues : Queues v.waiting d waits.w.member
     queues = subst (λ (e : Dir). Queues v.waiting e waits.w.member) waits.dir (rw waits.found at (found_queues (has_ticket t) v.waiting))
 
-    serve : (m : ℕ) → IsTurn v.waiting (turn_of v.turns d) d m → (x : Queued) → find (is_of m d) v.waiting ≡ Some x → (x.member ≡ m) × (x.dir ≡ d) → OneServed v d
+    serve : (m : ℕ) → IsTurn v.waiting (turn_of v.turns d) d m → (x : Queued) → find (is_queued_by m d) v.waiting ≡ Some x → (x.member ≡ m) × (x.dir ≡ d) → OneServed v d
     serve m it x f is =
-        let own : ticket_at v.waiting x.ticket ≡ Some x = own_number (is_of m d) v.waiting x sound.tickets f in
+        let own : ticket_at v.waiting x.ticket ≡ Some x = own_number (is_queued_by m d) v.waiting x sound.tickets f in
         let next : IsNext v x = record { earliest_one = rw (is.0, is.1, f) refl; turn = rw (is.0, is.1) it } in
         record {
           ticket = x.ticket;
@@ -290,9 +290,9 @@ one_served v d t sound waits = go (first_member v.waiting (turn_of v.turns d) d)
               ∙ next_one v d also.w x sound also.dir is.1 (serves_next v now also.w reply (rw also.found at may) serves) next;
         }
 
-    pick : (m : ℕ) → IsTurn v.waiting (turn_of v.turns d) d m → (x : Queued) × (find (is_of m d) v.waiting ≡ Some x) → OneServed v d
-    pick m it (x, f) = serve m it x f (is_of_is m d x (find_passes (is_of m d) v.waiting x f))
+    pick : (m : ℕ) → IsTurn v.waiting (turn_of v.turns d) d m → (x : Queued) × (find (is_queued_by m d) v.waiting ≡ Some x) → OneServed v d
+    pick m it (x, f) = serve m it x f (is_of_is m d x (find_passes (is_queued_by m d) v.waiting x f))
 
     go : ((m : ℕ) × IsTurn v.waiting (turn_of v.turns d) d m) ⊎ ((k : ℕ) → Queues v.waiting d k → ⊥) → OneServed v d
-    go (inl (m, it)) = pick m it (some_of (find (is_of m d) v.waiting) it.queues)
+    go (inl (m, it)) = pick m it (some_of (find (is_queued_by m d) v.waiting) it.queues)
     go (inr none) = absurd (none waits.w.member queues)

@@ -7,34 +7,34 @@ use Rattle.std.proofs.lemmas.List.{get_or-set_same, get_or-set_other, length-set
 use Rattle.std.proofs.lemmas.List.Quantifiers.{position-Some}
 use Rattle.std.proofs.lemmas.List.Sums.{fails_before_first}
 use Rattle.qs_group.specs.declared.queue.Queued.{Queued}
-use Rattle.qs_group.specs.Queue.{InRange, ShowsTickets, ticket_at, without, IsLowestFree, IsLowestWaiting}
+use Rattle.qs_group.specs.Queue.{InRange, ShowsTickets, ticket_at, queue_without, IsLowestFree, IsLowestWaiting}
 use Rattle.qs_group.proofs.Lookups.{out_more}
 
 -- taking a request out leaves fewer
-pub length_without : (ws : List Queued) (t : ℕ) → length (without ws t) ≤ length ws
+pub length_without : (ws : List Queued) (t : ℕ) → length (queue_without ws t) ≤ length ws
 length_without [] t = omega arith
 length_without (x ∷ ws) t = go (x.ticket == t) (length_without ws t)
   where
-    go : (b : Bool) → length (without ws t) ≤ length ws → length (cond (not b) (x ∷ without ws t) (without ws t)) ≤ length (x ∷ ws)
+    go : (b : Bool) → length (queue_without ws t) ≤ length ws → length (cond (not b) (x ∷ queue_without ws t) (queue_without ws t)) ≤ length (x ∷ ws)
     go true rec = omega arith
     go false rec = omega arith
 
-pub shorter_without : (ws : List Queued) (t : ℕ) → IsSome (ticket_at ws t) → length (without ws t) < length ws
+pub shorter_without : (ws : List Queued) (t : ℕ) → IsSome (ticket_at ws t) → length (queue_without ws t) < length ws
 shorter_without [] t h = absurd (cc)
 shorter_without (x ∷ ws) t h = go (x.ticket == t) (shorter_without ws t) h
   where
-    go : (b : Bool) → (IsSome (ticket_at ws t) → length (without ws t) < length ws) → IsSome (cond b (Some x) (ticket_at ws t)) →
-        length (cond (not b) (x ∷ without ws t) (without ws t)) < length (x ∷ ws)
+    go : (b : Bool) → (IsSome (ticket_at ws t) → length (queue_without ws t) < length ws) → IsSome (cond b (Some x) (ticket_at ws t)) →
+        length (cond (not b) (x ∷ queue_without ws t) (queue_without ws t)) < length (x ∷ ws)
     go true rec f = omega (arith, length_without ws t)
     go false rec f = omega (arith, rec f)
 
 -- the others keep their tickets
-pub ticket_without : (ws : List Queued) (t u : ℕ) → u ≢ t → ticket_at (without ws t) u ≡ ticket_at ws u
+pub ticket_without : (ws : List Queued) (t u : ℕ) → u ≢ t → ticket_at (queue_without ws t) u ≡ ticket_at ws u
 ticket_without [] t u h = refl
 ticket_without (x ∷ ws) t u h = go (x.ticket == t) (x.ticket == u) refl refl (ticket_without ws t u h)
   where
-    go : (b e : Bool) → (x.ticket == t) ≡ b → (x.ticket == u) ≡ e → ticket_at (without ws t) u ≡ ticket_at ws u →
-        ticket_at (cond (not b) (x ∷ without ws t) (without ws t)) u ≡ cond e (Some x) (ticket_at ws u)
+    go : (b e : Bool) → (x.ticket == t) ≡ b → (x.ticket == u) ≡ e → ticket_at (queue_without ws t) u ≡ ticket_at ws u →
+        ticket_at (cond (not b) (x ∷ queue_without ws t) (queue_without ws t)) u ≡ cond e (Some x) (ticket_at ws u)
     go true true f g rec = absurd (h (grind (arith, nat_tests)))
     go true false f g rec = rec
     go false e f g rec = rw g (ap (λ (o : Option Queued). cond e (Some x) o) rec)
@@ -43,9 +43,9 @@ ticket_without (x ∷ ws) t u h = go (x.ticket == t) (x.ticket == u) refl refl (
 pub all_taken : (n : ℕ) (ws : List Queued) → ((u : ℕ) → u < n → IsSome (ticket_at ws u)) → n ≤ length ws
 all_taken zero ws all = omega arith
 all_taken (suc n) ws all =
-    let shorter : length (without ws n) < length ws = shorter_without ws n (all n (omega arith)) in
-    let rest : n ≤ length (without ws n) =
-    all_taken n (without ws n) (λ u h. rw (ticket_without ws n u (omega arith)) (all u (omega arith))) in
+    let shorter : length (queue_without ws n) < length ws = shorter_without ws n (all n (omega arith)) in
+    let rest : n ≤ length (queue_without ws n) =
+    all_taken n (queue_without ws n) (λ u h. rw (ticket_without ws n u (omega arith)) (all u (omega arith))) in
     omega arith
 
 -- one request more

@@ -6,7 +6,7 @@ use Rattle.qs_part.specs.declared.group.Dir.TheVariants.{Read, Write}
 use Rattle.qs_part.specs.declared.limits.Limit.{Limit}
 use Rattle.qs_part.specs.declared.limits.Limits.{Limits}
 use Rattle.qs_bucket.specs.declared.bucket.Burst.{Burst}
-use Rattle.qs_bucket.specs.Bucket.{BucketValue, opened, wait_of, filled}
+use Rattle.qs_bucket.specs.Bucket.{BucketValue, opened_bucket, wait_of, filled}
 use Rattle.qs_group.specs.declared.budget.Sides.{Sides}
 use Rattle.qs_group.specs.declared.budget.Budget.{Budget}
 
@@ -43,7 +43,7 @@ abbrev pub burst_for : Limit → Option Burst
 burst_for x = if nat_lt 1 x.burst_length then Some (record { rate = x.max; bucket = x.max * 10 ^ 8 }) else None
 
 abbrev pub bucket_for : Limit → BucketValue
-bucket_for x = opened x.avg (capacity x First) (burst_for x)
+bucket_for x = opened_bucket x.avg (capacity x First) (burst_for x)
 
 abbrev pub sides_for : Limit → Limit → Limit → Sides
 sides_for total read write = record { total = bucket_for total; read = bucket_for read; write = bucket_for write }
@@ -58,9 +58,9 @@ budget_for l = record {
 }
 
 -- the limit of a direction alone
-abbrev pub own : Sides → Dir → BucketValue
-own s Read = s.read
-own s Write = s.write
+abbrev pub own_bucket : Sides → Dir → BucketValue
+own_bucket s Read = s.read
+own_bucket s Write = s.write
 
 -- a reading below the greatest at which a request went counts as that one
 abbrev pub reading_at : Budget → ℕ → ℕ
@@ -68,7 +68,7 @@ reading_at b now = max now b.reading
 
 -- the greatest wait of the limits of bytes, or of operations, that apply to a direction
 abbrev pub side_wait : Sides → Dir → ℕ → ℕ
-side_wait s d t = max (wait_of s.total t) (wait_of (own s d) t)
+side_wait s d t = max (wait_of s.total t) (wait_of (own_bucket s d) t)
 
 -- the greatest wait of all limits that apply to a direction
 abbrev pub wait_for : Budget → Dir → ℕ → ℕ

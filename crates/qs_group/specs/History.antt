@@ -43,15 +43,15 @@ counted_go dim v (Some w) now xs =
     if applies dim w.dir then xs ++ record { reading = reading_at v.budget now; units = units_for v.budget dim w.bytes } ∷ [] else xs
 
 -- the admissions of a limit after one answer more: Go adds one, Set forgets them
-abbrev pub counted : Dim → GroupValue → GroupOp → GroupReply → List Admission → List Admission
-counted dim v (Admit t now) Go xs = counted_go dim v (ticket_at v.waiting t) now xs
-counted dim v (SetTo l) IsSet xs = []
-counted dim v _ _ xs = xs
+abbrev pub admissions_counted : Dim → GroupValue → GroupOp → GroupReply → List Admission → List Admission
+admissions_counted dim v (Admit t now) Go xs = counted_go dim v (ticket_at v.waiting t) now xs
+admissions_counted dim v (SetTo l) IsSet xs = []
+admissions_counted dim v _ _ xs = xs
 
 -- the admissions of a limit since the last Set
 abbrev pub admissions : Dim → GroupValue → List (Call GroupOp GroupReply) → List Admission → List Admission
 admissions dim v [] xs = xs
-admissions dim v (c ∷ cs) xs = admissions dim (after v c.op c.reply) cs (counted dim v c.op c.reply xs)
+admissions dim v (c ∷ cs) xs = admissions dim (after v c.op c.reply) cs (admissions_counted dim v c.op c.reply xs)
 
 -- the greatest reading of admissions, or 0
 abbrev pub greatest_reading : List Admission → ℕ

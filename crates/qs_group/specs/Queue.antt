@@ -19,8 +19,8 @@ abbrev pub ticket_at : List Queued → ℕ → Option Queued
 ticket_at ws t = find (has_ticket t) ws
 
 -- the others
-abbrev pub without : List Queued → ℕ → List Queued
-without ws t = filter (λ w. not (has_ticket t w)) ws
+abbrev pub queue_without : List Queued → ℕ → List Queued
+queue_without ws t = filter (λ w. not (has_ticket t w)) ws
 
 abbrev pub same_dir : Dir → Dir → Bool
 same_dir Read Read = true
@@ -28,12 +28,12 @@ same_dir Write Write = true
 same_dir _ _ = false
 
 -- whether a request is of this member and direction
-abbrev pub is_of : ℕ → Dir → Queued → Bool
-is_of m d w = w.member == m && same_dir w.dir d
+abbrev pub is_queued_by : ℕ → Dir → Queued → Bool
+is_queued_by m d w = w.member == m && same_dir w.dir d
 
 -- a member has a request of this direction
 abbrev pub Queues : List Queued → Dir → ℕ → Type 0
-Queues ws d m = IsSome (find (is_of m d) ws)
+Queues ws d m = IsSome (find (is_queued_by m d) ws)
 
 abbrev pub ticket_or : ℕ → Option Queued → ℕ
 ticket_or t None = t
@@ -41,7 +41,7 @@ ticket_or t (Some w) = w.ticket
 
 -- the ticket of the earliest request of this one's member and direction
 abbrev pub earliest : List Queued → Queued → ℕ
-earliest ws w = ticket_or w.ticket (find (is_of w.member w.dir) ws)
+earliest ws w = ticket_or w.ticket (find (is_queued_by w.member w.dir) ws)
 
 -- how far a member is from the turn, going round the 64 members
 abbrev pub round : ℕ → ℕ → ℕ

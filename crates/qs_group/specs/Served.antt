@@ -9,18 +9,18 @@ use Rattle.qs_group.specs.Queue.{ticket_at}
 use Rattle.qs_group.specs.Table.{GroupValue, May}
 
 -- the answers that change a group
-abbrev pub Changes : GroupReply → Type 0
-Changes (Ticket t) = Unit {0}
-Changes Go = Unit {0}
-Changes Withdrawn = Unit {0}
-Changes IsSet = Unit {0}
-Changes _ = ⊥
+abbrev pub ChangesGroup : GroupReply → Type 0
+ChangesGroup (Ticket t) = Unit {0}
+ChangesGroup Go = Unit {0}
+ChangesGroup Withdrawn = Unit {0}
+ChangesGroup IsSet = Unit {0}
+ChangesGroup _ = ⊥
 
 -- a request that goes, or waits for the limits alone, is served
-abbrev pub Serves : GroupReply → Type 0
-Serves Go = Unit {0}
-Serves (Wait ns) = Unit {0}
-Serves _ = ⊥
+abbrev pub ServesTicket : GroupReply → Type 0
+ServesTicket Go = Unit {0}
+ServesTicket (Wait ns) = Unit {0}
+ServesTicket _ = ⊥
 
 -- a request of a direction waits with a ticket
 pub record WaitsIn (v : GroupValue) (d : Dir) (t : ℕ) : Type 0 where
@@ -32,5 +32,5 @@ pub record WaitsIn (v : GroupValue) (d : Dir) (t : ℕ) : Type 0 where
 pub record OneServed (v : GroupValue) (d : Dir) : Type 0 where
   pub ticket : ℕ
   pub waits : WaitsIn v d ticket
-  pub served : (now : ℕ) → (reply : GroupReply) × Serves reply × May v (Admit ticket now) reply
-  pub only : (t now : ℕ) (reply : GroupReply) → WaitsIn v d t → May v (Admit t now) reply → Serves reply → t ≡ ticket
+  pub served : (now : ℕ) → (reply : GroupReply) × ServesTicket reply × May v (Admit ticket now) reply
+  pub only : (t now : ℕ) (reply : GroupReply) → WaitsIn v d t → May v (Admit t now) reply → ServesTicket reply → t ≡ ticket

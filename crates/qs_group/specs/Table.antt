@@ -11,7 +11,7 @@ use Rattle.qs_group.specs.declared.queue.Queued.{Queued}
 use Rattle.qs_group.specs.declared.turns.Turns.{Turns}
 use Rattle.qs_group.specs.declared.budget.Budget.{Budget}
 use Rattle.qs_group.specs.Budget.{budget_for, wait_for, reading_at, charged}
-use Rattle.qs_group.specs.Queue.{ticket_at, without, earliest, IsTurn, IsLowestFree, IsLowestWaiting}
+use Rattle.qs_group.specs.Queue.{ticket_at, queue_without, earliest, IsTurn, IsLowestFree, IsLowestWaiting}
 use Rattle.qs_group.specs.Turns.{turn_of, passed_on}
 
 -- a group: the requests that wait, in the order in which they came, whose turn it is, and what was admitted
@@ -21,8 +21,8 @@ pub record GroupValue : Type 0 where
   pub budget : Budget
 
 -- the group under these limits, with nobody waiting and nothing admitted
-abbrev pub opened : Limits → GroupValue
-opened l = record { waiting = []; turns = record { read = 0; write = 0 }; budget = budget_for l }
+abbrev pub opened_group : Limits → GroupValue
+opened_group l = record { waiting = []; turns = record { read = 0; write = 0 }; budget = budget_for l }
 
 abbrev pub no_limit : Limit
 no_limit = record { avg = 0; max = 0; burst_length = 1 }
@@ -40,7 +40,7 @@ unlimited = record {
 
 -- a new group, which has no limits
 abbrev pub fresh : GroupValue
-fresh = opened unlimited
+fresh = opened_group unlimited
 
 -- a member's number is below 64
 abbrev pub Fits : GroupOp → Type 0
@@ -48,10 +48,10 @@ Fits (Queue m d n) = m < 64
 Fits _ = Unit {0}
 
 -- a request goes: its ticket is free, the turn is the next member's, and the limits that apply to it count it
-abbrev pub passed : GroupValue → Option Queued → ℕ → GroupValue
-passed v None now = v
-passed v (Some w) now = record {
-  waiting = without v.waiting w.ticket;
+abbrev pub ticket_passed : GroupValue → Option Queued → ℕ → GroupValue
+ticket_passed v None now = v
+ticket_passed v (Some w) now = record {
+  waiting = queue_without v.waiting w.ticket;
   turns = passed_on v.turns w.dir w.member;
   budget = charged v.budget w.dir w.bytes (reading_at v.budget now);
 }
@@ -60,9 +60,9 @@ passed v (Some w) now = record {
 abbrev pub after : GroupValue → GroupOp → GroupReply → GroupValue
 after v (Queue m d n) (Ticket t) =
     record { waiting = v.waiting ++ record { ticket = t; member = m; dir = d; bytes = n } ∷ []; turns = v.turns; budget = v.budget }
-after v (Admit t now) Go = passed v (ticket_at v.waiting t) now
-after v (Withdraw t) Withdrawn = record { waiting = without v.waiting t; turns = v.turns; budget = v.budget }
-after v (SetTo l) IsSet = opened l
+after v (Admit t now) Go = ticket_passed v (ticket_at v.waiting t) now
+after v (Withdraw t) Withdrawn = record { waiting = queue_without v.waiting t; turns = v.turns; budget = v.budget }
+after v (SetTo l) IsSet = opened_group l
 after v _ _ = v
 
 -- a request is the earliest of its member and direction, and it is its member's turn

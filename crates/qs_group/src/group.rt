@@ -1,7 +1,7 @@
 ghost use Rattle.std.specs.Prelude.{◌≡◌, ◌<◌, IfOk, Some, None};
 ghost use Rattle.qs_part.specs.Limits.{first_broken};
 ghost use Rattle.qs_group.specs.Budget.{budget_for, wait_for, reading_at};
-ghost use Rattle.qs_group.specs.Table.{fresh, opened, passed, Fits, answers};
+ghost use Rattle.qs_group.specs.Table.{fresh, opened_group, ticket_passed, Fits, answers};
 
 use crate::budget::Budget;
 use crate::queue::{self, Queued, TICKETS};
@@ -101,7 +101,7 @@ impl Group {
     fn pass(&mut self, w: Queued, now: u64)
         requires member { w.member < 64 }
         requires go { wait_for self.old.budget w.dir (reading_at self.old.budget now) ≡ 0 }
-        ensures { self.new ≡ passed self.old (Some w) now }
+        ensures { self.new ≡ ticket_passed self.old (Some w) now }
     {
         queue::remove(&mut self.waiting, w.ticket);
         self.turns.pass_on(w.dir, w.member);

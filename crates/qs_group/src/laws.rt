@@ -14,7 +14,7 @@ ghost use Rattle.qs_group.specs.Queue.{ticket_at};
 ghost use Rattle.qs_group.specs.Levels.{Key, level_of};
 ghost use Rattle.qs_group.specs.Table.{GroupValue, unlimited, fresh, May, after};
 ghost use Rattle.qs_group.specs.History.{StandsForFresh, last_set, admissions, greatest_reading, ByAdmissions};
-ghost use Rattle.qs_group.specs.Served.{Changes, WaitsIn, OneServed};
+ghost use Rattle.qs_group.specs.Served.{ChangesGroup, WaitsIn, OneServed};
 
 /// What a new group's limits admitted, in every history.
 ///
@@ -70,5 +70,5 @@ pub fn answers()
         (reply : GroupReply) × May v op reply }
     ensures one { (cs : List (Call GroupOp GroupReply)) (v : GroupValue) (op : GroupOp)
         (first second : GroupReply) → StandsForFresh cs v → May v op first → May v op second → first ≡ second }
-    ensures unchanged { (v : GroupValue) (op : GroupOp) (reply : GroupReply) → (Changes reply → ⊥) → after v op reply ≡ v }
+    ensures unchanged { (v : GroupValue) (op : GroupOp) (reply : GroupReply) → (ChangesGroup reply → ⊥) → after v op reply ≡ v }
 {}

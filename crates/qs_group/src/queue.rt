@@ -1,5 +1,5 @@
 ghost use Rattle.std.specs.Prelude.{◌≡◌, ◌<◌, ◌≤◌, ◌⊎◌, ℕ, [], length, vec_capacity, find, position, not, All, IfSome, MatchOption};
-ghost use Rattle.qs_group.specs.Queue.{InRange, ShowsTickets, ticket_at, without, is_of, Queues, earliest, round, IsTurn, IsLowestFree, IsLowestWaiting};
+ghost use Rattle.qs_group.specs.Queue.{InRange, ShowsTickets, ticket_at, queue_without, is_queued_by, Queues, earliest, round, IsTurn, IsLowestFree, IsLowestWaiting};
 
 use qs_part::group::Dir;
 
@@ -25,7 +25,7 @@ fn seek(waiting: &[Queued], ticket: u8) -> Option<Queued>
 }
 
 fn first_of(waiting: &[Queued], member: u8, dir: Dir) -> Option<Queued>
-    ensures { result ≡ find (is_of member dir) waiting.now }
+    ensures { result ≡ find (is_queued_by member dir) waiting.now }
 {
     waiting
         .iter()
@@ -44,7 +44,7 @@ pub fn ticket_at(waiting: &[Queued], ticket: u8) -> Option<Queued>
 
 /// Takes out the request with this ticket.
 pub fn remove(waiting: &mut Vec<Queued>, ticket: u8)
-    ensures items { waiting.new.items ≡ without waiting.old.items ticket }
+    ensures items { waiting.new.items ≡ queue_without waiting.old.items ticket }
     ensures capacity { vec_capacity waiting.new ≡ vec_capacity waiting.old }
     ensures fewer { length waiting.new.items ≤ length waiting.old.items }
     ensures in_range { All InRange waiting.old.items → All InRange waiting.new.items }

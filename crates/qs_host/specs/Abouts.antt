@@ -5,7 +5,7 @@ use Rattle.qs_host.specs.declared.command.About.{About}
 use Rattle.qs_host.specs.declared.command.About.TheVariants.{Help, Version}
 
 -- `--help`, and `--version`, as the only word
-abbrev pub Asks : List (String Global) → About → Type 0
-Asks (word ∷ []) Help = string_bytes word ≡ codes "--help"
-Asks (word ∷ []) Version = string_bytes word ≡ codes "--version"
-Asks other about = ⊥
+abbrev pub AsksAbout : List (String Global) → About → Type 0
+AsksAbout (word ∷ []) Help = string_bytes word ≡ codes "--help"
+AsksAbout (word ∷ []) Version = string_bytes word ≡ codes "--version"
+AsksAbout other about = ⊥

@@ -52,11 +52,11 @@ abbrev pub needed : List Act → ℕ → SyncNeed
 needed history k = if has_failed history then Fails else if is_covered k history then Nothing else Call
 
 -- what is kept of a history
-abbrev pub after : Act → SyncLog → SyncLog
-after (Stored k) log = record { unsynced = slice_set log.unsynced k true; failed = log.failed }
-after Began log = record { unsynced = replicate 8 false; failed = log.failed }
-after (Ended well) log = record { unsynced = log.unsynced; failed = not well || log.failed }
+abbrev pub logged_after : Act → SyncLog → SyncLog
+logged_after (Stored k) log = record { unsynced = slice_set log.unsynced k true; failed = log.failed }
+logged_after Began log = record { unsynced = replicate 8 false; failed = log.failed }
+logged_after (Ended well) log = record { unsynced = log.unsynced; failed = not well || log.failed }
 
 abbrev pub log_of : List Act → SyncLog
 log_of [] = record { unsynced = replicate 8 false; failed = false }
-log_of (act ∷ older) = after act (log_of older)
+log_of (act ∷ older) = logged_after act (log_of older)

@@ -1,6 +1,6 @@
 ghost use Rattle.std.specs.Prelude.{◌≡◌, IfErr, IfSome, IsNone};
 ghost use Rattle.qs_host.specs.Exits.{IsNoFile};
-ghost use Rattle.qs_host.specs.Abouts.{Asks};
+ghost use Rattle.qs_host.specs.Abouts.{AsksAbout};
 ghost use Rattle.qs_host.specs.declared.command.About.{About as Question};
 
 use crate::start_fault::{StartFault, fault_of_words};
@@ -33,8 +33,8 @@ pub enum About {
 
 /// What the words ask a program to tell of itself: `--help` or `--version` as the only word.
 pub fn asked(words: &[String]) -> Option<About>
-    ensures some { IfSome result (Asks words.now) }
-    ensures none { IsNone result → (question : Question) → ¬ Asks words.now question }
+    ensures some { IfSome result (AsksAbout words.now) }
+    ensures none { IsNone result → (question : Question) → ¬ AsksAbout words.now question }
 {
     match words {
         [word] if word.as_str() == "--help" => Some(About::Help),

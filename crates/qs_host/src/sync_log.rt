@@ -1,6 +1,6 @@
 //! What the handles of one file know together of its syncs.
 ghost use Rattle.std.specs.Prelude.{◌≡◌, ◌<◌, false, List, []};
-ghost use Rattle.qs_host.specs.Syncs.{Act, InTurn, after, is_going, log_of, needed};
+ghost use Rattle.qs_host.specs.Syncs.{Act, InTurn, logged_after, is_going, log_of, needed};
 ghost use Rattle.qs_host.specs.Syncs.Act.{Began, Ended, Stored};
 
 /// What a sync through one handle has to do.
@@ -36,7 +36,7 @@ impl SyncLog {
     /// A store through handle `k` was done, or was tried.
     pub fn store(&mut self, k: usize)
         requires { k < 8 }
-        ensures { self.new ≡ after (Stored k) self.old }
+        ensures { self.new ≡ logged_after (Stored k) self.old }
     {
         self.unsynced[k] = true;
     }
@@ -58,14 +58,14 @@ impl SyncLog {
 
     /// A sync begins.
     pub fn begin(&mut self)
-        ensures { self.new ≡ after Began self.old }
+        ensures { self.new ≡ logged_after Began self.old }
     {
         self.unsynced = [false; 8];
     }
 
     /// The sync that went on ended, with success or without.
     pub fn end(&mut self, well: bool)
-        ensures { self.new ≡ after (Ended well) self.old }
+        ensures { self.new ≡ logged_after (Ended well) self.old }
     {
         self.failed = !well || self.failed;
     }

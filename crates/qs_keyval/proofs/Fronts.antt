@@ -1,7 +1,7 @@
 -- What stands in front of a word's first comma, and of its first item's end.
 use Rattle.std.proofs.Common.{◌≡◌, ℕ, ◌+◌, ◌-◌, ◌<◌, ◌==◌, Bool, true, false, if◌then◌else◌, List, [], ◌∷◌, ◌++◌, length, refl, ap, sym, ◌∙◌, append_assoc, arith, suc, Option, Some, None, option_map}
 use Rattle.std.proofs.lemmas.List.{append-nil, length-append}
-use Rattle.qs_keyval.specs.Cutting.{Sides, sides, in_front, split_first, comma, onto, cut, texts_of, spelled, joined, AreTexts, HasNoComma, Item, placed, trimmed, items_from}
+use Rattle.qs_keyval.specs.Cutting.{Sides, sides, in_front, split_first, comma, onto, cut, texts_of, spelled, joined, AreTexts, HasNoComma, Item, items_placed, trimmed, items_from}
 use Rattle.qs_keyval.proofs.Spelling.{prepend, prepend_none, cut_spelled, ends_item, spelled_back, stand_apart}
 
 -- a word without a comma, or with its first one behind the front
@@ -102,8 +102,8 @@ front_is : (word text next : List ℕ) → texts_of word ≡ text ∷ texts_of n
 front_is word text next e =
     let long : length word ≡ length (spelled text) + suc (length next) = ap (λ xs. length xs) (word_is word text next e) ∙ length-append (spelled text) (comma ∷ next) in
     record {
-      items = λ at. ap (λ xs. placed at (trimmed xs)) e ∙ ap (λ xs. placed at xs) (trimmed_more text (texts_of next) (stand_apart next false)) ∙
-          ap (λ n. record { at = at; text = text } ∷ placed n (trimmed (texts_of next))) (place at (length word) (length (spelled text)) (length next) long);
+      items = λ at. ap (λ xs. items_placed at (trimmed xs)) e ∙ ap (λ xs. items_placed at xs) (trimmed_more text (texts_of next) (stand_apart next false)) ∙
+          ap (λ n. record { at = at; text = text } ∷ items_placed n (trimmed (texts_of next))) (place at (length word) (length (spelled text)) (length next) long);
       shorter = omega (arith, long);
     }
 
@@ -113,7 +113,7 @@ last_text word (b ∷ text) e some = refl
 
 last_is : (word text : List ℕ) → 0 < length word → texts_of word ≡ text ∷ [] → IsFront word text []
 last_is word text some e = record {
-  items = λ at. ap (λ xs. placed at (trimmed xs)) e ∙ ap (λ xs. placed at xs) (last_text word text e some);
+  items = λ at. ap (λ xs. items_placed at (trimmed xs)) e ∙ ap (λ xs. items_placed at xs) (last_text word text e some);
   shorter = some;
 }
 

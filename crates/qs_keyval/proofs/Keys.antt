@@ -6,7 +6,7 @@ use Rattle.serde_json.specs.Data.{Members, object, put}
 use Rattle.serde_json.specs.Find.{get_member}
 use Rattle.qs_keyval.specs.declared.fault.KeyvalFault.{KeyvalFault}
 use Rattle.qs_keyval.specs.Cutting.{Sides, sides, in_front, onto, split_first}
-use Rattle.qs_keyval.specs.Reading.{HasKeyParts, dot, chain, is_key, is_key_byte, is_part, parts_of, set_at, inner_at, add}
+use Rattle.qs_keyval.specs.Reading.{HasKeyParts, dot, chain, is_dotted_key, is_key_byte, is_part, parts_of, set_at, inner_at, add}
 
 -- the parts of a key that is split so
 abbrev parts_by : List ℕ → Option Sides → List (List ℕ)
@@ -105,13 +105,13 @@ key_onto is_empty b [] some = absurd some
 key_onto true b (part ∷ parts) some = and_assoc (is_key_byte b) (list_all is_key_byte part) (list_all is_part parts)
 key_onto false b (part ∷ parts) some = and_assoc (is_key_byte b) (list_all is_key_byte part) (list_all is_part parts)
 
-key_step : (e is_empty : Bool) (b : ℕ) (key : List ℕ) → is_key true key ≡ list_all is_part (parts_of key) → is_key false key ≡ goes_on (parts_of key) →
-    (if e then not is_empty && is_key true key else is_key_byte b && is_key false key) ≡ by_parts is_empty (if e then [] ∷ parts_of key else onto b (parts_of key))
+key_step : (e is_empty : Bool) (b : ℕ) (key : List ℕ) → is_dotted_key true key ≡ list_all is_part (parts_of key) → is_dotted_key false key ≡ goes_on (parts_of key) →
+    (if e then not is_empty && is_dotted_key true key else is_key_byte b && is_dotted_key false key) ≡ by_parts is_empty (if e then [] ∷ parts_of key else onto b (parts_of key))
 key_step true true b key whole part = refl
 key_step true false b key whole part = whole
 key_step false is_empty b key whole part = ap (λ t. is_key_byte b && t) part ∙ key_onto is_empty b (parts_of key) (some_parts key)
 
-key_parts : (key : List ℕ) (is_empty : Bool) → is_key is_empty key ≡ by_parts is_empty (parts_of key)
+key_parts : (key : List ℕ) (is_empty : Bool) → is_dotted_key is_empty key ≡ by_parts is_empty (parts_of key)
 key_parts [] true = refl
 key_parts [] false = refl
 key_parts (b ∷ key) is_empty = key_step (b == dot) is_empty b key (key_parts key true) (key_parts key false)

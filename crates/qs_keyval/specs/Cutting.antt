@@ -71,9 +71,9 @@ pub record Item : Type 0 where
   pub text : List ℕ
 
 -- the texts with their places, the first at this one
-abbrev pub placed : ℕ → List (List ℕ) → List Item
-placed at [] = []
-placed at (text ∷ texts) = record { at = at; text = text } ∷ placed (at + length (spelled text) + 1) texts
+abbrev pub items_placed : ℕ → List (List ℕ) → List Item
+items_placed at [] = []
+items_placed at (text ∷ texts) = record { at = at; text = text } ∷ items_placed (at + length (spelled text) + 1) texts
 
 -- an empty text at the end is passed over
 abbrev pub trimmed : List (List ℕ) → List (List ℕ)
@@ -83,7 +83,7 @@ trimmed ([] ∷ other ∷ texts) = [] ∷ trimmed (other ∷ texts)
 trimmed ((b ∷ text) ∷ texts) = (b ∷ text) ∷ trimmed texts
 
 abbrev pub items_from : ℕ → List ℕ → List Item
-items_from at word = placed at (trimmed (texts_of word))
+items_from at word = items_placed at (trimmed (texts_of word))
 
 -- the text doesn't begin with a comma
 abbrev pub HasNoComma : List ℕ → Type 0

@@ -44,9 +44,9 @@ parts_of [] = [] ∷ []
 parts_of (b ∷ bytes) = if b == dot then [] ∷ parts_of bytes else onto b (parts_of bytes)
 
 -- each part has some bytes, all of them a key's; where the part that goes on has none yet, one is still wanted
-abbrev pub is_key : Bool → List ℕ → Bool
-is_key is_empty [] = not is_empty
-is_key is_empty (b ∷ bytes) = if b == dot then not is_empty && is_key true bytes else is_key_byte b && is_key false bytes
+abbrev pub is_dotted_key : Bool → List ℕ → Bool
+is_dotted_key is_empty [] = not is_empty
+is_dotted_key is_empty (b ∷ bytes) = if b == dot then not is_empty && is_dotted_key true bytes else is_key_byte b && is_dotted_key false bytes
 
 abbrev pub is_part : List ℕ → Bool
 is_part [] = false
@@ -54,7 +54,7 @@ is_part (b ∷ bytes) = is_key_byte b && list_all is_key_byte bytes
 
 -- a key is one or more parts, none of them empty
 abbrev pub HasKeyParts : Type 0
-HasKeyParts = (key : List ℕ) → is_key true key ≡ list_all is_part (parts_of key)
+HasKeyParts = (key : List ℕ) → is_dotted_key true key ≡ list_all is_part (parts_of key)
 
 -- the parts of an item's key, and its value
 pub record Entry : Type 0 where
@@ -68,7 +68,7 @@ alone (Some key) item = Ok (record { key = key ∷ []; value = item.text })
 
 abbrev pub keyed : Option (List ℕ) → Item → Option Sides → Result Entry KeyvalFault
 keyed implied item None = alone implied item
-keyed implied item (Some parts) = if is_key true parts.0 then Ok (record { key = parts_of parts.0; value = parts.1 }) else Err (BadKey item.at)
+keyed implied item (Some parts) = if is_dotted_key true parts.0 then Ok (record { key = parts_of parts.0; value = parts.1 }) else Err (BadKey item.at)
 
 abbrev pub entry_of : Option (List ℕ) → Item → Result Entry KeyvalFault
 entry_of implied item = if length item.text == 0 then Err (BadKey item.at) else keyed implied item (split_first equals item.text)

@@ -1,6 +1,6 @@
 ghost use Rattle.std.specs.Prelude.{◌≡◌, ◌<◌, true, option_map};
 ghost use Rattle.qs_keyval.specs.Cutting.{split_first};
-ghost use Rattle.qs_keyval.specs.Reading.{is_key, is_key_byte};
+ghost use Rattle.qs_keyval.specs.Reading.{is_dotted_key, is_key_byte};
 
 /// The text before the first such mark and the text behind it; `None` exactly where there is none.
 pub fn split_at(text: &str, mark: char) -> Option<(&str, &str)>
@@ -19,7 +19,7 @@ fn is_key_byte(byte: u8) -> bool
 
 /// Whether the text is parts of letters, digits, `-` and `_`, parted by dots.
 pub fn is_key(text: &str) -> bool
-    ensures { result ≡ is_key true text.now }
+    ensures { result ≡ is_dotted_key true text.now }
 {
     let mut is_empty = true;
     for &byte in text.as_bytes() {

@@ -5,8 +5,8 @@ use Rattle.qs_part.specs.declared.stripe.Side.TheVariants.{Head, Tail}
 use Rattle.qs_model.specs.Requests.{Client, Pads, Req, Stage, ToRoute, ToList, ToStart, ToLoad, ToHold, ToStore, ToSync, ToFree, ToEnd, Ready, Entering, In, edge, has, held, is_flush, loaded, stored, synced, hold_failed, store_failed, abandon, abandoned}
 use Rattle.qs_model.specs.Worlds.{World}
 use Rattle.qs_model.specs.Acts.{Act, Answers, Waits, Enters, Routes, Shuts, Lists, Starts, Loads, LoadFails, Holds, HoldFails, Stores, StoreFails, Syncs, Cleans, SyncFails, Frees, Ends, Element, Attached, NoExport, Crowded, Left, Detached, NotAttached, Asked, Did, Exported, Planned, Crashed, block_of}
-use Rattle.qs_model.specs.Guards.{May}
-use Rattle.qs_model.specs.Steps.{moved, leaves, happens, after, Runs}
+use Rattle.qs_model.specs.Guards.{CanCome}
+use Rattle.qs_model.specs.Steps.{moved, leaves, happens, world_after, Runs}
 use Rattle.qs_model.proofs.Basics.{choose, put_cases}
 use Rattle.qs_model.proofs.Syncing.{stored_is, synced_is}
 use Rattle.qs_model.proofs.Holders.{some_none}
@@ -30,7 +30,7 @@ next_step A w (Exported op e) r h = h
 next_step A w (Planned j fail) r h = h
 next_step A w (Crashed left) r h = h
 
-pub lasts_step : (A : ℕ) (P : Option Req → Type 0) → Lasts A P → (w : World) (e : Element) (r : ℕ) → May A w e → r < w.next → P (w.req r) → P ((happens A w e).req r)
+pub lasts_step : (A : ℕ) (P : Option Req → Type 0) → Lasts A P → (w : World) (e : Element) (r : ℕ) → CanCome A w e → r < w.next → P (w.req r) → P ((happens A w e).req r)
 lasts_step A P lasts w (Attached s name e) r may made h = h
 lasts_step A P lasts w (NoExport s name) r may made h = h
 lasts_step A P lasts w (Crowded s name) r may made h = h
@@ -44,11 +44,11 @@ lasts_step A P lasts w (Exported op e) r may made h = h
 lasts_step A P lasts w (Planned j fail) r may made h = h
 lasts_step A P lasts w (Crashed left) r may made h = lasts.gone
 
-pub next_run : (A : ℕ) (w : World) (es : List Element) (r : ℕ) → r < w.next → r < (after A w es).next
+pub next_run : (A : ℕ) (w : World) (es : List Element) (r : ℕ) → r < w.next → r < (world_after A w es).next
 next_run A w [] r h = h
 next_run A w (e ∷ es) r h = next_run A (happens A w e) es r (next_step A w e r h)
 
-pub lasts_run : (A : ℕ) (P : Option Req → Type 0) → Lasts A P → (w : World) (es : List Element) (r : ℕ) → Runs A w es → r < w.next → P (w.req r) → P ((after A w es).req r)
+pub lasts_run : (A : ℕ) (P : Option Req → Type 0) → Lasts A P → (w : World) (es : List Element) (r : ℕ) → Runs A w es → r < w.next → P (w.req r) → P ((world_after A w es).req r)
 lasts_run A P lasts w [] r run made h = h
 lasts_run A P lasts w (e ∷ es) r run made h =
     lasts_run A P lasts (happens A w e) es r run.1 (next_step A w e r made) (lasts_step A P lasts w e r run.0 made h)

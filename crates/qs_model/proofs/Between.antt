@@ -2,7 +2,7 @@
 use Rattle.std.proofs.Common.{◌≡◌, ◌≢◌, ℕ, ◌<◌, ◌⊎◌, inl, inr, Bool, true, List, [], ◌∷◌, Option, Some, None, refl, sym, ap, ◌∙◌, subst, arith}
 use Rattle.qs_bytes.specs.declared.ask.Verdict.{Verdict}
 use Rattle.qs_part.specs.declared.graph.Route.{Route}
-use Rattle.qs_model.specs.Requests.{Step, Client, Pads, Req, Stage, ToRoute, ToList, ToStart, ToLoad, ToHold, ToStore, ToSync, ToFree, ToEnd, Ready, Entering, In, asked, form_error, abandoned}
+use Rattle.qs_model.specs.Requests.{Step, Client, Pads, Req, Stage, ToRoute, ToList, ToStart, ToLoad, ToHold, ToStore, ToSync, ToFree, ToEnd, Ready, Entering, In, new_request, form_error, abandoned}
 use Rattle.qs_tracker.specs.declared.seat.Seat.{Seat}
 use Rattle.qs_tracker.specs.declared.seat.Seat.TheVariants.{Vacant, Present, Has}
 use Rattle.qs_tracker.specs.Seats.{seat_at}
@@ -10,8 +10,8 @@ use Rattle.qs_tracker.specs.Table.{TrackerValue}
 use Rattle.qs_tracker.proofs.Sound.{Sound as TrackerSound, goes_apart, lowest_starts}
 use Rattle.qs_model.specs.Worlds.{World}
 use Rattle.qs_model.specs.Acts.{Act, Answers, Waits, Enters, Routes, Shuts, Lists, Starts, Loads, LoadFails, Holds, HoldFails, Stores, StoreFails, Syncs, Cleans, SyncFails, Frees, Ends, Element, Attached, NoExport, Crowded, Left, Detached, NotAttached, Asked, Did, Exported, Planned, Crashed}
-use Rattle.qs_model.specs.Guards.{May}
-use Rattle.qs_model.specs.Steps.{moved, leaves, happens, after, Runs}
+use Rattle.qs_model.specs.Guards.{CanCome}
+use Rattle.qs_model.specs.Steps.{moved, leaves, happens, world_after, Runs}
 use Rattle.qs_model.specs.Histories.{answer_of, Acts, IsAnswer, IsAsk, IsStore, IsStoreRow, IsRouted, IsRouteRow}
 use Rattle.qs_model.specs.Laws.{Between, WasAsked, Unanswered, Writable, WasRouted, Ordered, Tracked, InFlight, Placed, InPlace}
 use Rattle.qs_model.proofs.Basics.{choose, put_here, put_tells}
@@ -22,7 +22,7 @@ use Rattle.qs_model.proofs.Kept.{step_ok, run_ok, for_moved, leaves_tells, split
 use Rattle.qs_model.proofs.Along.{gone_lasts, lasts_run, next_step, next_run}
 
 -- only an Ask makes a request
-pub appears : (A : ℕ) (w : World) (e : Element) (r : ℕ) (q : Req) → May A w e → w.req r ≡ None → (happens A w e).req r ≡ Some q → IsAsk r e
+pub appears : (A : ℕ) (w : World) (e : Element) (r : ℕ) (q : Req) → CanCome A w e → w.req r ≡ None → (happens A w e).req r ≡ Some q → IsAsk r e
 appears A w (Attached s name e) r q may none is = absurd (some_none (sym is ∙ none))
 appears A w (NoExport s name) r q may none is = absurd (some_none (sym is ∙ none))
 appears A w (Crowded s name) r q may none is = absurd (some_none (sym is ∙ none))
@@ -36,7 +36,7 @@ appears A w (Exported op e) r q may none is = absurd (some_none (sym is ∙ none
 appears A w (Planned j fail) r q may none is = absurd (some_none (sym is ∙ none))
 appears A w (Crashed left) r q may none is = absurd (some_none (sym is))
 
-pub was_asked : (A : ℕ) (w : World) (es : List Element) (r : ℕ) (q : Req) → Runs A w es → w.req r ≡ None → (after A w es).req r ≡ Some q → WasAsked r es
+pub was_asked : (A : ℕ) (w : World) (es : List Element) (r : ℕ) (q : Req) → Runs A w es → w.req r ≡ None → (world_after A w es).req r ≡ Some q → WasAsked r es
 was_asked A w [] r q run none is = absurd (some_none (sym is ∙ none))
 was_asked A w (e ∷ es) r q run none is = go ((happens A w e).req r) refl (λ n. was_asked A (happens A w e) es r q run.1 n is)
   where
@@ -50,7 +50,7 @@ answer_gone A c d p Answers v is = refl
 answer_gone A c d p Ends v is = refl
 answer_gone A c d p _ v is = absurd (some_none (sym is))
 
-pub answer_ends : (A : ℕ) (w : World) (r : ℕ) (e : Element) → Ok A w → May A w e → IsAnswer r e → ((happens A w e).req r ≡ None) × (r < w.next)
+pub answer_ends : (A : ℕ) (w : World) (r : ℕ) (e : Element) → Ok A w → CanCome A w e → IsAnswer r e → ((happens A w e).req r ≡ None) × (r < w.next)
 answer_ends A w r (Did s q act) ok may is =
     let (same, (v, answer)) = is in (
       ap (happens A w (Did s q act)).req (sym same) ∙ put_here w.req s _ ∙ answer_gone A q.client q.dropped q.pads act v answer,
@@ -58,7 +58,7 @@ answer_ends A w r (Did s q act) ok may is =
     )
 answer_ends A w r _ ok may is = absurd is
 
-pub unanswered : (A : ℕ) (w : World) (es : List Element) (r : ℕ) (q : Req) → 0 < A → Ok A w → Runs A w es → (after A w es).req r ≡ Some q → Unanswered r es
+pub unanswered : (A : ℕ) (w : World) (es : List Element) (r : ℕ) (q : Req) → 0 < A → Ok A w → Runs A w es → (world_after A w es).req r ≡ Some q → Unanswered r es
 unanswered A w [] r q pos ok run is = tt
 unanswered A w (e ∷ es) r q pos ok run is = (
   (λ answer. let (none, made) = answer_ends A w r e ok run.0 answer in
@@ -66,21 +66,21 @@ unanswered A w (e ∷ es) r q pos ok run is = (
   unanswered A (happens A w e) es r q pos (step_ok A w e pos ok run.0) run.1 is,
 )
 
-pub acts_at : (A : ℕ) (w : World) (r : ℕ) (e : Element) → May A w e → Acts r e → (q : Req) × (w.req r ≡ Some q)
+pub acts_at : (A : ℕ) (w : World) (r : ℕ) (e : Element) → CanCome A w e → Acts r e → (q : Req) × (w.req r ≡ Some q)
 acts_at A w r (Did s q act) may is = (q, ap w.req (sym is) ∙ may.0)
 acts_at A w r _ may is = absurd is
 
 -- a request that was asked is below the next
-pub asked_step : (A : ℕ) (w : World) (e : Element) (r : ℕ) → May A w e → IsAsk r e → r < (happens A w e).next
+pub asked_step : (A : ℕ) (w : World) (e : Element) (r : ℕ) → CanCome A w e → IsAsk r e → r < (happens A w e).next
 asked_step A w (Asked s c) r may is = let f : s ≡ w.next = may.next in omega arith
 asked_step A w _ r may is = absurd is
 
-pub asked_made : (A : ℕ) (w : World) (es : List Element) (r : ℕ) → Runs A w es → WasAsked r es → r < (after A w es).next
+pub asked_made : (A : ℕ) (w : World) (es : List Element) (r : ℕ) → Runs A w es → WasAsked r es → r < (world_after A w es).next
 asked_made A w [] r run was = absurd was
 asked_made A w (e ∷ es) r run (inl is) = next_run A (happens A w e) es r (asked_step A w e r run.0 is)
 asked_made A w (e ∷ es) r run (inr was) = asked_made A (happens A w e) es r run.1 was
 
-pub asks_next : (A : ℕ) (w : World) (e : Element) (r : ℕ) → May A w e → IsAsk r e → r < w.next → ⊥
+pub asks_next : (A : ℕ) (w : World) (e : Element) (r : ℕ) → CanCome A w e → IsAsk r e → r < w.next → ⊥
 asks_next A w (Asked s c) r may is old = let f : s ≡ w.next = may.next in omega arith
 asks_next A w _ r may is old = absurd is
 
@@ -88,10 +88,10 @@ pub between : (A : ℕ) (w : World) (es : List Element) → 0 < A → Ok A w →
 between A w es pos ok none run = record {
   once = λ r before e at is was.
       let (front, may) = split_run A w es before e run at in
-      asks_next A (after A w before) e r may is (asked_made A w before r front was);
+      asks_next A (world_after A w before) e r may is (asked_made A w before r front was);
   within = λ r before e at acts.
       let (front, may) = split_run A w es before e run at in
-      let (q, is) = acts_at A (after A w before) r e may acts in
+      let (q, is) = acts_at A (world_after A w before) r e may acts in
       (was_asked A w before r q front (none r) is, unanswered A w before r q pos ok front is);
 }
 
@@ -136,7 +136,7 @@ abandoned_going c (In k (ToSync s)) going = tt
 abandoned_going c (In k (ToFree side)) going = going
 abandoned_going c (In k (ToEnd v)) going = going
 
-pub asked_going : (c : Client) → IsGoing (asked c).stage → ⊥
+pub asked_going : (c : Client) → IsGoing (new_request c).stage → ⊥
 asked_going c =
     let P : Stage → Type 0 = λ g. IsGoing g → ⊥ in
     choose P (form_error c.ask) _ _ (λ e g. g) (λ e. choose P c.buffered _ _ (λ f g. g) (λ f g. g))
@@ -148,7 +148,7 @@ pub record Goer (w : World) (r : ℕ) (route : Route) : Type 0 where
   pub going : IsGoing request.stage
   pub way : request.client.route ≡ route
 
-pub goer_before : (A : ℕ) (w : World) (e : Element) (r : ℕ) (route : Route) → May A w e → Goer (happens A w e) r route → Goer w r route ⊎ IsRouted r route e
+pub goer_before : (A : ℕ) (w : World) (e : Element) (r : ℕ) (route : Route) → CanCome A w e → Goer (happens A w e) r route → Goer w r route ⊎ IsRouted r route e
 goer_before A w (Attached s name e) r route may g = inl (record { request = g.request; is = g.is; going = g.going; way = g.way })
 goer_before A w (NoExport s name) r route may g = inl g
 goer_before A w (Crowded s name) r route may g = inl g
@@ -166,7 +166,7 @@ goer_before A w (Left s e) r route may g =
 goer_before A w (Detached s e) r route may g = inl (record { request = g.request; is = g.is; going = g.going; way = g.way })
 goer_before A w (NotAttached s e) r route may g = inl g
 goer_before A w (Asked s c) r route may g = elim (put_tells w.req s _ r (Some g.request) g.is) [
-  | inl e ↦ absurd (asked_going c (subst (λ (x : Req). IsGoing x.stage) (sym (inside (asked c) g.request e.1)) g.going))
+  | inl e ↦ absurd (asked_going c (subst (λ (x : Req). IsGoing x.stage) (sym (inside (new_request c) g.request e.1)) g.going))
   | inr e ↦ inl (record { request = g.request; is = e.1; going = g.going; way = g.way })
 ]
   where
@@ -184,7 +184,7 @@ goer_before A w (Exported op e) r route may g = inl (record { request = g.reques
 goer_before A w (Planned j fail) r route may g = inl (record { request = g.request; is = g.is; going = g.going; way = g.way })
 goer_before A w (Crashed left) r route may g = absurd (some_none (sym g.is))
 
-pub was_routed : (A : ℕ) (w : World) (es : List Element) (r : ℕ) (route : Route) → Runs A w es → Goer (after A w es) r route → Goer w r route ⊎ WasRouted r route es
+pub was_routed : (A : ℕ) (w : World) (es : List Element) (r : ℕ) (route : Route) → Runs A w es → Goer (world_after A w es) r route → Goer w r route ⊎ WasRouted r route es
 was_routed A w [] r route run g = inl g
 was_routed A w (e ∷ es) r route run g = elim (was_routed A (happens A w e) es r route run.1 g) [
   | inl h ↦ elim (goer_before A w e r route run.0 h) [ inl k ↦ inl k | inr k ↦ inr (inl k) ]
@@ -197,7 +197,7 @@ store_row A c (Stores bytes past) fit is = (fit.sound.writable fit.writing, tt)
 store_row A c (StoreFails bytes took past) fit is = (fit.sound.writable fit.writing, tt)
 store_row A c _ fit is = absurd is
 
-pub store_at : (A : ℕ) (w : World) (r : ℕ) (c : Client) (e : Element) → Ok A w → May A w e → IsStore r c e → (c.route.writable ≡ true) × Goer w r c.route
+pub store_at : (A : ℕ) (w : World) (r : ℕ) (c : Client) (e : Element) → Ok A w → CanCome A w e → IsStore r c e → (c.route.writable ≡ true) × Goer w r c.route
 store_at A w r c (Did s q act) ok may is =
     let (same, client, row) = is in
     let (writable, going) = store_row A q.client act (ok.well s q may.0).shaped row in (
@@ -209,7 +209,7 @@ store_at A w r c _ ok may is = absurd is
 pub writable : (A : ℕ) (w : World) (es : List Element) → 0 < A → Ok A w → ((r : ℕ) → w.req r ≡ None) → Runs A w es → Writable es
 writable A w es pos ok none run r c before e at store =
     let (front, may) = split_run A w es before e run at in
-    let (may_write, goer) = store_at A (after A w before) r c e (run_ok A w before pos ok front) may store in
+    let (may_write, goer) = store_at A (world_after A w before) r c e (run_ok A w before pos ok front) may store in
     (may_write, elim (was_routed A w before r c.route front goer) [ inl g ↦ absurd (some_none (sym g.is ∙ none r)) | inr h ↦ h ])
 
 -- the listed spans
@@ -254,4 +254,4 @@ placed A w ok = record {
         (o.number, record { request = o.request; step = step; is = o.is; stage = is })
 
 pub in_place : (A : ℕ) (w : World) (es : List Element) → 0 < A → Ok A w → Runs A w es → InPlace A w es
-in_place A w es pos ok run before at = placed A (after A w before) (run_ok A w before pos ok (front_run A w es before run at))
+in_place A w es pos ok run before at = placed A (world_after A w before) (run_ok A w before pos ok (front_run A w es before run at))

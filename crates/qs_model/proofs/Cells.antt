@@ -9,8 +9,8 @@ use Rattle.qs_model.specs.Puts.{put}
 use Rattle.qs_model.specs.Requests.{Client, Pads, Stage, ToStore, In, edge, pad, covers, writes, reads, body_at}
 use Rattle.qs_model.specs.Worlds.{Image, World, byte_at}
 use Rattle.qs_model.specs.Acts.{Act, Loads, Stores, StoreFails, Element, Attached, NoExport, Crowded, Left, Detached, NotAttached, Asked, Did, Exported, Planned, Crashed}
-use Rattle.qs_model.specs.Guards.{MayDo, May, CanStore}
-use Rattle.qs_model.specs.Steps.{imaged, happens, after, Runs}
+use Rattle.qs_model.specs.Guards.{MayDo, CanCome, CanStore}
+use Rattle.qs_model.specs.Steps.{imaged, happens, world_after, Runs}
 use Rattle.qs_model.specs.Histories.{cell_of, cell_at, cell, reads_in, writes_in, IsStoreOf}
 use Rattle.qs_model.specs.Laws.{Alters, Covered, Histories}
 use Rattle.qs_model.proofs.Basics.{choose, put_here, put_other, same_or, block_at, block_low, block_high}
@@ -132,7 +132,7 @@ row_leads A x r w c p (StoreFails {k = k} {b = b} bytes false past) pos told fit
     (λ e. leads_none _ _ same)
 row_leads A x r w c p _ pos told fit kept may = leads_none _ _ refl
 
-pub step_leads : (A x : ℕ) (w : World) (e : Element) → 0 < A → IsTrue w.tells → Ok A w → May A w e →
+pub step_leads : (A x : ℕ) (w : World) (e : Element) → 0 < A → IsTrue w.tells → Ok A w → CanCome A w e →
     Leads (byte_at A w.image x) (byte_at A (happens A w e).image x) (cell_at A x e)
 step_leads A x w (Did r q act) pos told ok may =
     row_leads A x r w q.client q.pads act pos told (ok.well r q may.0).shaped (ok.well r q may.0).kept may.1
@@ -156,16 +156,16 @@ still_tells A w (Crashed left) = refl
 pub told_still : (A : ℕ) (w : World) (e : Element) → IsTrue w.tells → IsTrue (happens A w e).tells
 told_still A w e told = subst (λ (t : Bool). IsTrue t) (sym (still_tells A w e)) told
 
-pub told_run : (A : ℕ) (w : World) (es : List Element) → IsTrue w.tells → IsTrue (after A w es).tells
+pub told_run : (A : ℕ) (w : World) (es : List Element) → IsTrue w.tells → IsTrue (world_after A w es).tells
 told_run A w [] told = told
 told_run A w (e ∷ es) told = told_run A (happens A w e) es (told_still A w e told)
 
 pub run_leads : (A x : ℕ) (w : World) (es : List Element) → 0 < A → IsTrue w.tells → Ok A w → Runs A w es →
-    Leads (byte_at A w.image x) (byte_at A (after A w es).image x) (cell A x es)
+    Leads (byte_at A w.image x) (byte_at A (world_after A w es).image x) (cell A x es)
 run_leads A x w [] pos told ok run = leads_none _ _ refl
 run_leads A x w (e ∷ es) pos told ok run =
     let here : Leads (byte_at A w.image x) (byte_at A (happens A w e).image x) (cell_at A x e) = step_leads A x w e pos told ok run.0 in
-    let rest : Leads (byte_at A (happens A w e).image x) (byte_at A (after A (happens A w e) es).image x) (cell A x es) =
+    let rest : Leads (byte_at A (happens A w e).image x) (byte_at A (world_after A (happens A w e) es).image x) (cell A x es) =
     run_leads A x (happens A w e) es pos (told_still A w e told) (step_ok A w e pos ok run.0) run.1 in
     let from : byte_at A (happens A w e).image x ≡ value_after (byte_at A w.image x) (cell_at A x e) = here.leaves in
     record {
@@ -195,6 +195,6 @@ covered A w es pos told ok run = record {
   still = λ x before e at none.
       let (front, may) = split_run A w es before e run at in
       ap (λ (v : World). byte_at A v.image x) (after_append A w before (e ∷ []))
-      ∙ (step_leads A x (after A w before) e pos (told_run A w before told) (run_ok A w before pos ok front) may).leaves
+      ∙ (step_leads A x (world_after A w before) e pos (told_run A w before told) (run_ok A w before pos ok front) may).leaves
       ∙ step_still A x _ e none;
 }

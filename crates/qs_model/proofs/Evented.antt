@@ -9,9 +9,9 @@ use Rattle.qs_part.specs.declared.event.Outcome.{Outcome}
 use Rattle.qs_model.specs.Requests.{brings_bytes, Client, Pads, Stage, ToList, ToStart, ToHold, ToStore, ToFree, ToEnd, Entering, In}
 use Rattle.qs_model.specs.Worlds.{World}
 use Rattle.qs_model.specs.Acts.{Act, Answers, Waits, Enters, Routes, Shuts, Lists, Starts, Loads, LoadFails, Holds, HoldFails, Stores, StoreFails, Syncs, Cleans, SyncFails, Frees, Ends, Wait, Quiesced, Full, NotYet, HeldBy, Taken, Strange, NotHeld, Element, Attached, NoExport, Crowded, Left, Detached, NotAttached, Asked, Did, Exported, Planned, Crashed}
-use Rattle.qs_model.specs.Guards.{CanAsk, MayWait, MayDo, May}
-use Rattle.qs_model.specs.Steps.{after, Runs}
-use Rattle.qs_model.specs.Events.{Brings, row_outcome, moved_out, wait_note, outcome_of, IsEvent}
+use Rattle.qs_model.specs.Guards.{CanAsk, MayWait, MayDo, CanCome}
+use Rattle.qs_model.specs.Steps.{world_after, Runs}
+use Rattle.qs_model.specs.Events.{BringsBytes, row_outcome, moved_out, wait_note, outcome_of, IsEvent}
 use Rattle.qs_model.specs.Laws.{Evented, IsOutside}
 use Rattle.qs_model.proofs.Basics.{either}
 use Rattle.qs_model.proofs.Kept.{split_run}
@@ -51,7 +51,7 @@ act_outcome A w c d p Frees may = (_, refl)
 act_outcome A w c d p Ends may = (_, refl)
 
 -- the body that came with a request
-asked_brings : (w : World) (r : ℕ) (c : Client) → CanAsk w r c → (body : Option (List ℕ)) × Brings body c
+asked_brings : (w : World) (r : ℕ) (c : Client) → CanAsk w r c → (body : Option (List ℕ)) × BringsBytes body c
 asked_brings w r c can = elim (either (brings_bytes c.ask.kind)) [
   | inl writing ↦ elim (either c.buffered) [
     | inl given ↦ whole (can.body writing given)
@@ -66,14 +66,14 @@ asked_brings w r c can = elim (either (brings_bytes c.ask.kind)) [
   ]
 ]
   where
-    whole : length c.body ≡ c.ask.length → (body : Option (List ℕ)) × Brings body c
+    whole : length c.body ≡ c.ask.length → (body : Option (List ℕ)) × BringsBytes body c
     whole is = (Some c.body, inl (is, λ writing. refl))
 
 -- a step of an event, with its outcome
 abbrev pub Told : ℕ → Element → Type 0
 Told A e = (event : Event) × (outcome : Outcome) × (IsEvent event e × (outcome_of A e ≡ Some outcome))
 
-pub step_evented : (A : ℕ) (w : World) (e : Element) → May A w e → IsOutside e ⊎ Told A e
+pub step_evented : (A : ℕ) (w : World) (e : Element) → CanCome A w e → IsOutside e ⊎ Told A e
 step_evented A w (Attached s name info) may = inr (Attach s name, _, ((refl, refl), refl))
 step_evented A w (NoExport s name) may = inr (Attach s name, _, ((refl, refl), refl))
 step_evented A w (Crowded s name) may = inr (Attach s name, _, ((refl, refl), refl))
@@ -90,4 +90,4 @@ step_evented A w (Crashed left) may = inl tt
 
 -- the law
 pub evented : (A : ℕ) (w : World) (es : List Element) → Runs A w es → Evented A es
-evented A w es run before e at = step_evented A (after A w before) e (split_run A w es before e run at).1
+evented A w es run before e at = step_evented A (world_after A w before) e (split_run A w es before e run at).1

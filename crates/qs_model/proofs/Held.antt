@@ -9,7 +9,7 @@ use Rattle.qs_model.specs.Requests.{Client, Pads, Step, Stage, ToRoute, ToList, 
 use Rattle.qs_model.specs.Worlds.{Image, World}
 use Rattle.qs_model.specs.Acts.{Act, Answers, Waits, Enters, Routes, Shuts, Lists, Starts, Loads, LoadFails, Holds, HoldFails, Stores, StoreFails, Syncs, Cleans, SyncFails, Frees, Ends}
 use Rattle.qs_model.specs.Guards.{MayDo, CanRead}
-use Rattle.qs_model.specs.Steps.{moved, imaged, settled}
+use Rattle.qs_model.specs.Steps.{moved, imaged, stripe_settled}
 use Rattle.qs_model.proofs.Basics.{choose, put_here, put_other}
 use Rattle.qs_model.proofs.Syncing.{stored_is, synced_is}
 use Rattle.qs_model.proofs.Geometry.{Reaches, tail_other}
@@ -154,7 +154,7 @@ own_kept A w c d p (Stores {k = k} {b = b} bytes past) fit kept may =
     stored_keeps A w.tells w.image _ c p k b (λ n other. (put_other w.image.holder b None n other, put_other w.image.now b bytes n other)) fit.reach kept
 own_kept A w c d p (StoreFails {k = k} {b = b} bytes took past) fit kept may =
     store_failed_keeps A w.tells w.image _ c p k b (λ n other. (put_other w.image.holder b None n other, put_other w.image.now b _ n other)) kept
-own_kept A w c d p (Syncs {k = k} {s = s}) fit kept may = bare_keeps A w.tells (settled w.image s) c p k (synced A c s) (synced_bare A c s)
+own_kept A w c d p (Syncs {k = k} {s = s}) fit kept may = bare_keeps A w.tells (stripe_settled w.image s) c p k (synced A c s) (synced_bare A c s)
 own_kept A w c d p (Cleans {k = k} {s = s}) fit kept may = bare_keeps A w.tells w.image c p k (synced A c s) (synced_bare A c s)
 own_kept A w c d p (SyncFails {k = k}) fit kept may = bare_keeps A w.tells w.image c p k (ToEnd (Refused Io)) tt
 own_kept A w c d p (Frees {k = k} {side = side}) fit kept may =

@@ -18,11 +18,11 @@ use Rattle.qs_tracker.proofs.Rows.{free_place}
 use Rattle.qs_tracker.proofs.Seats.{nobody}
 use Rattle.qs_tracker.proofs.Sound.{fresh_sound}
 use Rattle.qs_model.specs.Puts.{put, without}
-use Rattle.qs_model.specs.Requests.{Client, Pads, Req, Step, Stage, ToRoute, ToList, ToStart, ToLoad, ToHold, ToStore, ToSync, ToFree, ToEnd, Ready, Entering, In, edge, is_known, is_read, is_flush, form_error, asked, abandoned, abandon}
+use Rattle.qs_model.specs.Requests.{Client, Pads, Req, Step, Stage, ToRoute, ToList, ToStart, ToLoad, ToHold, ToStore, ToSync, ToFree, ToEnd, Ready, Entering, In, edge, is_known, is_read, is_flush, form_error, new_request, abandoned, abandon}
 use Rattle.qs_model.specs.Worlds.{Hold, Image, Session, Away, Live, Leaving, World, Opening, new_world}
 use Rattle.qs_model.specs.Acts.{Act, Answers, Waits, Enters, Routes, Shuts, Lists, Starts, Loads, LoadFails, Holds, HoldFails, Stores, StoreFails, Syncs, Cleans, SyncFails, Frees, Ends, Element, Attached, NoExport, Crowded, Left, Detached, NotAttached, Asked, Did, Exported, Planned, Crashed}
-use Rattle.qs_model.specs.Guards.{MayDo, May, CanAsk}
-use Rattle.qs_model.specs.Steps.{moved, tracked, imaged, leaves, happens, crashed, after, Runs}
+use Rattle.qs_model.specs.Guards.{MayDo, CanCome, CanAsk}
+use Rattle.qs_model.specs.Steps.{moved, tracked, imaged, leaves, happens, crashed, world_after, Runs}
 use Rattle.qs_model.specs.Laws.{ComesBehind, Begins}
 use Rattle.qs_model.proofs.Basics.{choose, put_here, put_other, put_tells, put_cases, same_or}
 use Rattle.qs_model.proofs.Facts.{Fit, Shaped, Seated, Seats, Held, Keeps, Well, IsHolder, Owner, Manned, IsAt, IsClient, Among, Ok}
@@ -210,7 +210,7 @@ did_manned A w r q act ok here may j taken = elim (taken_before A w q.client q.p
       | inr n ↦ record { number = o.number; request = o.request; is = put_other w.req r _ o.number n ∙ o.is; at = o.at }
     ]
 
-pub did_ok : (A : ℕ) (w : World) (r : ℕ) (q : Req) (act : Act q.stage) → 0 < A → Ok A w → May A w (Did r q act) → Ok A (happens A w (Did r q act))
+pub did_ok : (A : ℕ) (w : World) (r : ℕ) (q : Req) (act : Act q.stage) → 0 < A → Ok A w → CanCome A w (Did r q act) → Ok A (happens A w (Did r q act))
 did_ok A w r q act pos ok may = record {
   below = λ s x is. elim (put_tells w.req r _ s (Some x) is) [
     | inl e ↦ subst (λ (n : ℕ). n < w.next) (sym e.0) (ok.below r q may.0)
@@ -236,13 +236,13 @@ kind_of a none = go (is_known a.kind) (not a.flags_fit) (is_read a.kind && nat_l
     go true x y e = refl
     go false x y e = absurd (true≢false e)
 
-pub asked_well : (A : ℕ) (w : World) (c : Client) → Well A w.tells w.tracker w.image (asked c)
+pub asked_well : (A : ℕ) (w : World) (c : Client) → Well A w.tells w.tracker w.image (new_request c)
 asked_well A w c =
     let P : Stage → Type 0 = λ g. Well A w.tells w.tracker w.image (record { client = c; dropped = false; pads = record { head = []; tail = [] }; stage = g }) in
     choose P (form_error c.ask) _ _ (λ e. record { shaped = tt; seated = tt; kept = tt })
     (λ e. choose P c.buffered _ _ (λ f. record { shaped = kind_of c.ask e; seated = tt; kept = tt }) (λ f. record { shaped = tt; seated = tt; kept = tt }))
 
-pub asked_nowhere : (c : Client) (k : ℕ) → IsAt (asked c).stage k → ⊥
+pub asked_nowhere : (c : Client) (k : ℕ) → IsAt (new_request c).stage k → ⊥
 asked_nowhere c k =
     let P : Stage → Type 0 = λ g. IsAt g k → ⊥ in
     choose P (form_error c.ask) _ _ (λ e at. at) (λ e. choose P c.buffered _ _ (λ f at. at) (λ f at. at))
@@ -254,13 +254,13 @@ asked_ok A w r c ok can = record {
     | inr e ↦ let lt : s < w.next = ok.below s x e.1 in omega arith
   ];
   well = λ s x is. elim (put_tells w.req r _ s (Some x) is) [
-    | inl e ↦ subst (λ (q : Req). Well A w.tells w.tracker w.image q) (inside (asked c) x e.1) (asked_well A w c)
+    | inl e ↦ subst (λ (q : Req). Well A w.tells w.tracker w.image q) (inside (new_request c) x e.1) (asked_well A w c)
     | inr e ↦ ok.well s x e.1
   ];
   one = λ s u x y k a b at bt. elim (put_tells w.req r _ s (Some x) a) [
-    | inl e ↦ absurd (asked_nowhere c k (subst (λ (q : Req). IsAt q.stage k) (sym (inside (asked c) x e.1)) at))
+    | inl e ↦ absurd (asked_nowhere c k (subst (λ (q : Req). IsAt q.stage k) (sym (inside (new_request c) x e.1)) at))
     | inr e ↦ elim (put_tells w.req r _ u (Some y) b) [
-      | inl f ↦ absurd (asked_nowhere c k (subst (λ (q : Req). IsAt q.stage k) (sym (inside (asked c) y f.1)) bt))
+      | inl f ↦ absurd (asked_nowhere c k (subst (λ (q : Req). IsAt q.stage k) (sym (inside (new_request c) y f.1)) bt))
       | inr f ↦ ok.one s u x y k e.1 f.1 at bt
     ]
   ];
@@ -496,7 +496,7 @@ aside_ok A w graph plans ok same = record {
 }
 
 -- every step keeps the facts
-pub step_ok : (A : ℕ) (w : World) (e : Element) → 0 < A → Ok A w → May A w e → Ok A (happens A w e)
+pub step_ok : (A : ℕ) (w : World) (e : Element) → 0 < A → Ok A w → CanCome A w e → Ok A (happens A w e)
 step_ok A w (Attached s name info) pos ok may = attached_ok A w s name info ok may.1.0
 step_ok A w (NoExport s name) pos ok may = ok
 step_ok A w (Crowded s name) pos ok may = ok
@@ -510,7 +510,7 @@ step_ok A w (Planned j fail) pos ok may = aside_ok A w w.graph (put w.plans j (p
 step_ok A w (Crashed left) pos ok may = new_ok A w.next (crashed w left)
 
 -- and so does every run
-pub run_ok : (A : ℕ) (w : World) (es : List Element) → 0 < A → Ok A w → Runs A w es → Ok A (after A w es)
+pub run_ok : (A : ℕ) (w : World) (es : List Element) → 0 < A → Ok A w → Runs A w es → Ok A (world_after A w es)
 run_ok A w [] pos ok run = ok
 run_ok A w (e ∷ es) pos ok run = run_ok A (happens A w e) es pos (step_ok A w e pos ok run.0) run.1
 
@@ -519,17 +519,17 @@ pub runs_front : (A : ℕ) (w : World) (xs ys : List Element) → Runs A w (xs +
 runs_front A w [] ys run = tt
 runs_front A w (e ∷ xs) ys run = (run.0, runs_front A (happens A w e) xs ys run.1)
 
-pub runs_back : (A : ℕ) (w : World) (xs ys : List Element) → Runs A w (xs ++ ys) → Runs A (after A w xs) ys
+pub runs_back : (A : ℕ) (w : World) (xs ys : List Element) → Runs A w (xs ++ ys) → Runs A (world_after A w xs) ys
 runs_back A w [] ys run = run
 runs_back A w (e ∷ xs) ys run = runs_back A (happens A w e) xs ys run.1
 
-pub after_append : (A : ℕ) (w : World) (xs ys : List Element) → after A w (xs ++ ys) ≡ after A (after A w xs) ys
+pub after_append : (A : ℕ) (w : World) (xs ys : List Element) → world_after A w (xs ++ ys) ≡ world_after A (world_after A w xs) ys
 after_append A w [] ys = refl
 after_append A w (e ∷ xs) ys = after_append A (happens A w e) xs ys
 
 -- the steps before one of a run, and that it may happen there
 pub split_run : (A : ℕ) (w : World) (es before : List Element) (e : Element) → Runs A w es → ComesBehind before e es →
-    Runs A w before × May A (after A w before) e
+    Runs A w before × CanCome A (world_after A w before) e
 split_run A w es before e run at =
     let whole : Runs A w (before ++ e ∷ at.0) = subst (λ (l : List Element). Runs A w l) at.1 run in
     (runs_front A w before (e ∷ at.0) whole, (runs_back A w before (e ∷ at.0) whole).0)

@@ -8,8 +8,8 @@ use Rattle.qs_tracker.specs.declared.seat.Seat.{Seat}
 use Rattle.qs_tracker.specs.Table.{MayStart}
 use Rattle.qs_model.specs.Worlds.{Session, Leaving, World}
 use Rattle.qs_model.specs.Acts.{Act, Waits, Wait, Quiesced, Full, NotYet, HeldBy, Taken, Strange, NotHeld, Element, NotAttached, Did}
-use Rattle.qs_model.specs.Guards.{MayWait, MayDo, May}
-use Rattle.qs_model.specs.Steps.{after, Runs}
+use Rattle.qs_model.specs.Guards.{MayWait, MayDo, CanCome}
+use Rattle.qs_model.specs.Steps.{world_after, Runs}
 use Rattle.qs_model.specs.Histories.{IsOdd, IsOddRow, IsOddStep}
 use Rattle.qs_model.specs.Laws.{NeverOdd}
 use Rattle.qs_model.proofs.Geometry.{reaches_edge, tail_other}
@@ -93,7 +93,7 @@ pub among_some : (s : ℕ) (xs : List ℕ) → Among s xs → length xs ≢ 0
 among_some s [] among is = among
 among_some s (x ∷ xs) among is = omega arith
 
-pub step_never : (A : ℕ) (w : World) (e : Element) → 0 < A → Ok A w → May A w e → IsOddStep e → ⊥
+pub step_never : (A : ℕ) (w : World) (e : Element) → 0 < A → Ok A w → CanCome A w e → IsOddStep e → ⊥
 step_never A w (Did r q act) pos ok may odd = row_never A w r q.client q.dropped q.pads act pos ok may.0 may.1 odd
 step_never A w (NotAttached s e) pos ok may odd =
     among_some s (w.clients e) (ok.sessions s e (leaving_client (w.session s) e may.0.0)) (ok.counts e ∙ may.1)
@@ -103,4 +103,4 @@ step_never A w _ pos ok may odd = odd
 pub never_odd : (A : ℕ) (w : World) (es : List Element) → 0 < A → Ok A w → Runs A w es → NeverOdd es
 never_odd A w es pos ok run before e at odd =
     let (front, may) = split_run A w es before e run at in
-    step_never A (after A w before) e pos (run_ok A w before pos ok front) may odd
+    step_never A (world_after A w before) e pos (run_ok A w before pos ok front) may odd

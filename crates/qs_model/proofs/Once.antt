@@ -5,7 +5,7 @@ use Rattle.std.proofs.lemmas.List.{get_or_append_left, get_or-append-add, get_or
 use Rattle.qs_cells.specs.declared.cell.CellEntry.{CellEntry}
 use Rattle.qs_part.specs.declared.stripe.Side.TheVariants.{Head}
 use Rattle.qs_model.specs.Requests.{Client, edge, span_of, covers, piece}
-use Rattle.qs_model.specs.Histories.{is_of}
+use Rattle.qs_model.specs.Histories.{is_entry_of}
 use Rattle.qs_model.proofs.Basics.{block_at, block_low, block_high}
 use Rattle.qs_model.proofs.Geometry.{Reaches, covered_reached, covers_low, covers_high, same_eqb}
 use Rattle.qs_model.proofs.Facts.{Loading}
@@ -56,8 +56,8 @@ pub from_first : (A : ℕ) (c : Client) (x : ℕ) (all es : List CellEntry) → 
 from_first A c x all es pos is h = h ∙ ap (λ (t : Bool). cond t [] all) (lt_false (x / A) (edge A c Head) (place_reached A c x pos is).first)
 
 -- the one entry of a row, where it is of the byte's block
-pub entry_here : (r : ℕ) (e f : CellEntry) (a b t : Bool) → a ≡ true → b ≡ true → is_of r e ≡ true → (t ≡ true → e ≡ f) →
-    filter (is_of r) (cond (a && b && t) (e ∷ []) []) ≡ cond t (f ∷ []) []
+pub entry_here : (r : ℕ) (e f : CellEntry) (a b t : Bool) → a ≡ true → b ≡ true → is_entry_of r e ≡ true → (t ≡ true → e ≡ f) →
+    filter (is_entry_of r) (cond (a && b && t) (e ∷ []) []) ≡ cond t (f ∷ []) []
 entry_here r e f true true true p q own same = ap (λ (u : Bool). cond u (e ∷ []) []) own ∙ ap (λ (g : CellEntry). g ∷ []) (same refl)
 entry_here r e f true true false p q own same = refl
 entry_here r e f true false t p q own same = absurd (true≢false (sym q))

@@ -3,7 +3,7 @@ use Rattle.std.proofs.Common.{◌≡◌, ◌≢◌, ℕ, zero, suc, ◌<◌, inl
 use Rattle.std.specs.List.{filter_map, slice_set}
 use Rattle.qs_part.specs.declared.stripe.Side.{Side}
 use Rattle.qs_part.specs.declared.stripe.Side.TheVariants.{Head, Tail}
-use Rattle.qs_graph.specs.Exports.{made}
+use Rattle.qs_graph.specs.Exports.{new_export}
 use Rattle.qs_tracker.specs.declared.seat.Listing.{Listing}
 use Rattle.qs_tracker.specs.declared.seat.Seat.{Seat}
 use Rattle.qs_tracker.specs.declared.seat.Seat.TheVariants.{Vacant, Present, Has}
@@ -12,18 +12,18 @@ use Rattle.qs_tracker.proofs.Seats.{at_set, nobody}
 use Rattle.qs_model.specs.Puts.{put}
 use Rattle.qs_model.specs.Requests.{edge, has, serial, routed, held, started, stored, merged_at}
 use Rattle.qs_model.specs.Worlds.{Hold}
-use Rattle.qs_model.specs.Steps.{after, Runs}
-use Rattle.qs_model.specs.Laws.{opening}
+use Rattle.qs_model.specs.Steps.{world_after, Runs}
+use Rattle.qs_model.specs.Laws.{opening_world}
 use Rattle.qs_model.specs.Events.{outcome_of}
-use Rattle.qs_model.specs.Example.{zeros, opened, whole, client, pads, padded, answers}
+use Rattle.qs_model.specs.Example.{zeros, padded_opening, image_route, example_client, pads, padded, example_outcomes}
 use Rattle.qs_model.proofs.Holders.{some_none}
 use Rattle.qs_model.proofs.Basics.{put_tells}
 
-pub padded_answers : filter_map (outcome_of 4) padded ≡ answers
+pub padded_answers : filter_map (outcome_of 4) padded ≡ example_outcomes
 unfolding edge
 padded_answers = refl
 
-pub merged_first : (x : ℕ) → x < 4 → get_or (0 ∷ 0 ∷ 0 ∷ 7 ∷ []) x 0 ≡ merged_at 4 (client whole) (pads zeros zeros) 0 x
+pub merged_first : (x : ℕ) → x < 4 → get_or (0 ∷ 0 ∷ 0 ∷ 7 ∷ []) x 0 ≡ merged_at 4 (example_client image_route) (pads zeros zeros) 0 x
 unfolding edge
 merged_first zero h = refl
 merged_first (suc zero) h = refl
@@ -31,7 +31,7 @@ merged_first (suc (suc zero)) h = refl
 merged_first (suc (suc (suc zero))) h = refl
 merged_first (suc (suc (suc (suc x)))) h = absurd (omega arith)
 
-pub merged_second : (x : ℕ) → x < 4 → get_or (8 ∷ 0 ∷ 0 ∷ 0 ∷ []) x 0 ≡ merged_at 4 (client whole) (pads zeros zeros) 1 x
+pub merged_second : (x : ℕ) → x < 4 → get_or (8 ∷ 0 ∷ 0 ∷ 0 ∷ []) x 0 ≡ merged_at 4 (example_client image_route) (pads zeros zeros) 1 x
 unfolding edge
 merged_second zero h = refl
 merged_second (suc zero) h = refl
@@ -70,7 +70,7 @@ alone l j =
     (subst (λ (s : Seat). Precedes s l → ⊥) (sym (nobody 256 j)) (λ p. p)) (λ _ p. p))
     (λ _ p. omega (arith, p.0))
 
-pub padded_runs : Runs 4 (opening opened) padded
+pub padded_runs : Runs 4 (opening_world padded_opening) padded
 unfolding put edge has serial routed held started stored
 padded_runs = (
   ((((refl, refl), refl), refl), refl),
@@ -81,7 +81,7 @@ padded_runs = (
       (
         (refl, (refl, refl)),
         (
-          (refl, (record (made (101 ∷ []) (100 ∷ []) true false) { clients = 1 }, (refl, refl))),
+          (refl, (record (new_export (101 ∷ []) (100 ∷ []) true false) { clients = 1 }, (refl, refl))),
           (
             (refl, (refl, refl)),
             (
@@ -110,6 +110,6 @@ padded_runs = (
   ),
 )
 
-pub padded_blocks : ((after 4 (opening opened) padded).image.now 0 ≡ 0 ∷ 0 ∷ 0 ∷ 7 ∷ []) × ((after 4 (opening opened) padded).image.now 1 ≡ 8 ∷ 0 ∷ 0 ∷ 0 ∷ [])
+pub padded_blocks : ((world_after 4 (opening_world padded_opening) padded).image.now 0 ≡ 0 ∷ 0 ∷ 0 ∷ 7 ∷ []) × ((world_after 4 (opening_world padded_opening) padded).image.now 1 ≡ 8 ∷ 0 ∷ 0 ∷ 0 ∷ [])
 unfolding put edge
 padded_blocks = (refl, refl)

@@ -4,15 +4,15 @@ use Rattle.qs_part.specs.declared.graph.GraphOp.{GraphOp}
 use Rattle.qs_part.specs.declared.graph.GraphOp.TheVariants.{ExportAdd, Find, Attach, Detach, Route}
 use Rattle.qs_part.specs.declared.graph.GraphReply.TheVariants.{Added}
 use Rattle.qs_graph.specs.declared.export.Export.{Export}
-use Rattle.qs_graph.specs.Exports.{counted, export_at, made}
-use Rattle.qs_graph.specs.Table.{GraphValue, May as GraphMay, after as graph_after, placed}
+use Rattle.qs_graph.specs.Exports.{clients_counted, export_at, new_export}
+use Rattle.qs_graph.specs.Table.{GraphValue, May as GraphMay, after as graph_after, export_placed}
 use Rattle.qs_graph.proofs.Standing.{at_set, nobody}
-use Rattle.qs_model.specs.Requests.{Client, Pads, Req, Stage, abandon, asked}
+use Rattle.qs_model.specs.Requests.{Client, Pads, Req, Stage, abandon, new_request}
 use Rattle.qs_model.specs.Worlds.{World, Opening, new_world}
 use Rattle.qs_model.specs.Acts.{Act, Answers, Waits, Enters, Routes, Shuts, Lists, Starts, Loads, LoadFails, Holds, HoldFails, Stores, StoreFails, Syncs, Cleans, SyncFails, Frees, Ends, Element, Attached, NoExport, Crowded, Left, Detached, NotAttached, Asked, Did, Exported, Planned, Crashed}
-use Rattle.qs_model.specs.Guards.{MayDo, May}
+use Rattle.qs_model.specs.Guards.{MayDo, CanCome}
 use Rattle.qs_model.specs.Histories.{IsStoreRow}
-use Rattle.qs_model.specs.Steps.{crashed, moved, leaves, happens, after, Runs}
+use Rattle.qs_model.specs.Steps.{crashed, moved, leaves, happens, world_after, Runs}
 use Rattle.qs_model.specs.Laws.{NoStore}
 use Rattle.qs_model.proofs.Basics.{choose, put_tells}
 use Rattle.qs_model.proofs.Facts.{Shaped, Ok}
@@ -39,17 +39,17 @@ record GraphBarred (v : GraphValue) : Type 0 where
 of_graph : (w : World) → Barred w → GraphBarred w.graph
 of_graph w h = record { read_only = h.read_only; exports = h.exports }
 
-placed_barred : (v : GraphValue) (e : ℕ) (p : Option Export) → GraphBarred v → IsBarred p → GraphBarred (placed v e p)
+placed_barred : (v : GraphValue) (e : ℕ) (p : Option Export) → GraphBarred v → IsBarred p → GraphBarred (export_placed v e p)
 placed_barred v e p h new = record { read_only = h.read_only; exports = λ d. at_set IsBarred v.places e p d (h.exports d) (λ _. new) }
 
-counted_barred : (p : Option Export) (n : ℕ) → IsBarred p → IsBarred (counted p n)
+counted_barred : (p : Option Export) (n : ℕ) → IsBarred p → IsBarred (clients_counted p n)
 counted_barred None n h = tt
 counted_barred (Some x) n h = h
 
 -- a new export over a read-only file node isn't writable
 added_barred : (v : GraphValue) (op : GraphOp) (e : ℕ) → GraphMay v op (Added e) → GraphBarred v → GraphBarred (graph_after v op (Added e))
 added_barred v (ExportAdd id name node writable share) e may h =
-    placed_barred v e (Some (made id name writable share)) h (closed writable v.read_only may.0.0.1 h.read_only)
+    placed_barred v e (Some (new_export id name writable share)) h (closed writable v.read_only may.0.0.1 h.read_only)
   where
     closed : (a b : Bool) → (a && b) ≡ false → b ≡ true → a ≡ false
     closed true true e f = absurd (true≢false e)
@@ -113,7 +113,7 @@ new_barred n o is = record {
 }
 
 -- each step keeps it
-step_barred : (A : ℕ) (w : World) (e : Element) → May A w e → Barred w → Barred (happens A w e)
+step_barred : (A : ℕ) (w : World) (e : Element) → CanCome A w e → Barred w → Barred (happens A w e)
 step_barred A w (Attached s name info) may h =
     with_graph w (happens A w (Attached s name info)) refl
     (placed_barred w.graph info.e _ (of_graph w h) (counted_barred (export_at w.graph.places info.e) _ (h.exports info.e))) h
@@ -131,8 +131,8 @@ step_barred A w (NotAttached s e) may h = h
 step_barred A w (Asked r c) may h = record {
   read_only = h.read_only;
   exports = h.exports;
-  ways = λ s q is. elim (put_tells w.req r (Some (asked c)) s (Some q) is) [
-    | inl e ↦ subst (λ (p : Req). p.client.route.writable ≡ false) (some_same (asked c) q e.1) (ap (λ r. r.writable) may.unrouted)
+  ways = λ s q is. elim (put_tells w.req r (Some (new_request c)) s (Some q) is) [
+    | inl e ↦ subst (λ (p : Req). p.client.route.writable ≡ false) (some_same (new_request c) q e.1) (ap (λ r. r.writable) may.unrouted)
     | inr e ↦ h.ways s q e.1
   ];
 }
@@ -148,7 +148,7 @@ step_barred A w (Exported op e) may h = with_graph w (happens A w (Exported op e
 step_barred A w (Planned j fail) may h = record { read_only = h.read_only; exports = h.exports; ways = h.ways }
 step_barred A w (Crashed left) may h = new_barred w.next (crashed w left) h.read_only
 
-run_barred : (A : ℕ) (w : World) (es : List Element) → Runs A w es → Barred w → Barred (after A w es)
+run_barred : (A : ℕ) (w : World) (es : List Element) → Runs A w es → Barred w → Barred (world_after A w es)
 run_barred A w [] run h = h
 run_barred A w (e ∷ es) run h = run_barred A (happens A w e) es run.1 (step_barred A w e run.0 h)
 
@@ -161,7 +161,7 @@ store_writable A c _ fit is = absurd is
 pub no_store : (A : ℕ) (w : World) (es : List Element) → 0 < A → Ok A w → Barred w → Runs A w es → NoStore es
 no_store A w es pos ok barred run r c before (Did s q act) at is =
     let (front, may) = split_run A w es before (Did s q act) run at in
-    let here : Ok A (after A w before) = run_ok A w before pos ok front in
+    let here : Ok A (world_after A w before) = run_ok A w before pos ok front in
     let closed : q.client.route.writable ≡ false = (run_barred A w before front barred).ways s q may.0 in
     true≢false (sym (store_writable A q.client act (here.well s q may.0).shaped is.2) ∙ closed)
 no_store A w es pos ok barred run r c before _ at is = absurd is

@@ -7,12 +7,12 @@ use Rattle.qs_bytes.specs.declared.ask.Verdict.{Verdict}
 use Rattle.qs_bytes.specs.declared.ask.Verdict.TheVariants.{Got, Fine, Refused, Dropped}
 use Rattle.qs_part.specs.declared.stripe.Side.{Side}
 use Rattle.qs_part.specs.declared.stripe.Side.TheVariants.{Head, Tail}
-use Rattle.qs_model.specs.Requests.{Client, Pads, Req, Step, Stage, ToRoute, ToList, ToStart, ToLoad, ToEnd, Entering, In, edge, has, span_of, covers, reads, wants_writable, is_flush, is_trim, success, asked, form_error, piece, routed, held, started, loaded, stored, hold_failed, store_failed, synced}
+use Rattle.qs_model.specs.Requests.{Client, Pads, Req, Step, Stage, ToRoute, ToList, ToStart, ToLoad, ToEnd, Entering, In, edge, has, span_of, covers, reads, wants_writable, is_flush, is_trim, success, new_request, form_error, piece, routed, held, started, loaded, stored, hold_failed, store_failed, synced}
 use Rattle.qs_model.specs.Worlds.{World}
 use Rattle.qs_model.specs.Acts.{Act, Answers, Waits, Enters, Routes, Shuts, Lists, Starts, Loads, LoadFails, Holds, HoldFails, Stores, StoreFails, Syncs, Cleans, SyncFails, Frees, Ends, Element, Did}
-use Rattle.qs_model.specs.Guards.{May, MayDo}
-use Rattle.qs_model.specs.Steps.{moved, after, Runs}
-use Rattle.qs_model.specs.Histories.{cell_of, is_of, answer_of, Answered}
+use Rattle.qs_model.specs.Guards.{CanCome, MayDo}
+use Rattle.qs_model.specs.Steps.{moved, world_after, Runs}
+use Rattle.qs_model.specs.Histories.{cell_of, is_entry_of, answer_of, Answered}
 use Rattle.qs_model.specs.Laws.{ReadsOnce}
 use Rattle.qs_model.proofs.Basics.{choose, either}
 use Rattle.qs_model.proofs.RequestKinds.{other_one, trim_no_read}
@@ -79,10 +79,10 @@ module _ (A : ℕ) (x : ℕ) (r : ℕ) (c : Client) (bytes : List ℕ) (pos : 0 
   got_inside a b e = cc
 
   pub loaded_read : (d : Client) (k b : ℕ) (got block : List ℕ) (es : List CellEntry) → Loading A d b got → length block ≡ A → stage_read d (In k (loaded A d b got block)) es →
-      stage_read d (In k (ToLoad b got)) (filter (is_of r) (cell_of A x r d (Loads {k = k} {b = b} {got = got} block)) ++ es)
+      stage_read d (In k (ToLoad b got)) (filter (is_entry_of r) (cell_of A x r d (Loads {k = k} {b = b} {got = got} block)) ++ es)
   unfolding loaded
   loaded_read d k b got block es l whole =
-      let P : Step → Type 0 = λ g. stage_read d (In k g) es → stage_read d (In k (ToLoad b got)) (filter (is_of r) (cell_of A x r d (Loads {k = k} {b = b} {got = got} block)) ++ es) in
+      let P : Step → Type 0 = λ g. stage_read d (In k g) es → stage_read d (In k (ToLoad b got)) (filter (is_entry_of r) (cell_of A x r d (Loads {k = k} {b = b} {got = got} block)) ++ es) in
       choose P (b == edge A d Tail) _ _
       (λ e h.
       let last : b ≡ edge A d Tail = same_eqb b (edge A d Tail) e in
@@ -103,7 +103,7 @@ module _ (A : ℕ) (x : ℕ) (r : ℕ) (c : Client) (bytes : List ℕ) (pos : 0 
       own same = subst (λ (y : Client). covers y x ≡ true) (sym same) covered
 
       entry : d ≡ c → (rest : List ℕ) → bytes ≡ (got ++ piece A d b block) ++ rest →
-          filter (is_of r) (cell_of A x r d (Loads {k = k} {b = b} {got = got} block)) ≡ cond (x / A == b) all_read []
+          filter (is_entry_of r) (cell_of A x r d (Loads {k = k} {b = b} {got = got} block)) ≡ cond (x / A == b) all_read []
       entry same rest is =
           entry_here r _ _ (reads d) (covers d x) (x / A == b) l.reading (own same) (eq-eqb r r refl)
           (λ e. ap (λ (v : ℕ). Read r v)
@@ -129,7 +129,7 @@ module _ (A : ℕ) (x : ℕ) (r : ℕ) (c : Client) (bytes : List ℕ) (pos : 0 
 
   pub own_read : (w : World) (d : Client) (b : Bool) (p : Pads) {stage : Stage} (act : Act stage) (es : List CellEntry) → Shaped A d stage → MayDo A w d p act →
       HasMoved (λ q. due_read q es) (moved A d b p act) →
-      due_read (record { client = d; dropped = b; pads = p; stage = stage }) (filter (is_of r) (cell_of A x r d act) ++ es)
+      due_read (record { client = d; dropped = b; pads = p; stage = stage }) (filter (is_entry_of r) (cell_of A x r d act) ++ es)
   own_read w d b p Answers es fit may h = absurd h
   own_read w d b p (Waits wait) es fit may h = h
   own_read w d b p (Enters k) es fit may h = h
@@ -149,10 +149,10 @@ module _ (A : ℕ) (x : ℕ) (r : ℕ) (c : Client) (bytes : List ℕ) (pos : 0 
   own_read w d b p Frees es fit may h = let f : Refused _ ≡ Got bytes = h.1.1 in absurd (cc)
   own_read w d b p Ends es fit may h = absurd h
 
-  pub made_read : (d : Client) (es : List CellEntry) → due_read (asked d) es → es ≡ all_read
+  pub made_read : (d : Client) (es : List CellEntry) → due_read (new_request d) es → es ≡ all_read
   made_read d es h = go h.1
     where
-      go : stage_read d (asked d).stage es → es ≡ all_read
+      go : stage_read d (new_request d).stage es → es ≡ all_read
       go =
           let P : Stage → Type 0 = λ g. stage_read d g es → es ≡ all_read in
           choose P (form_error d.ask) _ _ (λ e k. absurd k) (λ e. choose P d.buffered _ _ (λ f k. k) (λ f k. absurd k))
@@ -179,7 +179,7 @@ module _ (A : ℕ) (x : ℕ) (r : ℕ) (c : Client) (bytes : List ℕ) (pos : 0 
   end_read d b p _ fit same is = absurd (some_none (sym is))
 
 -- the request at its answer is there
-pub answered_at : (A : ℕ) (w : World) (r : ℕ) (c : Client) (v : Verdict) (e : Element) → Ok A w → May A w e → Answered r c v e →
+pub answered_at : (A : ℕ) (w : World) (r : ℕ) (c : Client) (v : Verdict) (e : Element) → Ok A w → CanCome A w e → Answered r c v e →
     (q : Req) × (act : Act q.stage) × ((w.req r ≡ Some q) × (q.client ≡ c) × (answer_of q.dropped act ≡ Some v) × Shaped A q.client q.stage)
 answered_at A w r c v (Did s q act) ok may is =
     let (same, client, answer) = is in
@@ -204,11 +204,11 @@ pub reads_once : (A : ℕ) (w : World) (es : List Element) → 0 < A → Ok A w 
 reads_once A w es pos ok none zero run = record {
   whole = λ r c bytes before e at answer.
       let (front, may) = split_run A w es before e run at in
-      let (q, act, (is, client, answer', fit)) = answered_at A (after A w before) r c (Got bytes) e (run_ok A w before pos ok front) may answer in
+      let (q, act, (is, client, answer', fit)) = answered_at A (world_after A w before) r c (Got bytes) e (run_ok A w before pos ok front) may answer in
       subst (λ (y : Client). length bytes ≡ y.ask.length) client (answer_whole A q.client q.dropped act bytes fit answer');
   once = λ r c bytes before e at answer x covered.
       let (front, may) = split_run A w es before e run at in
-      let (q, act, (is, client, answer', fit)) = answered_at A (after A w before) r c (Got bytes) e (run_ok A w before pos ok front) may answer in
+      let (q, act, (is, client, answer', fit)) = answered_at A (world_after A w before) r c (Got bytes) e (run_ok A w before pos ok front) may answer in
       (due_run A x r (due_read A x r c bytes pos covered) (all_read A x r c bytes pos covered) w before q (plan_read A x r c bytes pos covered) pos ok front is
       (end_read A x r c bytes pos covered q.client q.dropped q.pads act fit client answer')).unmade (none r) (omega arith);
 }

@@ -5,8 +5,8 @@ use Rattle.qs_model.specs.Requests.{Client, Req, Stage, ToRoute, ToList, ToStart
 use Rattle.qs_tracker.specs.Table.{TrackerValue}
 use Rattle.qs_model.specs.Worlds.{World}
 use Rattle.qs_model.specs.Acts.{Element, Did}
-use Rattle.qs_model.specs.Guards.{May}
-use Rattle.qs_model.specs.Steps.{happens, after, Runs}
+use Rattle.qs_model.specs.Guards.{CanCome}
+use Rattle.qs_model.specs.Steps.{happens, world_after, Runs}
 use Rattle.qs_model.specs.Histories.{IsEntry}
 use Rattle.qs_model.specs.Laws.{Undivided}
 use Rattle.qs_model.proofs.Basics.{put_here}
@@ -31,7 +31,7 @@ late_goes A t c (In k (ToFree side)) late seats = inr (k, (refl, seats))
 late_goes A t c (In k (ToEnd v)) late seats = inl tt
 
 -- after an entry the request is at its blocks, or behind them
-pub entry_passes : (A : ℕ) (w : World) (r : ℕ) (c : Client) (m : ℕ) (e : Element) → Ok A w → May A w e → IsEntry A r c m e →
+pub entry_passes : (A : ℕ) (w : World) (r : ℕ) (c : Client) (m : ℕ) (e : Element) → Ok A w → CanCome A w e → IsEntry A r c m e →
     Passed c ((happens A w e).req r) × (r < w.next)
 entry_passes A w r c m (Did s q act) ok may is =
     let (same, client, entry) = is in (
@@ -43,14 +43,14 @@ entry_passes A w r c m (Did s q act) ok may is =
 entry_passes A w r c m _ ok may is = absurd is
 
 -- a request that is over has no entry
-pub over_entry : (A : ℕ) (w : World) (r : ℕ) (c : Client) (n : ℕ) (e : Element) → May A w e → Over (w.req r) → IsEntry A r c n e → ⊥
+pub over_entry : (A : ℕ) (w : World) (r : ℕ) (c : Client) (n : ℕ) (e : Element) → CanCome A w e → Over (w.req r) → IsEntry A r c n e → ⊥
 over_entry A w r c n (Did s q act) may over is =
     let (same, client, entry) = is in
     last_entry A q.client act n (subst (λ (o : Option Req). Over o) (ap w.req (sym same) ∙ may.0) over) entry
 over_entry A w r c n _ may over is = absurd is
 
 -- an entry of another on one of the request's blocks, while the request is at its blocks
-pub other_entry : (A : ℕ) (w : World) (r s : ℕ) (c d : Client) (b k : ℕ) (q : Req) (e : Element) → 0 < A → Ok A w → May A w e → w.req r ≡ Some q → q.client ≡ c →
+pub other_entry : (A : ℕ) (w : World) (r s : ℕ) (c d : Client) (b k : ℕ) (q : Req) (e : Element) → 0 < A → Ok A w → CanCome A w e → w.req r ≡ Some q → q.client ≡ c →
     IsAt q.stage k → Goes A w.tracker q.client k → serial A c ≡ true → IsEntry A s d b e → Covers (aligned_out (span_of c) A) (b * A) → s ≡ r
 other_entry A w r s c d b k q (Did u p act) pos ok may here client at goes is entry covers =
     let (same, other, on) = entry in
@@ -78,7 +78,7 @@ split_state A w r c ok passed = go (w.req r) refl passed
 pub undivided : (A : ℕ) (w : World) (es : List Element) → 0 < A → Ok A w → Runs A w es → Undivided A es
 undivided A w es pos ok run r s c d m n b first other last before middle rest behind split at_first at_last is at_other covers =
     let run' : Runs A w (before ++ first ∷ (middle ++ other ∷ (rest ++ last ∷ behind))) = subst (λ (l : List Element). Runs A w l) split run in
-    let w1 : World = after A w before in
+    let w1 : World = world_after A w before in
     let ok1 : Ok A w1 = run_ok A w before pos ok (runs_front A w before _ run') in
     let run1 : Runs A w1 (first ∷ (middle ++ other ∷ (rest ++ last ∷ behind))) = runs_back A w before _ run' in
     let passed1 : Passed c ((happens A w1 first).req r) × (r < w1.next) = entry_passes A w1 r c m first ok1 run1.0 at_first in
@@ -86,7 +86,7 @@ undivided A w es pos ok run r s c d m n b first other last before middle rest be
     let made2 : r < w2.next = next_step A w1 first r passed1.1 in
     let ok2 : Ok A w2 = step_ok A w1 first pos ok1 run1.0 in
     let front : Runs A w2 middle = runs_front A w2 middle _ run1.1 in
-    let w3 : World = after A w2 middle in
+    let w3 : World = world_after A w2 middle in
     let ok3 : Ok A w3 = run_ok A w2 middle pos ok2 front in
     let run3 : Runs A w3 (other ∷ (rest ++ last ∷ behind)) = runs_back A w2 middle _ run1.1 in
     let passed3 : Passed c (w3.req r) = lasts_run A (Passed c) (passed_lasts A c) w2 middle r front made2 passed1.0 in
@@ -102,5 +102,5 @@ undivided A w es pos ok run r s c d m n b first other last before middle rest be
         let made4 : r < w4.next = next_step A w3 other r made3 in
         let over4 : Over (w4.req r) = lasts_step A Over (over_lasts A) w3 other r run3.0 made3 over in
         let front : Runs A w4 rest = runs_front A w4 rest _ run3.1 in
-        let run5 : Runs A (after A w4 rest) (last ∷ behind) = runs_back A w4 rest _ run3.1 in
-        over_entry A (after A w4 rest) r c n last run5.0 (lasts_run A Over (over_lasts A) w4 rest r front made4 over4) at_last
+        let run5 : Runs A (world_after A w4 rest) (last ∷ behind) = runs_back A w4 rest _ run3.1 in
+        over_entry A (world_after A w4 rest) r c n last run5.0 (lasts_run A Over (over_lasts A) w4 rest r front made4 over4) at_last

@@ -7,12 +7,12 @@ use Rattle.qs_bytes.specs.declared.ask.Verdict.{Verdict}
 use Rattle.qs_bytes.specs.declared.ask.Verdict.TheVariants.{Got, Fine, Refused, Dropped}
 use Rattle.qs_part.specs.declared.stripe.Side.{Side}
 use Rattle.qs_part.specs.declared.stripe.Side.TheVariants.{Head, Tail}
-use Rattle.qs_model.specs.Requests.{Client, Pads, Req, Step, Stage, ToRoute, ToList, ToStart, ToHold, ToStore, ToSync, ToEnd, Entering, In, edge, has, span_of, covers, reads, writes, wants_writable, is_flush, is_trim, body_at, asked, form_error, routed, held, started, loaded, stored, hold_failed, store_failed, synced}
+use Rattle.qs_model.specs.Requests.{Client, Pads, Req, Step, Stage, ToRoute, ToList, ToStart, ToHold, ToStore, ToSync, ToEnd, Entering, In, edge, has, span_of, covers, reads, writes, wants_writable, is_flush, is_trim, body_at, new_request, form_error, routed, held, started, loaded, stored, hold_failed, store_failed, synced}
 use Rattle.qs_model.specs.Worlds.{World}
 use Rattle.qs_model.specs.Acts.{Act, Answers, Waits, Enters, Routes, Shuts, Lists, Starts, Loads, LoadFails, Holds, HoldFails, Stores, StoreFails, Syncs, Cleans, SyncFails, Frees, Ends, Element}
 use Rattle.qs_model.specs.Guards.{MayDo}
-use Rattle.qs_model.specs.Steps.{moved, after, Runs}
-use Rattle.qs_model.specs.Histories.{cell_of, is_of, answer_of}
+use Rattle.qs_model.specs.Steps.{moved, world_after, Runs}
+use Rattle.qs_model.specs.Histories.{cell_of, is_entry_of, answer_of}
 use Rattle.qs_model.specs.Laws.{WritesOnce}
 use Rattle.qs_model.proofs.Basics.{choose, either}
 use Rattle.qs_model.proofs.RequestKinds.{other_one, stores_no_flush, stores_no_trim}
@@ -94,22 +94,22 @@ module _ (A : ℕ) (x : ℕ) (r : ℕ) (c : Client) (pos : 0 < A) (writing : wri
   hold_failed_write d k Tail es = choose (λ g. stage_write d (In k g) es → ⊥) (has A d Head) _ _ (λ e h. h) (λ e h. let f : Refused _ ≡ Fine = h.1 in cc)
 
   pub stored_write : (d : Client) (k b : ℕ) (block : List ℕ) (past : List (List ℕ)) (es : List CellEntry) → Storing A d b → stage_write d (In k (stored A d b)) es →
-      stage_write d (In k (ToStore b)) (filter (is_of r) (cell_of A x r d (Stores {k = k} {b = b} block past)) ++ es)
+      stage_write d (In k (ToStore b)) (filter (is_entry_of r) (cell_of A x r d (Stores {k = k} {b = b} block past)) ++ es)
   stored_write d k b block past es s =
-      let P : Step → Type 0 = λ g. stage_write d (In k g) es → stage_write d (In k (ToStore b)) (filter (is_of r) (cell_of A x r d (Stores {k = k} {b = b} block past)) ++ es) in
+      let P : Step → Type 0 = λ g. stage_write d (In k g) es → stage_write d (In k (ToStore b)) (filter (is_entry_of r) (cell_of A x r d (Stores {k = k} {b = b} block past)) ++ es) in
       stored_is P A d b (λ e h. final e h.0 h.2) (λ e s lt h. final e h.0 h.1)
       (λ e h. (h.0, join (x / A) b _ all_write es (entry h.0) h.1))
     where
       own : d ≡ c → covers d x ≡ true
       own same = subst (λ (y : Client). covers y x ≡ true) (sym same) covered
 
-      entry : d ≡ c → filter (is_of r) (cell_of A x r d (Stores {k = k} {b = b} block past)) ≡ cond (x / A == b) all_write []
+      entry : d ≡ c → filter (is_entry_of r) (cell_of A x r d (Stores {k = k} {b = b} block past)) ≡ cond (x / A == b) all_write []
       entry same =
           entry_here r _ _ (writes d) (covers d x) (x / A == b) s.writing (own same) (eq-eqb r r refl)
           (λ e. ap (λ (y : Client). Write r (body_at y x)) same)
 
       final : (b == edge A d Tail) ≡ true → d ≡ c → es ≡ [] →
-          stage_write d (In k (ToStore b)) (filter (is_of r) (cell_of A x r d (Stores {k = k} {b = b} block past)) ++ es)
+          stage_write d (In k (ToStore b)) (filter (is_entry_of r) (cell_of A x r d (Stores {k = k} {b = b} block past)) ++ es)
       final e same none =
           let at : b ≡ edge A d Tail = same_eqb b (edge A d Tail) e in
           let reach : Reaches A d (x / A) = place_reached A d x pos (own same) in
@@ -126,7 +126,7 @@ module _ (A : ℕ) (x : ℕ) (r : ℕ) (c : Client) (pos : 0 < A) (writing : wri
 
   pub own_write : (w : World) (d : Client) (b : Bool) (p : Pads) {stage : Stage} (act : Act stage) (es : List CellEntry) → Shaped A d stage → MayDo A w d p act →
       HasMoved (λ q. due_write q es) (moved A d b p act) →
-      due_write (record { client = d; dropped = b; pads = p; stage = stage }) (filter (is_of r) (cell_of A x r d act) ++ es)
+      due_write (record { client = d; dropped = b; pads = p; stage = stage }) (filter (is_entry_of r) (cell_of A x r d act) ++ es)
   own_write w d b p Answers es fit may h = absurd h
   own_write w d b p (Waits wait) es fit may h = h
   own_write w d b p (Enters k) es fit may h = h
@@ -146,10 +146,10 @@ module _ (A : ℕ) (x : ℕ) (r : ℕ) (c : Client) (pos : 0 < A) (writing : wri
   own_write w d b p Frees es fit may h = let f : Refused _ ≡ Fine = h.1.1 in absurd (cc)
   own_write w d b p Ends es fit may h = absurd h
 
-  pub made_write : (d : Client) (es : List CellEntry) → due_write (asked d) es → es ≡ all_write
+  pub made_write : (d : Client) (es : List CellEntry) → due_write (new_request d) es → es ≡ all_write
   made_write d es h = go h.1
     where
-      go : stage_write d (asked d).stage es → es ≡ all_write
+      go : stage_write d (new_request d).stage es → es ≡ all_write
       go =
           let P : Stage → Type 0 = λ g. stage_write d g es → es ≡ all_write in
           choose P (form_error d.ask) _ _ (λ e k. absurd k) (λ e. choose P d.buffered _ _ (λ f k. k) (λ f k. absurd k))
@@ -179,6 +179,6 @@ module _ (A : ℕ) (x : ℕ) (r : ℕ) (c : Client) (pos : 0 < A) (writing : wri
 pub writes_once : (A : ℕ) (w : World) (es : List Element) → 0 < A → Ok A w → ((r : ℕ) → w.req r ≡ None) → w.next ≡ 0 → Runs A w es → WritesOnce A es
 writes_once A w es pos ok none zero run r c before e at answer writing x covered =
     let (front, may) = split_run A w es before e run at in
-    let (q, act, (is, client, answer', fit)) = answered_at A (after A w before) r c Fine e (run_ok A w before pos ok front) may answer in
+    let (q, act, (is, client, answer', fit)) = answered_at A (world_after A w before) r c Fine e (run_ok A w before pos ok front) may answer in
     (due_run A x r (due_write A x r c pos writing covered) (all_write A x r c pos writing covered) w before q (plan_write A x r c pos writing covered) pos ok front is
     (end_write A x r c pos writing covered q.client q.dropped q.pads act fit client answer')).unmade (none r) (omega arith)

@@ -92,9 +92,9 @@ pub record HasNone (c : Client) : Type 0 where
 
 -- The body that came with an Ask: none where a buffer was refused or none is wanted, else a WRITE's
 -- bytes. One that isn't of the length that is asked for counts as none.
-abbrev pub Brings : Option (List ℕ) → Client → Type 0
-Brings None c = HasNone c
-Brings (Some body) c =
+abbrev pub BringsBytes : Option (List ℕ) → Client → Type 0
+BringsBytes None c = HasNone c
+BringsBytes (Some body) c =
     ((length body ≡ c.ask.length) × (brings_bytes c.ask.kind ≡ true → body ≡ c.body)) ⊎ ((length body ≢ c.ask.length) × HasNone c)
 
 -- the event that a step answers; the clock's reading of a Step is free where no group is asked
@@ -103,7 +103,7 @@ IsEvent (Attach session name) (Attached s given info) = (session ≡ s) × (name
 IsEvent (Attach session name) (NoExport s given) = (session ≡ s) × (name ≡ given)
 IsEvent (Attach session name) (Crowded s given) = (session ≡ s) × (name ≡ given)
 IsEvent (Leave session) (Left s e) = session ≡ s
-IsEvent (AskEvent session ask body) (Asked r c) = (session ≡ c.session) × (ask ≡ c.ask) × Brings body c
+IsEvent (AskEvent session ask body) (Asked r c) = (session ≡ c.session) × (ask ≡ c.ask) × BringsBytes body c
 IsEvent (StepEvent actor now) (Did r q act) = actor ≡ ARequest r
 IsEvent (StepEvent actor now) (Detached s e) = actor ≡ ASession s
 IsEvent (StepEvent actor now) (NotAttached s e) = actor ≡ ASession s

@@ -25,27 +25,27 @@ abbrev pub zeros : List ℕ
 zeros = 0 ∷ 0 ∷ 0 ∷ 0 ∷ []
 
 -- the way of an export that is the whole image
-abbrev pub whole : Route
-whole = record { offset = 0; size = 8; writable = true; groups = replicate 8 (0, 0); count = 0 }
+abbrev pub image_route : Route
+image_route = record { offset = 0; size = 8; writable = true; groups = replicate 8 (0, 0); count = 0 }
 
 abbrev pub info : ExportInfo
 info = record { e = 0; size = 8; writable = true }
 
-abbrev pub ask : Ask
-ask = record { kind = Write; fua = false; flags_fit = true; cookie = 1; offset = 3; length = 2 }
+abbrev pub example_ask : Ask
+example_ask = record { kind = Write; fua = false; flags_fit = true; cookie = 1; offset = 3; length = 2 }
 
-abbrev pub client : Route → Client
-client route = record { session = 1; export = 0; ask = ask; body = 7 ∷ 8 ∷ []; buffered = true; route = route }
+abbrev pub example_client : Route → Client
+example_client route = record { session = 1; export = 0; ask = example_ask; body = 7 ∷ 8 ∷ []; buffered = true; route = route }
 
 abbrev pub pads : List ℕ → List ℕ → Pads
 pads head tail = record { head = head; tail = tail }
 
-abbrev pub request : Route → Pads → Stage → Req
-request route p stage = record { client = client route; dropped = false; pads = p; stage = stage }
+abbrev pub padded_request : Route → Pads → Stage → Req
+padded_request route p stage = record { client = example_client route; dropped = false; pads = p; stage = stage }
 
 -- the core over an image of two blocks of zeros
-abbrev pub opened : Opening
-opened = record {
+abbrev pub padded_opening : Opening
+padded_opening = record {
   tells = true;
   plans = λ j. no_plans;
   now = λ b. zeros;
@@ -61,28 +61,28 @@ abbrev pub padded : List Element
 padded =
     Exported (ExportAdd (101 ∷ []) (100 ∷ []) (102 ∷ []) true false) 0
     ∷ Attached 1 (100 ∷ []) info
-    ∷ Asked 0 (client no_route)
-    ∷ Did 0 (request no_route (pads [] []) Entering) (Enters 0)
-    ∷ Did 0 (request no_route (pads [] []) (In 0 ToRoute)) (Routes whole)
-    ∷ Did 0 (request whole (pads [] []) (In 0 ToList)) (Lists 0)
-    ∷ Did 0 (request whole (pads [] []) (In 0 ToStart)) Starts
-    ∷ Did 0 (request whole (pads [] []) (In 0 (ToHold Head))) (Holds zeros)
-    ∷ Did 0 (request whole (pads zeros []) (In 0 (ToHold Tail))) (Holds zeros)
-    ∷ Did 0 (request whole (pads zeros zeros) (In 0 (ToStore 0))) (Stores (0 ∷ 0 ∷ 0 ∷ 7 ∷ []) (zeros ∷ (0 ∷ 0 ∷ 0 ∷ 7 ∷ []) ∷ []))
-    ∷ Did 0 (request whole (pads zeros zeros) (In 0 (ToStore 1))) (Stores (8 ∷ 0 ∷ 0 ∷ 0 ∷ []) (zeros ∷ (8 ∷ 0 ∷ 0 ∷ 0 ∷ []) ∷ []))
-    ∷ Did 0 (request whole (pads zeros zeros) (In 0 (ToEnd Fine))) Ends
+    ∷ Asked 0 (example_client no_route)
+    ∷ Did 0 (padded_request no_route (pads [] []) Entering) (Enters 0)
+    ∷ Did 0 (padded_request no_route (pads [] []) (In 0 ToRoute)) (Routes image_route)
+    ∷ Did 0 (padded_request image_route (pads [] []) (In 0 ToList)) (Lists 0)
+    ∷ Did 0 (padded_request image_route (pads [] []) (In 0 ToStart)) Starts
+    ∷ Did 0 (padded_request image_route (pads [] []) (In 0 (ToHold Head))) (Holds zeros)
+    ∷ Did 0 (padded_request image_route (pads zeros []) (In 0 (ToHold Tail))) (Holds zeros)
+    ∷ Did 0 (padded_request image_route (pads zeros zeros) (In 0 (ToStore 0))) (Stores (0 ∷ 0 ∷ 0 ∷ 7 ∷ []) (zeros ∷ (0 ∷ 0 ∷ 0 ∷ 7 ∷ []) ∷ []))
+    ∷ Did 0 (padded_request image_route (pads zeros zeros) (In 0 (ToStore 1))) (Stores (8 ∷ 0 ∷ 0 ∷ 0 ∷ []) (zeros ∷ (8 ∷ 0 ∷ 0 ∷ 0 ∷ []) ∷ []))
+    ∷ Did 0 (padded_request image_route (pads zeros zeros) (In 0 (ToEnd Fine))) Ends
     ∷ []
 
 abbrev pub note : OpKind → Option ℕ → NoteReply → Outcome
 note kind at reply = Moved (record { kind = kind; at = at; reply = reply })
 
 -- what its steps answer
-abbrev pub answers : List Outcome
-answers =
+abbrev pub example_outcomes : List Outcome
+example_outcomes =
     AttachedOut info
     ∷ Made 0
     ∷ note Enter None (OfTracker (Entered 0))
-    ∷ note RouteOp None (OfGraph (Routed whole))
+    ∷ note RouteOp None (OfGraph (Routed image_route))
     ∷ note ListOp None (OfTracker (Listed 0))
     ∷ note Start None (OfTracker Started)
     ∷ note HoldOp (Some 0) (OfStripe Filled)

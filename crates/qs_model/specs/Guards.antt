@@ -103,15 +103,15 @@ abbrev pub CanDetach : World → ℕ → ℕ → Type 0
 CanDetach w s e = (w.session s ≡ Leaving e) × (HasRequest w s → ⊥)
 
 -- what may happen next
-abbrev pub May : ℕ → World → Element → Type 0
-May A w (Attached s name info) = (w.session s ≡ Away) × GraphMay w.graph (Attach name) (AttachedReply info)
-May A w (NoExport s name) = (w.session s ≡ Away) × GraphMay w.graph (Attach name) NoExportReply
-May A w (Crowded s name) = (w.session s ≡ Away) × GraphMay w.graph (Attach name) CrowdedReply
-May A w (Left s e) = w.session s ≡ Live e
-May A w (Detached s e) = CanDetach w s e × GraphMay w.graph (Detach e) DetachedReply
-May A w (NotAttached s e) = CanDetach w s e × GraphMay w.graph (Detach e) NotAttachedReply
-May A w (Asked r c) = CanAsk w r c
-May A w (Did r q act) = (w.req r ≡ Some q) × MayDo A w q.client q.pads act
-May A w (Exported op e) = GraphMay w.graph op (Added e)
-May A w (Planned j fail) = j < 8
-May A w (Crashed left) = (b : ℕ) → IsTrue w.tells → Contains (w.image.past b) (left b)
+abbrev pub CanCome : ℕ → World → Element → Type 0
+CanCome A w (Attached s name info) = (w.session s ≡ Away) × GraphMay w.graph (Attach name) (AttachedReply info)
+CanCome A w (NoExport s name) = (w.session s ≡ Away) × GraphMay w.graph (Attach name) NoExportReply
+CanCome A w (Crowded s name) = (w.session s ≡ Away) × GraphMay w.graph (Attach name) CrowdedReply
+CanCome A w (Left s e) = w.session s ≡ Live e
+CanCome A w (Detached s e) = CanDetach w s e × GraphMay w.graph (Detach e) DetachedReply
+CanCome A w (NotAttached s e) = CanDetach w s e × GraphMay w.graph (Detach e) NotAttachedReply
+CanCome A w (Asked r c) = CanAsk w r c
+CanCome A w (Did r q act) = (w.req r ≡ Some q) × MayDo A w q.client q.pads act
+CanCome A w (Exported op e) = GraphMay w.graph op (Added e)
+CanCome A w (Planned j fail) = j < 8
+CanCome A w (Crashed left) = (b : ℕ) → IsTrue w.tells → Contains (w.image.past b) (left b)

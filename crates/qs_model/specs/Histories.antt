@@ -34,11 +34,11 @@ cell A x [] = []
 cell A x (e ∷ es) = cell_at A x e ++ cell A x es
 
 -- the entries of one request
-abbrev pub is_of : ℕ → CellEntry → Bool
-is_of r (Read s v) = s == r
-is_of r (Write s v) = s == r
-is_of r (Maybe s v took) = s == r
-is_of r (Crash v) = false
+abbrev pub is_entry_of : ℕ → CellEntry → Bool
+is_entry_of r (Read s v) = s == r
+is_entry_of r (Write s v) = s == r
+is_entry_of r (Maybe s v took) = s == r
+is_entry_of r (Crash v) = false
 
 -- the verdict that a row answers with
 abbrev pub answer_of : Bool → {stage : Stage} → Act stage → Option Verdict

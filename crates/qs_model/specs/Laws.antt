@@ -12,19 +12,19 @@ use Rattle.qs_tracker.specs.declared.seat.Listing.{Listing}
 use Rattle.qs_tracker.specs.declared.seat.Seat.TheVariants.{Vacant}
 use Rattle.qs_tracker.specs.Seats.{Conflict, seat_at}
 use Rattle.qs_tracker.specs.Table.{TrackerValue, May as TrackerMay}
-use Rattle.qs_tracker.specs.History.{Goes, IsLowest}
+use Rattle.qs_tracker.specs.History.{IsListedStarted, IsLowest}
 use Rattle.qs_model.specs.Requests.{Client, Req, Step, In, span_of, covers, serial, body_at, writes}
 use Rattle.qs_model.specs.Worlds.{World, Opening, byte_at, new_world}
 use Rattle.qs_model.specs.Acts.{Element, Asked, Did, Exported, Planned, Crashed}
-use Rattle.qs_model.specs.Steps.{after}
+use Rattle.qs_model.specs.Steps.{world_after}
 use Rattle.qs_part.specs.declared.event.Event.{Event}
 use Rattle.qs_part.specs.declared.event.Outcome.{Outcome}
 use Rattle.qs_model.specs.Events.{outcome_of, IsEvent}
-use Rattle.qs_model.specs.Histories.{cell, cell_at, is_of, Acts, Answered, IsAnswer, IsAsk, IsStore, IsStoreOf, IsRouted, IsOddStep, IsEntry}
+use Rattle.qs_model.specs.Histories.{cell, cell_at, is_entry_of, Acts, Answered, IsAnswer, IsAsk, IsStore, IsStoreOf, IsRouted, IsOddStep, IsEntry}
 
 -- the core as it was made
-abbrev pub opening : Opening → World
-opening o = new_world 0 o
+abbrev pub opening_world : Opening → World
+opening_world o = new_world 0 o
 
 -- in the list es, e is the step behind `before`
 abbrev pub ComesBehind : List Element → Element → List Element → Type 0
@@ -43,9 +43,9 @@ Alters A x _ = ⊥
 -- Only a store by a write that covers it, or a crash, changes a byte; at every position it is what its history leaves.
 pub record Covered (A : ℕ) (w : World) (es : List Element) : Type 0 where
   pub now : (x : ℕ) (before : List Element) → Begins before es →
-      byte_at A (after A w before).image x ≡ value_after (byte_at A w.image x) (cell A x before)
+      byte_at A (world_after A w before).image x ≡ value_after (byte_at A w.image x) (cell A x before)
   pub still : (x : ℕ) (before : List Element) (e : Element) → ComesBehind before e es → (Alters A x e → ⊥) →
-      byte_at A (after A w (before ++ e ∷ [])).image x ≡ byte_at A (after A w before).image x
+      byte_at A (world_after A w (before ++ e ∷ [])).image x ≡ byte_at A (world_after A w before).image x
 
 -- each byte's reads and writes are one legal history of a single cell
 abbrev pub Histories : ℕ → World → List Element → Type 0
@@ -69,7 +69,7 @@ pub record Between (es : List Element) : Type 0 where
 
 -- the entries of a request of the byte at x
 abbrev pub entries : ℕ → ℕ → ℕ → List Element → List CellEntry
-entries A x r es = filter (is_of r) (cell A x es)
+entries A x r es = filter (is_entry_of r) (cell A x es)
 
 -- the byte of a READ's reply for a place
 abbrev pub reply_at : Client → List ℕ → ℕ → ℕ
@@ -118,12 +118,12 @@ NoStore es = (r : ℕ) (c : Client) (before : List Element) (e : Element) → Co
 
 -- Of the spans that go no two conflict, and of all listed spans the one of lowest number can start.
 pub record Ordered (t : TrackerValue) : Type 0 where
-  pub apart : (j k : ℕ) (l m : Listing) → Goes t j l → Goes t k m → Conflict l m → j ≡ k
+  pub apart : (j k : ℕ) (l m : Listing) → IsListedStarted t j l → IsListedStarted t k m → Conflict l m → j ≡ k
   pub lowest : (k : ℕ) (l : Listing) → IsLowest t k l → TrackerMay t (Start k) Started
 
 -- and so at every position
 abbrev pub Tracked : ℕ → World → List Element → Type 0
-Tracked A w es = (before : List Element) → Begins before es → Ordered (after A w before).tracker
+Tracked A w es = (before : List Element) → Begins before es → Ordered (world_after A w before).tracker
 
 -- a request in flight: it is between Entered and Ended, at place k
 pub record InFlight (w : World) (r k : ℕ) : Type 0 where
@@ -146,7 +146,7 @@ pub record Placed (w : World) : Type 0 where
 
 -- and so at every position
 abbrev pub InPlace : ℕ → World → List Element → Type 0
-InPlace A w es = (before : List Element) → Begins before es → Placed (after A w before)
+InPlace A w es = (before : List Element) → Begins before es → Placed (world_after A w before)
 
 -- the making of an export, a planned failure, and a crash
 abbrev pub IsOutside : Element → Type 0
@@ -168,7 +168,7 @@ IsRead A x r e = (v : ℕ) × (cell_at A x e ≡ Read r v ∷ [])
 pub record IsEntryOf (A x r : ℕ) (e : Element) : Type 0 where
   pub entry : CellEntry
   pub is : cell_at A x e ≡ entry ∷ []
-  pub own : is_of r entry ≡ true
+  pub own : is_entry_of r entry ≡ true
 
 -- some step answered the request
 abbrev pub WasAnswered : ℕ → List Element → Type 0

@@ -147,8 +147,8 @@ abbrev pub form_error : Ask → Bool
 form_error a = not (is_known a.kind) || not a.flags_fit || (is_read a.kind && nat_lt max_payload a.length)
 
 -- the request as it was made
-abbrev pub asked : Client → Req
-asked c = record {
+abbrev pub new_request : Client → Req
+new_request c = record {
   client = c;
   dropped = false;
   pads = record { head = []; tail = [] };

@@ -16,7 +16,7 @@ use Rattle.qs_nbd_handshake.specs.declared.stage.Terms.{Terms}
 use Rattle.qs_nbd_handshake.specs.declared.wish.Wish.{Wish}
 use Rattle.qs_nbd_handshake.specs.Answers.{CanTell, CanAnswer, IsStep, IsBehind, phase_behind}
 use Rattle.qs_nbd_handshake.specs.Phases.{Phase, InFlags, InOption, Asked, Over, Stuck, Reader, CanFeed, Leads, behind_flags, flags_event, event_of, phase_of_option, wish_in}
-use Rattle.qs_nbd_handshake.specs.Wishes.{fault_of}
+use Rattle.qs_nbd_handshake.specs.Wishes.{option_fault}
 use Rattle.qs_nbd_handshake.specs.Laws.{GoesOn}
 
 -- what an event wants
@@ -42,7 +42,7 @@ waits terms (InFlags held) bytes w new t p can =
 waits terms (InOption held) bytes w new t p can =
     let all = held ++ bytes in
     subst (λ (r : Reader). CanAnswer r.phase t) (sym p.2)
-    (option_waits (fault_of terms.fixed (option_head_of all)) (wish_in all) w t p.1 can)
+    (option_waits (option_fault terms.fixed (option_head_of all)) (wish_in all) w t p.1 can)
 waits terms (Asked a) bytes w new t p can = absurd p
 waits terms (Over how) bytes w new t p can = absurd p
 waits terms (Stuck bad) bytes w new t p can = let e = p.1 in absurd (cc)
@@ -62,7 +62,7 @@ after_flags terms (InFlags held) bytes flags new p =
     subst (λ (r : Reader). CanFeed r.phase) (sym p.2) (flags_feed terms n flags (flags_of n) p.1)
 after_flags terms (InOption held) bytes flags new p =
     let all = held ++ bytes in
-    absurd (no_flags (fault_of terms.fixed (option_head_of all)) (wish_in all) flags p.1)
+    absurd (no_flags (option_fault terms.fixed (option_head_of all)) (wish_in all) flags p.1)
 after_flags terms (Asked a) bytes flags new p = absurd p
 after_flags terms (Over how) bytes flags new p = absurd p
 after_flags terms (Stuck bad) bytes flags new p = let e = p.1 in absurd (cc)

@@ -17,10 +17,10 @@ use Rattle.qs_nbd_handshake.specs.declared.event.HandStep.TheVariants.{Stay, Tra
 use Rattle.qs_nbd_handshake.specs.declared.event.Told.{Told}
 use Rattle.qs_nbd_handshake.specs.declared.stage.Terms.{Terms}
 use Rattle.qs_nbd_handshake.specs.declared.wish.Wish.{Wish}
-use Rattle.qs_nbd_handshake.specs.Answers.{IsBehind, reader_behind, phase_behind, step_of}
-use Rattle.qs_nbd_handshake.specs.Phases.{Phase, InFlags, InOption, Asked, Over, Stuck, Reader, Leads, FlagsTell, OptionTells, behind_flags, data_size, event_of, flags_event, option_size, phase_of_option, wish_in, opening}
-use Rattle.qs_nbd_handshake.specs.Wishes.{fault_of}
-use Rattle.qs_nbd_handshake.specs.Sessions.{HandshakeCall, Took, Answered, CallLeads, CallsLead, taken_by, told_by, IsOption, IsRefused, told_of, bytes_of, EndsWith, TellsOptions, RefusesFlags, AwaitsFlags, TellsEvents, ReadsSessions}
+use Rattle.qs_nbd_handshake.specs.Answers.{IsBehind, reader_behind, phase_behind, hand_step_of}
+use Rattle.qs_nbd_handshake.specs.Phases.{Phase, InFlags, InOption, Asked, Over, Stuck, Reader, Leads, FlagsTell, OptionTells, behind_flags, data_size, event_of, flags_event, option_size, phase_of_option, wish_in, opening_reader}
+use Rattle.qs_nbd_handshake.specs.Wishes.{option_fault}
+use Rattle.qs_nbd_handshake.specs.Sessions.{HandshakeCall, Took, Answered, CallLeads, CallsLead, taken_by, told_by, IsOption, IsRefused, told_of, sent_bytes, EndsWith, TellsOptions, RefusesFlags, AwaitsFlags, TellsEvents, ReadsSessions}
 use Rattle.qs_nbd_handshake.proofs.Sizes.{size-least, size-long}
 
 -- the same options, and more behind them
@@ -28,7 +28,7 @@ longer : (old new : Reader) (bytes more : List ℕ) (events further : List HandE
     new.terms.fixed ≡ p.known.fixed → EndsWith p.known.fixed new.phase (p.rest ++ more) (p.last ++ further) →
     TellsOptions new (bytes ++ more) (events ++ further)
 longer old new bytes more events further p fixed leaves =
-    let options = flat_map bytes_of p.options in
+    let options = flat_map sent_bytes p.options in
     let told = flat_map told_of p.options in
     record {
       flags = p.flags;
@@ -52,7 +52,7 @@ whole : (old new : Reader) (bytes more all : List ℕ) (events further : List Ha
     new.terms.fixed ≡ p.known.fixed → IsOption p.known.fixed all → p.rest ++ more ≡ all → p.last ++ further ≡ told_of all →
     EndsWith p.known.fixed new.phase [] [] → TellsOptions new (bytes ++ more) (events ++ further)
 whole old new bytes more all events further p fixed is spelled tells leaves =
-    let options = flat_map bytes_of p.options in
+    let options = flat_map sent_bytes p.options in
     let told = flat_map told_of p.options in
     let one : List (List ℕ) = all ∷ [] in
     record {
@@ -67,7 +67,7 @@ whole old new bytes more all events further p fixed is spelled tells leaves =
       each = All-append (IsOption p.known.fixed) p.options one p.each (All-cons (IsOption p.known.fixed) all [] is (All-nil (IsOption p.known.fixed)));
       taken = ap (λ xs. xs ++ more) p.taken ∙ append_assoc p.flags (options ++ p.rest) more
           ∙ ap (λ xs. p.flags ++ xs) (append_assoc options p.rest more ∙ ap (λ xs. options ++ xs) (spelled ∙ sym (append-nil all))
-          ∙ sym (flat_map-append bytes_of p.options one) ∙ sym (append-nil (flat_map bytes_of (p.options ++ one))));
+          ∙ sym (flat_map-append sent_bytes p.options one) ∙ sym (append-nil (flat_map sent_bytes (p.options ++ one))));
       told = ap (λ xs. xs ++ further) p.told
           ∙ ap (λ xs. event.Flags (number32 p.flags 0) ∷ xs) (append_assoc told p.last further ∙ ap (λ xs. told ++ xs) (tells ∙ sym (append-nil (told_of all)))
           ∙ sym (flat_map-append told_of p.options one) ∙ sym (append-nil (flat_map told_of (p.options ++ one))));
@@ -78,14 +78,14 @@ reader : Terms → Phase → Reader
 reader terms phase = record { terms = terms; phase = phase }
 
 -- a refused head has no data
-refused_size : (fixed : Bool) (bytes : List ℕ) (bad : SessionEnd) → length bytes ≡ option_size fixed bytes → fault_of fixed (option_head_of bytes) ≡ Some bad → length bytes ≡ 16
+refused_size : (fixed : Bool) (bytes : List ℕ) (bad : SessionEnd) → length bytes ≡ option_size fixed bytes → option_fault fixed (option_head_of bytes) ≡ Some bad → length bytes ≡ 16
 refused_size fixed bytes bad e fault =
     e ∙ size-long fixed bytes (omega (arith, e, size-least fixed bytes))
     ∙ ap (λ (o : Option SessionEnd). 16 + data_size o (option_head_of bytes).length) fault
 
 -- the end of an option, or of a head that is refused
 ends : (terms : Terms) (held bytes more : List ℕ) (events : List HandEvent) → (p : TellsOptions (reader terms (InOption held)) bytes events) →
-    (d : Option SessionEnd) → fault_of p.known.fixed (option_head_of (held ++ more)) ≡ d →
+    (d : Option SessionEnd) → option_fault p.known.fixed (option_head_of (held ++ more)) ≡ d →
     length (held ++ more) ≡ option_size p.known.fixed (held ++ more) →
     TellsOptions (reader terms (phase_of_option d (wish_in (held ++ more)))) (bytes ++ more) (events ++ event_of d (wish_in (held ++ more)) ∷ [])
 unfolding reader
@@ -120,13 +120,13 @@ unfolding reader
 all_option terms held bytes more events told new p r =
     let all = held ++ more in
     let size : length all ≡ option_size p.known.fixed all = subst (λ (b : Bool). length all ≡ option_size b all) p.fixed r.0 in
-    let tells : told ≡ event_of (fault_of p.known.fixed (option_head_of all)) (wish_in all) =
-    r.1 ∙ ap (λ (b : Bool). event_of (fault_of b (option_head_of all)) (wish_in all)) p.fixed in
-    let behind : new ≡ reader terms (phase_of_option (fault_of p.known.fixed (option_head_of all)) (wish_in all)) =
-    r.2 ∙ ap (λ (b : Bool). reader terms (phase_of_option (fault_of b (option_head_of all)) (wish_in all))) p.fixed in
+    let tells : told ≡ event_of (option_fault p.known.fixed (option_head_of all)) (wish_in all) =
+    r.1 ∙ ap (λ (b : Bool). event_of (option_fault b (option_head_of all)) (wish_in all)) p.fixed in
+    let behind : new ≡ reader terms (phase_of_option (option_fault p.known.fixed (option_head_of all)) (wish_in all)) =
+    r.2 ∙ ap (λ (b : Bool). reader terms (phase_of_option (option_fault b (option_head_of all)) (wish_in all))) p.fixed in
     subst (λ (q : Reader). TellsOptions q (bytes ++ more) (events ++ told ∷ [])) (sym behind)
-    (subst (λ (e : HandEvent). TellsOptions (reader terms (phase_of_option (fault_of p.known.fixed (option_head_of all)) (wish_in all))) (bytes ++ more) (events ++ e ∷ [])) (sym tells)
-    (ends terms held bytes more events p (fault_of p.known.fixed (option_head_of all)) refl size))
+    (subst (λ (e : HandEvent). TellsOptions (reader terms (phase_of_option (option_fault p.known.fixed (option_head_of all)) (wish_in all))) (bytes ++ more) (events ++ e ∷ [])) (sym tells)
+    (ends terms held bytes more events p (option_fault p.known.fixed (option_head_of all)) refl size))
 
 -- what is behind an answer
 behind_step : (fixed : Bool) (s : HandStep) → EndsWith fixed (phase_behind s) [] []
@@ -138,7 +138,7 @@ answers : (terms : Terms) (w : Wish) (t : Told) (bytes : List ℕ) (events : Lis
     new ≡ reader_behind terms w t → TellsOptions new (bytes ++ []) (events ++ [])
 unfolding reader
 answers terms w t bytes events new p r =
-    let s = step_of terms.mode w t in
+    let s = hand_step_of terms.mode w t in
     subst (λ (q : Reader). TellsOptions q (bytes ++ []) (events ++ [])) (sym r)
     (longer (reader terms (Asked w)) (reader_behind terms w t) bytes [] events [] p p.fixed
     (subst (λ (xs : List ℕ). EndsWith p.known.fixed (phase_behind s) xs (p.last ++ [])) (sym p.leaves.0 ∙ sym (append-nil p.rest))
@@ -244,4 +244,4 @@ run old new bytes events (call ∷ calls) p r =
     (run r.0 new (bytes ++ taken_by call) (events ++ told_by call) calls (step old r.0 bytes events call p r.1.0) r.1.1)
 
 pub reads_sessions : ReadsSessions
-reads_sessions calls new r = run opening new [] [] calls (inl (record { short = omega arith; awaits = refl; none = refl })) r
+reads_sessions calls new r = run opening_reader new [] [] calls (inl (record { short = omega arith; awaits = refl; none = refl })) r

@@ -9,8 +9,8 @@ use Rattle.qs_nbd_wire.specs.Greetings.{flags_of}
 use Rattle.qs_nbd_wire.specs.Options.{option_head_of}
 use Rattle.qs_nbd_handshake.specs.declared.event.HandEvent.{HandEvent}
 use Rattle.qs_nbd_handshake.specs.Phases.{Phase, InFlags, InOption, Asked, Over, Stuck, option_size}
-use Rattle.qs_nbd_handshake.specs.Sessions.{IsOption, EndsWith, ReadsOneWay, bytes_of}
-use Rattle.qs_nbd_handshake.specs.Wishes.{fault_of}
+use Rattle.qs_nbd_handshake.specs.Sessions.{IsOption, EndsWith, ReadsOneWay, sent_bytes}
+use Rattle.qs_nbd_handshake.specs.Wishes.{option_fault}
 use Rattle.qs_nbd_handshake.proofs.Reading.{same_front, same_option}
 use Rattle.qs_nbd_handshake.proofs.Sizes.{head-append, size-append, size-least}
 
@@ -39,9 +39,9 @@ begins_none fixed (Asked w) rest last l o more is e =
 begins_none fixed (Over how) rest last l o more is e =
     omega (arith, ap (λ xs. length xs) (sym l.0 ∙ e), length-append o more, long fixed o is)
 begins_none fixed (Stuck bad) rest last l o more is e =
-    let f : fault_of fixed (option_head_of (o ++ more)) ≡ Some bad = ap (λ xs. fault_of fixed (option_head_of xs)) (sym e) ∙ l.0.fault in
-    let g : fault_of fixed (option_head_of (o ++ more)) ≡ None =
-    ap (λ (h : OptionHead). fault_of fixed h) (head-append o more (long fixed o is)) ∙ is.served in
+    let f : option_fault fixed (option_head_of (o ++ more)) ≡ Some bad = ap (λ xs. option_fault fixed (option_head_of xs)) (sym e) ∙ l.0.fault in
+    let g : option_fault fixed (option_head_of (o ++ more)) ≡ None =
+    ap (λ (h : OptionHead). option_fault fixed h) (head-append o more (long fixed o is)) ∙ is.served in
     let h : None ≡ Some bad = sym g ∙ f in
     cc
 
@@ -52,18 +52,18 @@ rest_of_all : (fixed : Bool) (x : List ℕ) (xs : List (List ℕ)) → All (IsOp
 rest_of_all fixed x xs all = λ k d h. all (suc k) d (omega arith)
 
 options_once : (fixed : Bool) (xs ys : List (List ℕ)) (rest other : List ℕ) → All (IsOption fixed) xs → All (IsOption fixed) ys →
-    BeginsNone fixed rest → BeginsNone fixed other → flat_map bytes_of xs ++ rest ≡ flat_map bytes_of ys ++ other → (xs ≡ ys) × (rest ≡ other)
+    BeginsNone fixed rest → BeginsNone fixed other → flat_map sent_bytes xs ++ rest ≡ flat_map sent_bytes ys ++ other → (xs ≡ ys) × (rest ≡ other)
 options_once fixed [] [] rest other p q none never e = (refl, e)
 options_once fixed [] (y ∷ ys) rest other p q none never e =
-    absurd (none y (flat_map bytes_of ys ++ other) (first_of_all fixed y ys q) (e ∙ append_assoc y (flat_map bytes_of ys) other))
+    absurd (none y (flat_map sent_bytes ys ++ other) (first_of_all fixed y ys q) (e ∙ append_assoc y (flat_map sent_bytes ys) other))
 options_once fixed (x ∷ xs) [] rest other p q none never e =
-    absurd (never x (flat_map bytes_of xs ++ rest) (first_of_all fixed x xs p) (sym e ∙ append_assoc x (flat_map bytes_of xs) rest))
+    absurd (never x (flat_map sent_bytes xs ++ rest) (first_of_all fixed x xs p) (sym e ∙ append_assoc x (flat_map sent_bytes xs) rest))
 options_once fixed (x ∷ xs) (y ∷ ys) rest other p q none never e =
-    let f : x ++ (flat_map bytes_of xs ++ rest) ≡ y ++ (flat_map bytes_of ys ++ other) =
-    sym (append_assoc x (flat_map bytes_of xs) rest) ∙ e ∙ append_assoc y (flat_map bytes_of ys) other in
-    let same : x ≡ y = same_option fixed x y (flat_map bytes_of xs ++ rest) (flat_map bytes_of ys ++ other)
+    let f : x ++ (flat_map sent_bytes xs ++ rest) ≡ y ++ (flat_map sent_bytes ys ++ other) =
+    sym (append_assoc x (flat_map sent_bytes xs) rest) ∙ e ∙ append_assoc y (flat_map sent_bytes ys) other in
+    let same : x ≡ y = same_option fixed x y (flat_map sent_bytes xs ++ rest) (flat_map sent_bytes ys ++ other)
     (first_of_all fixed x xs p).whole (first_of_all fixed y ys q).whole f in
-    let behind = append_cancel_left x (flat_map bytes_of xs ++ rest) (flat_map bytes_of ys ++ other) (f ∙ ap (λ zs. zs ++ (flat_map bytes_of ys ++ other)) (sym same)) in
+    let behind = append_cancel_left x (flat_map sent_bytes xs ++ rest) (flat_map sent_bytes ys ++ other) (f ∙ ap (λ zs. zs ++ (flat_map sent_bytes ys ++ other)) (sym same)) in
     let more = options_once fixed xs ys rest other (rest_of_all fixed x xs p) (rest_of_all fixed y ys q) none never behind in
     (let t = more.0 in cc, more.1)
 
@@ -72,8 +72,8 @@ known_of a b e = cc
 
 pub reads_one_way : ReadsOneWay
 reads_one_way new other bytes events further p q =
-    let ps = flat_map bytes_of p.options ++ p.rest in
-    let qs = flat_map bytes_of q.options ++ q.rest in
+    let ps = flat_map sent_bytes p.options ++ p.rest in
+    let qs = flat_map sent_bytes q.options ++ q.rest in
     let e : p.flags ++ ps ≡ q.flags ++ qs = sym p.taken ∙ q.taken in
     let flags : p.flags ≡ q.flags = same_front p.flags q.flags ps qs (p.four ∙ sym q.four) e in
     let known : p.known ≡ q.known =

@@ -8,7 +8,7 @@ use Rattle.qs_nbd_wire.specs.Options.{ClientOption, FitsOption, option_head_byte
 use Rattle.qs_nbd_wire.proofs.Spelling.{length-option_head_bytes, length-option_bytes, option_head_of-option_head_bytes, option_spelled}
 use Rattle.qs_nbd_handshake.specs.Phases.{data_size, option_size}
 use Rattle.qs_nbd_handshake.specs.Sessions.{IsOption, SpellsServed, head_for}
-use Rattle.qs_nbd_handshake.specs.Wishes.{fault_of, wish_of}
+use Rattle.qs_nbd_handshake.specs.Wishes.{option_fault, wish_of}
 use Rattle.qs_nbd_handshake.proofs.Sizes.{size-least, size-long}
 
 first_rule : (a : Bool) (bad : SessionEnd) (rest : Option SessionEnd) → (if not a then Some bad else rest) ≡ None → a ≡ true
@@ -16,7 +16,7 @@ first_rule true bad rest e = refl
 first_rule false bad rest e = absurd (cc)
 
 -- a head that breaks no rule begins with the magic
-magic_served : (fixed : Bool) (h : OptionHead) → fault_of fixed h ≡ None → h.magic ≡ option_magic
+magic_served : (fixed : Bool) (h : OptionHead) → option_fault fixed h ≡ None → h.magic ≡ option_magic
 magic_served fixed h e = eqb-true h.magic option_magic (first_rule (h.magic == option_magic) _ _ e)
 
 served_size : (fixed : Bool) (bytes : List ℕ) → IsOption fixed bytes → length bytes ≡ 16 + (option_head_of bytes).length
@@ -35,7 +35,7 @@ spells_served = record {
   spelled = λ fixed bytes all is.
       (option_spelled bytes all (magic_served fixed (option_head_of bytes) is.served) (served_size fixed bytes is), refl);
   served = λ fixed o fits none.
-      let fault : fault_of fixed (option_head_of (option_bytes o)) ≡ None = ap (λ (h : OptionHead). fault_of fixed h) (head_read o fits) ∙ none in
+      let fault : option_fault fixed (option_head_of (option_bytes o)) ≡ None = ap (λ (h : OptionHead). option_fault fixed h) (head_read o fits) ∙ none in
       let whole : length (option_bytes o) ≡ option_size fixed (option_bytes o) =
       length-option_bytes o
       ∙ ap (λ (h : OptionHead). 16 + h.length) (sym (head_read o fits))

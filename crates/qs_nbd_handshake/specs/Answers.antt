@@ -92,11 +92,11 @@ go_step mode (told.Info info) = Transmit mode
 go_step mode other = Stay
 
 -- how an option goes on
-abbrev pub step_of : Mode → Wish → Told → HandStep
-step_of mode (wish.Export name) t = export_step mode t
-step_of mode wish.Abort t = Close ended.Aborted
-step_of mode (wish.Go inquiry) t = go_step mode t
-step_of mode other t = Stay
+abbrev pub hand_step_of : Mode → Wish → Told → HandStep
+hand_step_of mode (wish.Export name) t = export_step mode t
+hand_step_of mode wish.Abort t = Close ended.Aborted
+hand_step_of mode (wish.Go inquiry) t = go_step mode t
+hand_step_of mode other t = Stay
 
 -- the mode behind an option
 abbrev pub mode_behind : Mode → Wish → Mode
@@ -113,7 +113,7 @@ phase_behind (Close how) = Over how
 abbrev pub reader_behind : Terms → Wish → Told → Reader
 reader_behind terms w t = record {
   terms = record { fixed = terms.fixed; mode = mode_behind terms.mode w };
-  phase = phase_behind (step_of terms.mode w t);
+  phase = phase_behind (hand_step_of terms.mode w t);
 }
 
 -- These are the text, the step and the handshake behind it where this is told for an answer.
@@ -122,7 +122,7 @@ IsText mode (Asked w) t text = text ≡ text_of mode w t
 IsText mode other t text = ⊥
 
 abbrev pub IsStep : Mode → Phase → Told → HandStep → Type 0
-IsStep mode (Asked w) t step = step ≡ step_of mode w t
+IsStep mode (Asked w) t step = step ≡ hand_step_of mode w t
 IsStep mode other t step = ⊥
 
 abbrev pub IsBehind : Terms → Phase → Told → Reader → Type 0

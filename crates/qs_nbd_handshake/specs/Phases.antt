@@ -10,7 +10,7 @@ use Rattle.qs_nbd_handshake.specs.declared.event.HandEvent.{HandEvent}
 use Rattle.qs_nbd_handshake.specs.declared.event.HandEvent.TheVariants as event
 use Rattle.qs_nbd_handshake.specs.declared.stage.Terms.{Terms}
 use Rattle.qs_nbd_handshake.specs.declared.wish.Wish.{Wish}
-use Rattle.qs_nbd_handshake.specs.Wishes.{fault_of, wish_of, want_of}
+use Rattle.qs_nbd_handshake.specs.Wishes.{option_fault, wish_of, want_of}
 
 -- InFlags: these bytes of the client's flags were taken. InOption: these bytes of the next option.
 -- Asked: an option came, and its answer is awaited. Over: the handshake is over, and so is the session
@@ -28,8 +28,8 @@ pub record Reader : Type 0 where
   pub phase : Phase
 
 -- nothing is agreed on yet
-abbrev pub opening : Reader
-opening = record { terms = record { fixed = false; mode = record { no_zeroes = false; structured = false } }; phase = InFlags [] }
+abbrev pub opening_reader : Reader
+opening_reader = record { terms = record { fixed = false; mode = record { no_zeroes = false; structured = false } }; phase = InFlags [] }
 
 -- bytes are awaited, or all that follows is refused
 abbrev pub CanFeed : Phase → Type 0
@@ -58,7 +58,7 @@ data_size None size = size
 -- how many bytes the option has that begins with these, or what is refused of it; its head's 16 until
 -- they are there
 abbrev pub option_size : Bool → List ℕ → ℕ
-option_size fixed bytes = let h = option_head_of bytes in if nat_lt (length bytes) 16 then 16 else 16 + data_size (fault_of fixed h) h.length
+option_size fixed bytes = let h = option_head_of bytes in if nat_lt (length bytes) 16 then 16 else 16 + data_size (option_fault fixed h) h.length
 
 -- what a whole option tells, or a refused head
 abbrev pub event_of : Option SessionEnd → Wish → HandEvent
@@ -74,10 +74,10 @@ abbrev pub wish_in : List ℕ → Wish
 wish_in bytes = wish_of (option_head_of bytes).number (drop 16 bytes)
 
 abbrev pub option_event : Bool → List ℕ → HandEvent
-option_event fixed bytes = event_of (fault_of fixed (option_head_of bytes)) (wish_in bytes)
+option_event fixed bytes = event_of (option_fault fixed (option_head_of bytes)) (wish_in bytes)
 
 abbrev pub option_phase : Bool → List ℕ → Phase
-option_phase fixed bytes = phase_of_option (fault_of fixed (option_head_of bytes)) (wish_in bytes)
+option_phase fixed bytes = phase_of_option (option_fault fixed (option_head_of bytes)) (wish_in bytes)
 
 -- What stands at the end of these bytes of the client's flags, and the handshake there.
 abbrev pub FlagsTell : Terms → List ℕ → Option HandEvent → Reader → Type 0

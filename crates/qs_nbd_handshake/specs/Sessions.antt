@@ -12,8 +12,8 @@ use Rattle.qs_nbd_handshake.specs.declared.event.HandEvent.{HandEvent}
 use Rattle.qs_nbd_handshake.specs.declared.event.HandEvent.TheVariants as event
 use Rattle.qs_nbd_handshake.specs.declared.event.Told.{Told}
 use Rattle.qs_nbd_handshake.specs.Answers.{CanAnswer, IsBehind}
-use Rattle.qs_nbd_handshake.specs.Phases.{Phase, InFlags, InOption, Asked, Over, Stuck, Reader, Reaches, opening, option_size, wish_in}
-use Rattle.qs_nbd_handshake.specs.Wishes.{fault_of, want_of, wish_of}
+use Rattle.qs_nbd_handshake.specs.Phases.{Phase, InFlags, InOption, Asked, Over, Stuck, Reader, Reaches, opening_reader, option_size, wish_in}
+use Rattle.qs_nbd_handshake.specs.Wishes.{option_fault, want_of, wish_of}
 
 -- Took: a feed took these bytes, with what it told at their end. Answered: this was told for an answer.
 pub data HandshakeCall : Type 0 where
@@ -44,20 +44,20 @@ told_by (Answered t) = []
 -- a whole option that is answered: a head that breaks no rule, and as many data as it announces
 pub record IsOption (fixed : Bool) (bytes : List ℕ) : Type 0 where
   pub whole : length bytes ≡ option_size fixed bytes
-  pub served : fault_of fixed (option_head_of bytes) ≡ None
+  pub served : option_fault fixed (option_head_of bytes) ≡ None
 
 -- a head that breaks a rule
 pub record IsRefused (fixed : Bool) (bytes : List ℕ) (bad : SessionEnd) : Type 0 where
   pub whole : length bytes ≡ 16
-  pub fault : fault_of fixed (option_head_of bytes) ≡ Some bad
+  pub fault : option_fault fixed (option_head_of bytes) ≡ Some bad
 
 -- what is told of an option
 abbrev pub told_of : List ℕ → List HandEvent
 told_of bytes = event.Wanted (want_of (wish_in bytes)) ∷ []
 
 -- the bytes of an option are themselves
-abbrev pub bytes_of : List ℕ → List ℕ
-bytes_of bytes = bytes
+abbrev pub sent_bytes : List ℕ → List ℕ
+sent_bytes bytes = bytes
 
 -- What was taken behind the last whole option, and what was told of it: less than an option, nothing,
 -- or a head that is refused, which is told once or more often.
@@ -80,7 +80,7 @@ pub record TellsOptions (new : Reader) (bytes : List ℕ) (events : List HandEve
   pub read : flags_of (number32 flags 0) ≡ Some known
   pub fixed : new.terms.fixed ≡ known.fixed
   pub each : All (IsOption known.fixed) options
-  pub taken : bytes ≡ flags ++ (flat_map bytes_of options ++ rest)
+  pub taken : bytes ≡ flags ++ (flat_map sent_bytes options ++ rest)
   pub told : events ≡ event.Flags (number32 flags 0) ∷ (flat_map told_of options ++ last)
   pub leaves : EndsWith known.fixed new.phase rest last
 
@@ -103,7 +103,7 @@ TellsEvents new bytes events = AwaitsFlags new bytes events ⊎ (RefusesFlags ne
 -- however a stream is cut, its flags and options are told, and nothing else
 abbrev pub ReadsSessions : Type 0
 ReadsSessions =
-    (calls : List HandshakeCall) → (new : Reader) → CallsLead opening calls new →
+    (calls : List HandshakeCall) → (new : Reader) → CallsLead opening_reader calls new →
     TellsEvents new (flat_map taken_by calls) (flat_map told_by calls)
 
 -- the head of an option's spelling
@@ -116,7 +116,7 @@ pub record SpellsServed : Type 0 where
   pub spelled : (fixed : Bool) → (bytes : List ℕ) → AreBytes bytes → IsOption fixed bytes →
       let o : ClientOption = record { number = (option_head_of bytes).number; content = drop 16 bytes } in
       (bytes ≡ option_bytes o) × (wish_in bytes ≡ wish_of o.number o.content)
-  pub served : (fixed : Bool) → (o : ClientOption) → FitsOption o → fault_of fixed (head_for o) ≡ None →
+  pub served : (fixed : Bool) → (o : ClientOption) → FitsOption o → option_fault fixed (head_for o) ≡ None →
       IsOption fixed (option_bytes o) × (wish_in (option_bytes o) ≡ wish_of o.number o.content)
 
 -- A stream has one reading: two handshakes that took the same bytes, the client's flags among them, read the

@@ -12,14 +12,14 @@ use Rattle.qs_nbd_handshake.specs.declared.wish.Wish.TheVariants as wish
 use Rattle.qs_nbd_handshake.specs.Inquiries.{name_in, inquiry_of}
 
 -- the most data of an option, in bytes
-abbrev pub longest : ℕ
-longest = 65536
+abbrev pub longest_option : ℕ
+longest_option = 65536
 
 -- the first rule that a head breaks: magic before length before the client's newstyle
-abbrev pub fault_of : Bool → OptionHead → Option SessionEnd
-fault_of fixed h =
+abbrev pub option_fault : Bool → OptionHead → Option SessionEnd
+option_fault fixed h =
     if not (h.magic == option_magic) then Some (BadMagic h.magic) else
-    (if nat_lt longest h.length then Some (TooLong h.length) else
+    (if nat_lt longest_option h.length then Some (TooLong h.length) else
     (if not fixed && not (h.number == 1) then Some (NotFixed h.number) else None))
 
 -- an option that takes no data

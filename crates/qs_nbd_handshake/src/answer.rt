@@ -2,7 +2,7 @@ ghost use Rattle.std.specs.Prelude.{◌≡◌, ◌++◌, ℕ, Bool, List, IfOk};
 ghost use Rattle.std.specs.List.{flat_map};
 ghost use Rattle.qs_nbd_wire.specs.Replies.{reply_bytes};
 ghost use Rattle.qs_nbd_handshake.specs.Answers.{CanTell, export_text, info_text, informations, name_text, names_text, text_of};
-ghost use Rattle.qs_nbd_handshake.specs.Answers.{export_step, go_step, mode_behind as mode_after, phase_behind, step_of};
+ghost use Rattle.qs_nbd_handshake.specs.Answers.{export_step, go_step, mode_behind as mode_after, phase_behind, hand_step_of};
 ghost use Rattle.qs_nbd_handshake.specs.Stages.{IsSound, phase_of};
 ghost use Rattle.qs_nbd_handshake.specs.Wishes.{want_of};
 
@@ -123,7 +123,7 @@ fn informations(
 
 /// How an option goes on.
 pub fn step(mode: &Mode, wish: &Wish, told: &Told) -> HandStep
-    ensures { result ≡ step_of mode.now wish.now told.now }
+    ensures { result ≡ hand_step_of mode.now wish.now told.now }
 {
     match wish {
         Wish::Export(_) => after_export(mode, told),

@@ -1,7 +1,7 @@
 ghost use Rattle.std.specs.Prelude.{◌≡◌, ◌<◌, ◌≤◌, ◌++◌, List, ℕ, false, length, take, IfNone, IfOk, OnOk, OnErr};
 ghost use Rattle.qs_nbd_wire.specs.Greetings.{greeting_bytes};
 ghost use Rattle.qs_nbd_handshake.specs.Answers.{CanAnswer, IsBehind, IsStep, IsText};
-ghost use Rattle.qs_nbd_handshake.specs.Phases.{CanFeed, Reaches, end_at, is_stuck, opening};
+ghost use Rattle.qs_nbd_handshake.specs.Phases.{CanFeed, Reaches, end_at, is_stuck, opening_reader};
 
 use crate::answer::{answer_to, mode_behind, stage_behind, step};
 use crate::event::{HandEvent, HandStep, Told};
@@ -37,7 +37,7 @@ impl Handshake {
     /// A handshake that awaits the client's flags. It takes memory for one option of the greatest
     /// length, and no more later.
     pub fn new(alloc: Global) -> Result<Self, Memory>
-        ensures { IfOk result (λ h. h ≡ opening) }
+        ensures { IfOk result (λ h. h ≡ opening_reader) }
     {
         let buffer = vec![in alloc; 0; ROOM]?;
         let mode = Mode {

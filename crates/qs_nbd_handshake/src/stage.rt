@@ -5,7 +5,7 @@ ghost use Rattle.qs_nbd_wire.specs.Options.{option_head_of};
 ghost use Rattle.qs_nbd_handshake.specs.Phases.{CanFeed, Reaches, behind_flags, data_size, flags_event, is_stuck};
 ghost use Rattle.qs_nbd_handshake.specs.Phases.{option_event, option_phase, option_size};
 ghost use Rattle.qs_nbd_handshake.specs.Stages.{IsSound, phase_of, reader_of};
-ghost use Rattle.qs_nbd_handshake.specs.Wishes.{fault_of};
+ghost use Rattle.qs_nbd_handshake.specs.Wishes.{option_fault};
 
 use crate::event::HandEvent;
 use crate::wish::{LONGEST, Wish, head_fault, read_wish, wanted};
@@ -194,7 +194,7 @@ fn option_end(fixed: bool, bytes: &[u8]) -> usize
 
 /// How many bytes of data are read behind a head.
 fn data_len(fixed: bool, head: &OptionHead) -> usize
-    ensures size { result ≡ data_size (fault_of fixed head.now) head.now.length }
+    ensures size { result ≡ data_size (option_fault fixed head.now) head.now.length }
     ensures room { result ≤ 65536 }
 {
     match head_fault(fixed, head) {

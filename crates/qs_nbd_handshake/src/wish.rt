@@ -1,5 +1,5 @@
 ghost use Rattle.std.specs.Prelude.{◌≡◌};
-ghost use Rattle.qs_nbd_handshake.specs.Wishes.{bare_wish, fault_of, want_of, wish_of};
+ghost use Rattle.qs_nbd_handshake.specs.Wishes.{bare_wish, option_fault, want_of, wish_of};
 
 use crate::event::Want;
 use crate::inquiry::{Inquiry, name, read_inquiry};
@@ -47,7 +47,7 @@ pub enum Wish {
 /// The first rule, in this order, that the head of an option breaks: it begins with the magic, its
 /// data aren't too long, and a client that isn't of the fixed newstyle sends EXPORT_NAME alone.
 pub fn head_fault(fixed: bool, head: &OptionHead) -> Option<SessionEnd>
-    ensures { result ≡ fault_of fixed head.now }
+    ensures { result ≡ option_fault fixed head.now }
 {
     if head.magic != OPTION_MAGIC {
         return Some(SessionEnd::BadMagic(head.magic));

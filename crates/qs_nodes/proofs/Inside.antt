@@ -10,7 +10,7 @@ use Rattle.qs_nodes.specs.declared.way.WayDown.{WayDown}
 use Rattle.qs_nodes.specs.declared.walk.Walk.{Walk}
 use Rattle.qs_nodes.specs.Nodes.{has_place}
 use Rattle.qs_nodes.specs.Tree.{node_at, AllOver, IsRoot, IsRooted, Shows, StandsOver}
-use Rattle.qs_nodes.specs.Ways.{begun, child_of, first_read_only, is_next, met, passed, through, walked, way_from, CanPass, HasRoom}
+use Rattle.qs_nodes.specs.Ways.{walk_begun, child_of, first_read_only, is_next, met, walked_past, through, walked, way_from, CanPass, FitsWay}
 use Rattle.qs_nodes.proofs.Finds.{find_hit, find_miss}
 use Rattle.qs_nodes.proofs.Over.{back, found_back, small_more, AllSmall}
 use Rattle.qs_nodes.proofs.Rooted.{rooted_small}
@@ -33,7 +33,7 @@ through_lies size acc x (Throttle child slot) way r s inside deep =
 -- after a node it lies inside that node's child
 pub passed_lies : (size : ℕ) (acc : List Node) (x : Node) (next : Option ℕ) (way : WayDown) → StandsOver acc x →
     Lying size (x ∷ acc) next way →
-    Lying size acc (passed x (record { next = next; way = way })).next (passed x (record { next = next; way = way })).way
+    Lying size acc (walked_past x (record { next = next; way = way })).next (walked_past x (record { next = next; way = way })).way
 passed_lies size acc x None way s h = h
 passed_lies size acc x (Some p) way s (b, (at, inside, deep)) = go (x.place == p) refl
   where
@@ -61,8 +61,8 @@ walked_lies size acc (x ∷ newer) w small a h =
 -- past the file node the way lies inside the image
 root_lies : (size : ℕ) (root : Node) (next : Option ℕ) (way : WayDown) → IsRoot size root →
     Lying size (root ∷ []) next way →
-    ((passed root (record { next = next; way = way })).way.offset + (passed root (record { next = next; way = way })).way.size ≤ size)
-    × ((passed root (record { next = next; way = way })).way.count ≤ 8)
+    ((walked_past root (record { next = next; way = way })).way.offset + (walked_past root (record { next = next; way = way })).way.size ≤ size)
+    × ((walked_past root (record { next = next; way = way })).way.count ≤ 8)
 root_lies size root None way r h = h
 root_lies size root (Some p) way r (b, (at, inside, deep)) = go (root.place == p) refl
   where
@@ -103,24 +103,24 @@ at_total size (root ∷ rest) p b a at = go (root.place == p) refl
 
 -- at its beginning a walk lies inside its first node
 begun_lies : (size : ℕ) (nodes : List Node) (p : ℕ) (b : Node) → IsRooted size nodes → node_at nodes p ≡ Some b →
-    Lying size (back [] nodes) (begun p b.size).next (begun p b.size).way
+    Lying size (back [] nodes) (walk_begun p b.size).next (walk_begun p b.size).way
 begun_lies size nodes p b a at =
     let found = at_total size nodes p b a at in
     let deep = (rooted_small size nodes a p b found).1 in
     (b, (found, omega arith, omega (arith, deep)))
 
 pub way_inside : (size : ℕ) (nodes : List Node) (p : ℕ) (b : Node) → IsRooted size nodes → node_at nodes p ≡ Some b →
-    ((walked nodes (begun p b.size)).way.offset + (walked nodes (begun p b.size)).way.size ≤ size) × ((walked nodes (begun p b.size)).way.count ≤ 8)
+    ((walked nodes (walk_begun p b.size)).way.offset + (walked nodes (walk_begun p b.size)).way.size ≤ size) × ((walked nodes (walk_begun p b.size)).way.count ≤ 8)
 way_inside size [] p b a at = absurd a
 way_inside size (root ∷ rest) p b a at =
-    let w = begun p b.size in
+    let w = walk_begun p b.size in
     root_lies size root (walked rest w).next (walked rest w).way a.0
     (walked_lies size (root ∷ []) rest w (rooted_small size (root ∷ []) (a.0, record {})) a.1 (begun_lies size (root ∷ rest) p b a at))
 
 -- there is room for a node where the way so far lies inside it
 room_for : (size : ℕ) (acc : List Node) (x : Node) (kind : Kind) (way : WayDown) → size < 2 ^ 64 → AllSmall size acc →
     Shows acc x kind →
-    way.offset + way.size ≤ x.size → way.count + x.depth ≤ 8 → HasRoom kind way
+    way.offset + way.size ≤ x.size → way.count + x.depth ≤ 8 → FitsWay kind way
 room_for size acc x File way small all s inside deep = record {}
 room_for size acc x (Raw child offset) way small all s inside deep =
     let below = (all child s.0 s.1.0).0 in omega (arith, small, s.1.1, inside, below)
@@ -128,7 +128,7 @@ room_for size acc x (Throttle child slot) way small all s inside deep = omega (a
 
 can_pass : (size : ℕ) (acc : List Node) (x : Node) (next : Option ℕ) (way : WayDown) → size < 2 ^ 64 →
     AllSmall size acc → StandsOver acc x →
-    Lying size (x ∷ acc) next way → is_next x.place next ≡ true → HasRoom x.kind way
+    Lying size (x ∷ acc) next way → is_next x.place next ≡ true → FitsWay x.kind way
 can_pass size acc x None way small all s h is = absurd cc
 can_pass size acc x (Some p) way small all s (b, (at, inside, deep)) e =
     let is : x ≡ b = same_Some x b (sym (find_hit (has_place p) x acc e) ∙ at) in
@@ -146,13 +146,13 @@ nth_passes size acc (y ∷ nodes) w (suc i) x small all a h inside at =
 
 pub rooted_passes : (size : ℕ) (nodes : List Node) (p : ℕ) (b : Node) (i : ℕ) (x : Node) → size < 2 ^ 64 →
     IsRooted size nodes →
-    node_at nodes p ≡ Some b → i < length nodes → slice_index_or nodes i x ≡ x → CanPass x (walked (drop (suc i) nodes) (begun p b.size))
+    node_at nodes p ≡ Some b → i < length nodes → slice_index_or nodes i x ≡ x → CanPass x (walked (drop (suc i) nodes) (walk_begun p b.size))
 rooted_passes size [] p b i x small a at inside here = absurd a
 rooted_passes size (root ∷ rest) p b zero x small a at inside here = λ e.
-    subst (λ (k : Node). HasRoom k.kind (walked rest (begun p b.size)).way) here
-    (subst (λ (kind : Kind). HasRoom kind (walked rest (begun p b.size)).way) (sym a.0.kind) (record {}))
+    subst (λ (k : Node). FitsWay k.kind (walked rest (walk_begun p b.size)).way) here
+    (subst (λ (kind : Kind). FitsWay kind (walked rest (walk_begun p b.size)).way) (sym a.0.kind) (record {}))
 rooted_passes size (root ∷ rest) p b (suc i) x small a at inside here =
-    nth_passes size (root ∷ []) rest (begun p b.size) i x small (rooted_small size (root ∷ []) (a.0, record {})) a.1
+    nth_passes size (root ∷ []) rest (walk_begun p b.size) i x small (rooted_small size (root ∷ []) (a.0, record {})) a.1
     (begun_lies size (root ∷ rest) p b a at) (omega (arith, inside)) here
 
 -- every way down lies inside the image
@@ -162,9 +162,9 @@ pub every_way : (size : ℕ) (nodes : List Node) (p : ℕ) (way : WayDown) → I
 every_way size nodes p way a is = go (node_at nodes p) refl is
   where
     go : (found : Option Node) → node_at nodes p ≡ found →
-        option_map (λ (n : Node). (walked nodes (begun p n.size)).way) found ≡ Some way →
+        option_map (λ (n : Node). (walked nodes (walk_begun p n.size)).way) found ≡ Some way →
         (way.offset + way.size ≤ size) × (way.count ≤ 8)
     go None e is = absurd (none-some way is)
     go (Some n) e is =
-        subst (λ (k : WayDown). (k.offset + k.size ≤ size) × (k.count ≤ 8)) (same_Some (walked nodes (begun p n.size)).way way is)
+        subst (λ (k : WayDown). (k.offset + k.size ≤ size) × (k.count ≤ 8)) (same_Some (walked nodes (walk_begun p n.size)).way way is)
         (way_inside size nodes p n a e)

@@ -34,5 +34,5 @@ pub record Follows (n : Node) (way below : WayDown) : Type 0 where
       slice_index_or way.groups (members_of n.kind + k) (0, 0) ≡ slice_index_or below.groups k (0, 0)
 
 -- the way from the file node
-abbrev pub IsWhole : Node → WayDown → Type 0
-IsWhole n way = (way.offset ≡ 0) × (way.size ≡ n.size) × (way.count ≡ 0) × (way.read_only ≡ name_if_read_only n)
+abbrev pub IsFromFile : Node → WayDown → Type 0
+IsFromFile n way = (way.offset ≡ 0) × (way.size ≡ n.size) × (way.count ≡ 0) × (way.read_only ≡ name_if_read_only n)

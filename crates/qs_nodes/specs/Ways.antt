@@ -37,24 +37,24 @@ is_next place None = false
 is_next place (Some next) = place == next
 
 -- a walk passes a node, which is on the way where the walk goes on to its place
-abbrev pub passed : Node → Walk → Walk
-passed n w = if is_next n.place w.next then record { next = child_of n.kind; way = met n w.way } else w
+abbrev pub walked_past : Node → Walk → Walk
+walked_past n w = if is_next n.place w.next then record { next = child_of n.kind; way = met n w.way } else w
 
 -- A walk passes nodes, the newest first. A child is older than its users, so that none is passed too early.
 abbrev pub walked : List Node → Walk → Walk
 walked [] w = w
-walked (n ∷ newer) w = passed n (walked newer w)
+walked (n ∷ newer) w = walked_past n (walked newer w)
 
 -- the walk that begins at a place, where a node of this size is
-abbrev pub begun : ℕ → ℕ → Walk
-begun place size = record {
+abbrev pub walk_begun : ℕ → ℕ → Walk
+walk_begun place size = record {
   next = Some place;
   way = record { offset = 0; size = size; groups = replicate 8 (0, 0); count = 0; read_only = None };
 }
 
 -- the way down from the node at a place
 abbrev pub way_from : List Node → ℕ → Option WayDown
-way_from nodes place = option_map (λ (n : Node). (walked nodes (begun place n.size)).way) (node_at nodes place)
+way_from nodes place = option_map (λ (n : Node). (walked nodes (walk_begun place n.size)).way) (node_at nodes place)
 
 -- the place of the node of a name
 abbrev pub place_of : List Node → List ℕ → Option ℕ
@@ -65,11 +65,11 @@ abbrev pub AreRooted : List Node → Type 0
 AreRooted nodes = (size : ℕ) × ((size < 2 ^ 64) × IsRooted size nodes)
 
 -- the sum of offsets is a u64, and there is room for one more member
-abbrev pub HasRoom : Kind → WayDown → Type 0
-HasRoom File way = Unit {0}
-HasRoom (Raw child offset) way = way.offset + offset < 2 ^ 64
-HasRoom (Throttle child slot) way = way.count < 8
+abbrev pub FitsWay : Kind → WayDown → Type 0
+FitsWay File way = Unit {0}
+FitsWay (Raw child offset) way = way.offset + offset < 2 ^ 64
+FitsWay (Throttle child slot) way = way.count < 8
 
 -- there is room for a node that the walk goes on to
 abbrev pub CanPass : Node → Walk → Type 0
-CanPass n w = is_next n.place w.next ≡ true → HasRoom n.kind w.way
+CanPass n w = is_next n.place w.next ≡ true → FitsWay n.kind w.way

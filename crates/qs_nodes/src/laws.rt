@@ -3,7 +3,7 @@ ghost use Rattle.qs_nodes.specs.declared.node.Kind.TheVariants.{File};
 ghost use Rattle.qs_nodes.specs.declared.node.Node.{Node as Standing};
 ghost use Rattle.qs_nodes.specs.declared.node.Refused.{Refused};
 ghost use Rattle.qs_nodes.specs.declared.way.WayDown.{WayDown};
-ghost use Rattle.qs_nodes.specs.Follows.{Follows, IsWhole};
+ghost use Rattle.qs_nodes.specs.Follows.{Follows, IsFromFile};
 ghost use Rattle.qs_nodes.specs.Nodes.{user_of};
 ghost use Rattle.qs_nodes.specs.Sizes.{export_over, KeepsSize};
 ghost use Rattle.qs_nodes.specs.Table.{fresh, AddsGroup, AddsRaw, AddsThrottle, Deletes, EndsGroup, NodesValue, ReopensRaw, ReopensThrottle};
@@ -66,7 +66,7 @@ pub fn sized()
 /// node, and its name where it is read-only.
 pub fn followed()
     ensures file { (v : NodesValue) (place : ℕ) (n : Standing) (way : WayDown) → IsTree v →
-        node_at v.nodes place ≡ Some n → n.kind ≡ File → way_from v.nodes place ≡ Some way → IsWhole n way }
+        node_at v.nodes place ≡ Some n → n.kind ≡ File → way_from v.nodes place ≡ Some way → IsFromFile n way }
     ensures size { (v : NodesValue) (place : ℕ) (n : Standing) (way : WayDown) → node_at v.nodes place ≡ Some n →
         way_from v.nodes place ≡ Some way → way.size ≡ n.size }
     ensures child { (v : NodesValue) (place child : ℕ) (n : Standing) (way below : WayDown) → IsTree v →

@@ -1,6 +1,6 @@
 ghost use Rattle.std.specs.Prelude.{◌≡◌, Some};
 ghost use Rattle.qs_nodes.specs.Tree.{node_at};
-ghost use Rattle.qs_nodes.specs.Ways.{begun, is_next, passed, walked, way_from, AreRooted, CanPass};
+ghost use Rattle.qs_nodes.specs.Ways.{walk_begun, is_next, walked_past, walked, way_from, AreRooted, CanPass};
 
 use crate::node::Node;
 use crate::scan;
@@ -15,7 +15,7 @@ pub struct Walk {
 
 impl Walk {
     fn begun(place: u8, size: u64) -> Self
-        ensures { result ≡ begun place size }
+        ensures { result ≡ walk_begun place size }
     {
         Walk {
             next: Some(place),
@@ -40,7 +40,7 @@ impl Walk {
 
     fn passed(self, node: &Node) -> Self
         requires { CanPass node.now self }
-        ensures { result ≡ passed node.now self }
+        ensures { result ≡ walked_past node.now self }
     {
         if !self.is_next(node.place) {
             return self;
@@ -56,7 +56,7 @@ impl Walk {
 fn walk_down(nodes: &[Node], place: u8, node: Node) -> Walk
     requires tree { AreRooted nodes.now }
     requires found { node_at nodes.now place ≡ Some node }
-    ensures { result ≡ walked nodes.now (begun place node.size) }
+    ensures { result ≡ walked nodes.now (walk_begun place node.size) }
 {
     let mut walk = Walk::begun(place, node.size);
     for done in 0..nodes.len() {

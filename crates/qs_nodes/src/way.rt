@@ -1,5 +1,5 @@
 ghost use Rattle.std.specs.Prelude.{◌≡◌};
-ghost use Rattle.qs_nodes.specs.Ways.{first_read_only, met, through, HasRoom};
+ghost use Rattle.qs_nodes.specs.Ways.{first_read_only, met, through, FitsWay};
 
 use crate::node::{Kind, Node};
 use qs_bytes::Name;
@@ -33,7 +33,7 @@ fn first_read_only(known: Option<Name>, node: &Node) -> Option<Name>
 
 impl WayDown {
     fn through(self, kind: Kind, place: u8) -> Self
-        requires { HasRoom kind self }
+        requires { FitsWay kind self }
         ensures { result ≡ through kind place self }
     {
         match kind {
@@ -56,7 +56,7 @@ impl WayDown {
 
     /// The way through one node more.
     pub fn met(self, node: &Node) -> Self
-        requires { HasRoom node.now.kind self }
+        requires { FitsWay node.now.kind self }
         ensures { result ≡ met node.now self }
     {
         WayDown {

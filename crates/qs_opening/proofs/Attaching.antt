@@ -10,7 +10,7 @@ use Rattle.qs_nbd_handshake.specs.declared.event.Want.TheVariants.{Attach}
 use Rattle.qs_world.specs.Values.{WorldValue}
 use Rattle.qs_calls.specs.Runs.{Begins}
 use Rattle.qs_single.specs.Resting.{Attaches}
-use Rattle.qs_opening.specs.Telling.{Changes, Joins, JoinsAt}
+use Rattle.qs_opening.specs.Telling.{WantChanges, Joins, JoinsAt}
 
 module _ {D : Type 0} (seen : D → Seen) (session : ℕ) (old new : WorldValue D) where
   module _ (writable : Bool) (name : List ℕ) where
@@ -38,7 +38,7 @@ module _ {D : Type 0} (seen : D → Seen) (session : ℕ) (old new : WorldValue 
   -- one who wants to attach
   pub changes_attached : (result : Option Told) (wanted : Want) (bytes : Option (List ℕ)) → wanted ≡ Attach bytes →
       IfSome result (λ told. (disks : List D) (read_only : Bool) → Begins seen disks read_only old → Joins seen session (not read_only) old bytes new) →
-      IfSome result (λ told. (disks : List D) (read_only : Bool) → Begins seen disks read_only old → Changes seen session (not read_only) old wanted new)
+      IfSome result (λ told. (disks : List D) (read_only : Bool) → Begins seen disks read_only old → WantChanges seen session (not read_only) old wanted new)
   changes_attached result wanted bytes is joins =
       subst (λ (w : Want). IfSome result (λ told. (disks : List D) (read_only : Bool) → Begins seen disks read_only old →
-      Changes seen session (not read_only) old w new)) (sym is) joins
+      WantChanges seen session (not read_only) old w new)) (sym is) joins

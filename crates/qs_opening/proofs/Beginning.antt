@@ -12,7 +12,7 @@ use Rattle.qs_stream.proofs.Moves.{moved_on}
 use Rattle.qs_world.specs.Values.{WorldValue}
 use Rattle.qs_opening.specs.declared.turn.Opened.{Opened}
 use Rattle.qs_opening.specs.declared.turn.Opened.TheVariants.{Ends}
-use Rattle.qs_opening.specs.Openings.{Converses, Flags, LacksFlags, Opens, ReadsFlags, terms_of}
+use Rattle.qs_opening.specs.Openings.{Converses, Flags, LacksFlags, OpensSession, ReadsFlags, terms_of}
 
 -- the greeting was put
 pub greeted_by : (bytes : List ℕ) (input o : Side) (s : Buffers) (o' : Side) (s' : Buffers) → bytes ≡ greeting_bytes → Puts bytes o s o' s' →
@@ -37,20 +37,20 @@ module _ {D : Type 0} (seen : D → Seen) (session : ℕ) (writable : Bool) (bud
 
   -- no flags came
   pub opens_without : {E F : Type 0} (told : Option Status) (status : Status) → told ≡ Some status → ReadsFlags {E = F} greeted (Ok told) reader after →
-      Opens {E = E} seen session writable budget before old (Ok (Ends status)) after old
+      OpensSession {E = E} seen session writable budget before old (Ok (Ends status)) after old
   opens_without {E} {F} told status is reads =
       let lacks : LacksFlags {E = Unit {0}} reads.taken (Ok status) after = subst (λ (t : Option Status). Flags {E = F} reads.taken (Ok t) reader after) is reads.flags in
       inr (inl (record { taken = reads.taken; moved = behind reads.taken reads.moved; fruitless = (status, (refl, lacks)); same = refl }))
 
   -- the stream failed
   pub opens_fault : {E F : Type 0} (e : F) (result : Result Opened E) (P : E → Type 0) → IsErrAnd result P → ReadsFlags {E = F} greeted (Err e) reader after →
-      Opens {E = E} seen session writable budget before old result after old
+      OpensSession {E = E} seen session writable budget before old result after old
   opens_fault e (Ok opened) P is reads = absurd is
   opens_fault e (Err f) P is reads = inr (inl (record { taken = reads.taken; moved = behind reads.taken reads.moved; fruitless = reads.flags; same = refl }))
 
   -- options came
   pub opens_on : {E : Type 0} (result : Result Opened E) (last : Flow) (new : WorldValue D) → Knows reader greeted after →
-      Converses {E = E} seen session writable budget reader.terms after old result last new → Opens {E = E} seen session writable budget before old result last new
+      Converses {E = E} seen session writable budget reader.terms after old result last new → OpensSession {E = E} seen session writable budget before old result last new
   opens_on {E} result last new known converses =
       let agreed : reader.terms ≡ terms_of known.1.1.0 = ap (λ (r : Reader). r.terms) known.1.1.1.2 in
       let c : Converses {E = E} seen session writable budget (terms_of known.1.1.0) after old result last new =

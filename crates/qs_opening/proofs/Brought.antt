@@ -10,7 +10,7 @@ use Rattle.qs_nbd_handshake.specs.declared.event.Want.{Want}
 use Rattle.qs_nbd_handshake.specs.declared.stage.Terms.{Terms}
 use Rattle.qs_nbd_handshake.specs.declared.wish.Wish.{Wish}
 use Rattle.qs_nbd_handshake.specs.Phases.{Phase, Reader, InOption, Leads, OptionTells, data_size, event_of, option_size, phase_of_option, wish_in}
-use Rattle.qs_nbd_handshake.specs.Wishes.{fault_of, want_of}
+use Rattle.qs_nbd_handshake.specs.Wishes.{option_fault, want_of}
 use Rattle.qs_stream.specs.Flows.{Flow}
 use Rattle.qs_opening.specs.declared.turn.Came.TheVariants as came
 use Rattle.qs_opening.specs.Events.{Finds, Seeks}
@@ -29,14 +29,14 @@ size_by true fault n bad is = refl
 size_by false (Some found) n bad is = refl
 size_by false None n bad is = absurd (cc)
 
-size_refused : (fixed : Bool) (bytes : List ℕ) (bad : SessionEnd) → fault_of fixed (option_head_of bytes) ≡ Some bad → option_size fixed bytes ≡ 16
-size_refused fixed bytes bad is = size_by (nat_lt (length bytes) 16) (fault_of fixed (option_head_of bytes)) ((option_head_of bytes).length) bad is
+size_refused : (fixed : Bool) (bytes : List ℕ) (bad : SessionEnd) → option_fault fixed (option_head_of bytes) ≡ Some bad → option_size fixed bytes ≡ 16
+size_refused fixed bytes bad is = size_by (nat_lt (length bytes) 16) (option_fault fixed (option_head_of bytes)) ((option_head_of bytes).length) bad is
 
 -- a whole option, in an event
 option_came : (terms : Terms) (taken : List ℕ) (wanted : Want) (new : Reader) → OptionTells terms taken (Some (event.Wanted wanted)) new →
     IsAsked terms taken new × (wanted ≡ want_of (wish_in taken))
 option_came terms taken wanted new tells =
-    let is = wanted_of (fault_of terms.fixed (option_head_of taken)) (wish_in taken) wanted tells.1 in (
+    let is = wanted_of (option_fault terms.fixed (option_head_of taken)) (wish_in taken) wanted tells.1 in (
       record {
         option = record { whole = tells.0; served = is.0 };
         reader = tells.2 ∙ ap (λ (f : Option SessionEnd). record { terms = terms; phase = phase_of_option f (wish_in taken) }) is.0;
@@ -47,7 +47,7 @@ option_came terms taken wanted new tells =
 -- a refused head, in an event
 refused_came : (terms : Terms) (taken : List ℕ) (bad : SessionEnd) (new : Reader) → OptionTells terms taken (Some (event.Bad bad)) new → IsBad terms.fixed (Ended bad) taken
 refused_came terms taken bad new tells =
-    let is = bad_of (fault_of terms.fixed (option_head_of taken)) (wish_in taken) bad tells.1 in
+    let is = bad_of (option_fault terms.fixed (option_head_of taken)) (wish_in taken) bad tells.1 in
     record { bad = bad; status_is = refl; refused = record { whole = tells.0 ∙ size_refused terms.fixed taken bad is; fault = is } }
 
 module _ {E : Type 0} (old new : Reader) (before after : Flow) (told : Option HandEvent) (awaits : old.phase ≡ InOption []) (seeks : Seeks {E = E} old before (Ok told) new after) where

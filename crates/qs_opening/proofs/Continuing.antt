@@ -12,7 +12,7 @@ use Rattle.qs_nbd_handshake.specs.declared.event.Want.{Want}
 use Rattle.qs_nbd_handshake.specs.declared.stage.Terms.{Terms}
 use Rattle.qs_nbd_handshake.specs.declared.wish.Wish.{Wish}
 use Rattle.qs_nbd_handshake.specs.declared.wish.Wish.TheVariants as wish
-use Rattle.qs_nbd_handshake.specs.Answers.{export_step, go_step, phase_behind, step_of}
+use Rattle.qs_nbd_handshake.specs.Answers.{export_step, go_step, phase_behind, hand_step_of}
 use Rattle.qs_nbd_handshake.specs.Phases.{Reader, Asked, wish_in}
 use Rattle.qs_nbd_handshake.specs.Wishes.{want_of}
 use Rattle.qs_stream.specs.Buffers.{Buffers}
@@ -22,11 +22,11 @@ use Rattle.qs_world.specs.Values.{WorldValue}
 use Rattle.qs_opening.specs.declared.turn.Came.{Came}
 use Rattle.qs_opening.specs.declared.turn.Came.TheVariants as came
 use Rattle.qs_opening.specs.declared.turn.Opened.TheVariants.{Ends}
-use Rattle.qs_opening.specs.declared.turn.Turn.{Turn}
-use Rattle.qs_opening.specs.declared.turn.Turn.TheVariants as turn
+use Rattle.qs_opening.specs.declared.turn.Negotiation.{Negotiation}
+use Rattle.qs_opening.specs.declared.turn.Negotiation.TheVariants as negotiation
 use Rattle.qs_opening.specs.Options.{terms_behind, text_for}
-use Rattle.qs_opening.specs.Telling.{Changes, JoinsAt, told_info, told_of}
-use Rattle.qs_opening.specs.Turns.{Answers, Comes, IsAsked, TakesTurn, Turns, turn_at}
+use Rattle.qs_opening.specs.Telling.{WantChanges, JoinsAt, told_info, graph_told}
+use Rattle.qs_opening.specs.Turns.{AnswersOption, Comes, IsAsked, TakesTurn, Turns, turn_at}
 
 -- no requests follow
 abbrev pub Remains : HandStep → Type 0
@@ -44,7 +44,7 @@ module _ {D : Type 0} (seen : D → Seen) (session : ℕ) (writable : Bool) (old
   go_same mode name (Some info) remains joins = absurd remains
   go_same mode name None remains joins = joins
 
-  unchanged : (mode : Mode) (w : Wish) → Remains (step_of mode w (told_of old.graph (want_of w))) → Changes seen session writable old (want_of w) new → new ≡ old
+  unchanged : (mode : Mode) (w : Wish) → Remains (hand_step_of mode w (graph_told old.graph (want_of w))) → WantChanges seen session writable old (want_of w) new → new ≡ old
   unchanged mode (wish.Export (Some name)) remains changes = export_same mode name (info_of old.graph name) remains changes
   unchanged mode (wish.Export None) remains changes = changes
   unchanged mode wish.Abort remains changes = changes
@@ -52,8 +52,8 @@ module _ {D : Type 0} (seen : D → Seen) (session : ℕ) (writable : Bool) (old
   unchanged mode (wish.Info inquiry) remains changes = changes
   unchanged mode (wish.Go inquiry) remains changes = asked inquiry.name remains changes
     where
-      asked : (bytes : Option (List ℕ)) → Remains (go_step mode (told_of old.graph (want_of (wish.Export bytes)))) →
-          Changes seen session writable old (want_of (wish.Export bytes)) new → new ≡ old
+      asked : (bytes : Option (List ℕ)) → Remains (go_step mode (graph_told old.graph (want_of (wish.Export bytes)))) →
+          WantChanges seen session writable old (want_of (wish.Export bytes)) new → new ≡ old
       asked (Some name) remains changes = go_same mode name (info_of old.graph name) remains changes
       asked None remains changes = changes
   unchanged mode wish.Structured remains changes = changes
@@ -62,9 +62,9 @@ module _ {D : Type 0} (seen : D → Seen) (session : ℕ) (writable : Bool) (old
 
   -- how it goes on, by the step
   by_step : (E : Type 0) (terms : Terms) (taken : List ℕ) (mid new_reader : Reader) (after : Flow) (step : HandStep) → IsAsked terms taken mid →
-      step ≡ step_of terms.mode (wish_in taken) (told_of old.graph (want_of (wish_in taken))) →
-      new_reader ≡ record { terms = terms_behind terms taken; phase = phase_behind (step_of terms.mode (wish_in taken) (told_of old.graph (want_of (wish_in taken)))) } →
-      Changes seen session writable old (want_of (wish_in taken)) new →
+      step ≡ hand_step_of terms.mode (wish_in taken) (graph_told old.graph (want_of (wish_in taken))) →
+      new_reader ≡ record { terms = terms_behind terms taken; phase = phase_behind (hand_step_of terms.mode (wish_in taken) (graph_told old.graph (want_of (wish_in taken)))) } →
+      WantChanges seen session writable old (want_of (wish_in taken)) new →
       Turns {E = E} seen session writable terms old (Ok (turn_at step)) taken (text_for old.graph terms taken) new_reader after new
   by_step E terms taken mid new_reader after Stay asked is reader_is changes = record {
     option = asked.option;
@@ -102,13 +102,13 @@ asked_wish terms taken reader asked = ap (λ (r : Reader). r.phase) asked.reader
 module _ {E D : Type 0} (seen : D → Seen) (session : ℕ) (writable : Bool) (terms : Terms) (before mid : Flow) (old new : WorldValue D) (taken : List ℕ) (reader new_reader : Reader)
     (moved : Moved taken [] before mid) (asked : IsAsked terms taken reader) (o : Side) (s : Buffers) where
   -- an option was answered
-  pub turned : (step : HandStep) (told : Turn) → told ≡ turn_at step →
-      Answers seen session writable reader.terms (wish_in taken) old (Some step) new_reader new mid.output mid.stream o s →
+  pub turned : (step : HandStep) (told : Negotiation) → told ≡ turn_at step →
+      AnswersOption seen session writable reader.terms (wish_in taken) old (Some step) new_reader new mid.output mid.stream o s →
       TakesTurn {E = E} seen session writable terms before old (Ok told) new_reader (record { input = mid.input; output = o; stream = s }) new
   turned step told is answers =
       let same : reader.terms ≡ terms = ap (λ (r : Reader). r.terms) asked.reader in
-      let answers' : Answers seen session writable terms (wish_in taken) old (Some step) new_reader new mid.output mid.stream o s =
-      subst (λ (t : Terms). Answers seen session writable t (wish_in taken) old (Some step) new_reader new mid.output mid.stream o s) same answers in
+      let answers' : AnswersOption seen session writable terms (wish_in taken) old (Some step) new_reader new mid.output mid.stream o s =
+      subst (λ (t : Terms). AnswersOption seen session writable t (wish_in taken) old (Some step) new_reader new mid.output mid.stream o s) same answers in
       let after : Flow = record { input = mid.input; output = o; stream = s } in
       let text : List ℕ = text_for old.graph terms taken in
       record {
@@ -116,13 +116,13 @@ module _ {E D : Type 0} (seen : D → Seen) (session : ℕ) (writable : Bool) (t
         given = text;
         moved = subst (λ (bytes : List ℕ). Moved bytes text before after) (append-nil taken)
             (moved_on before mid after taken [] [] text moved (answers'.3.moved mid.input));
-        turns = subst (λ (t : Turn). Turns {E = E} seen session writable terms old (Ok t) taken text new_reader after new) (sym is)
+        turns = subst (λ (t : Negotiation). Turns {E = E} seen session writable terms old (Ok t) taken text new_reader after new) (sym is)
             (by_step seen session writable old new E terms taken reader new_reader after step asked answers'.0 answers'.1 answers'.2);
       }
 
   -- memory was refused for the answer
-  pub turn_starved : Answers seen session writable reader.terms (wish_in taken) old None new_reader new mid.output mid.stream o s →
-      TakesTurn {E = E} seen session writable terms before old (Ok (turn.Over (Ends Memory))) new_reader (record { input = mid.input; output = o; stream = s }) new
+  pub turn_starved : AnswersOption seen session writable reader.terms (wish_in taken) old None new_reader new mid.output mid.stream o s →
+      TakesTurn {E = E} seen session writable terms before old (Ok (negotiation.Over (Ends Memory))) new_reader (record { input = mid.input; output = o; stream = s }) new
   turn_starved answers =
       let same : record { input = mid.input; output = o; stream = s } ≡ mid =
       ap (λ (b : Buffers). record { input = mid.input; output = o; stream = b }) answers.1 ∙ ap (λ (p : Side). record { input = mid.input; output = p; stream = mid.stream }) answers.2 in

@@ -10,14 +10,14 @@ use Rattle.qs_graph.specs.Table.{GraphValue}
 use Rattle.qs_nbd_handshake.specs.declared.event.HandStep.TheVariants.{Stay}
 use Rattle.qs_nbd_handshake.specs.declared.stage.Terms.{Terms}
 use Rattle.qs_nbd_handshake.specs.Phases.{Phase, Reader, InOption}
-use Rattle.qs_nbd_handshake.specs.Sessions.{IsOption, bytes_of}
+use Rattle.qs_nbd_handshake.specs.Sessions.{IsOption, sent_bytes}
 use Rattle.qs_stream.specs.Flows.{Flow, Moved}
 use Rattle.qs_stream.proofs.Moves.{moved_none, moved_on}
 use Rattle.qs_world.specs.Values.{WorldValue}
 use Rattle.qs_opening.specs.declared.turn.Opened.{Opened}
 use Rattle.qs_opening.specs.declared.turn.Opened.TheVariants.{Ends}
-use Rattle.qs_opening.specs.declared.turn.Turn.{Turn}
-use Rattle.qs_opening.specs.declared.turn.Turn.TheVariants as turn
+use Rattle.qs_opening.specs.declared.turn.Negotiation.{Negotiation}
+use Rattle.qs_opening.specs.declared.turn.Negotiation.TheVariants as negotiation
 use Rattle.qs_opening.specs.Options.{AllStay, answers_to, step_for, terms_after, terms_behind, text_for}
 use Rattle.qs_opening.specs.Openings.{Converses}
 use Rattle.qs_opening.specs.Turns.{GoesOn, TakesTurn, Turns}
@@ -26,7 +26,7 @@ use Rattle.qs_opening.specs.Turns.{GoesOn, TakesTurn, Turns}
 pub record Conversed {D : Type 0} (terms : Terms) (before now : Flow) (old : WorldValue D) (world : WorldValue D) (reader : Reader) (count : ℕ) : Type 0 where
   pub options : List (List ℕ)
   pub stay : AllStay old.graph terms options
-  pub moved : Moved (flat_map bytes_of options) (answers_to old.graph terms options) before now
+  pub moved : Moved (flat_map sent_bytes options) (answers_to old.graph terms options) before now
   pub counted : length options ≡ count
   pub same : world ≡ old
   pub reader_is : reader ≡ record { terms = terms_after terms options; phase = InOption [] }
@@ -57,9 +57,9 @@ answers_more graph terms (x ∷ xs) option =
     ap (λ (bytes : List ℕ). text_for graph terms x ++ bytes) (answers_more graph (terms_behind terms x) xs option)
     ∙ sym (append_assoc (text_for graph terms x) (answers_to graph (terms_behind terms x) xs) (text_for graph (terms_after (terms_behind terms x) xs) option))
 
-bytes_more : (options : List (List ℕ)) (option : List ℕ) → flat_map bytes_of (options ++ option ∷ []) ≡ flat_map bytes_of options ++ option
+bytes_more : (options : List (List ℕ)) (option : List ℕ) → flat_map sent_bytes (options ++ option ∷ []) ≡ flat_map sent_bytes options ++ option
 bytes_more options option =
-    flat_map-append bytes_of options (option ∷ []) ∙ ap (λ (bytes : List ℕ). flat_map bytes_of options ++ bytes) (append-nil option)
+    flat_map-append sent_bytes options (option ∷ []) ∙ ap (λ (bytes : List ℕ). flat_map sent_bytes options ++ bytes) (append-nil option)
 
 module _ {D : Type 0} (seen : D → Seen) (session : ℕ) (writable : Bool) (terms : Terms) (before now after : Flow) (old world new : WorldValue D) (reader next : Reader) (count : ℕ)
     (conversed : Conversed terms before now old world reader count) where
@@ -68,30 +68,30 @@ module _ {D : Type 0} (seen : D → Seen) (session : ℕ) (writable : Bool) (ter
   agreed = ap (λ (r : Reader). r.terms) conversed.reader_is
 
   -- a turn from there
-  turns_so : {E : Type 0} (result : Result Turn E) (turn : TakesTurn seen session writable reader.terms now world result next after new) →
+  turns_so : {E : Type 0} (result : Result Negotiation E) (turn : TakesTurn seen session writable reader.terms now world result next after new) →
       Turns seen session writable (terms_after terms conversed.options) old result turn.taken turn.given next after new
   turns_so result turn =
       subst (λ (w : WorldValue D). Turns seen session writable (terms_after terms conversed.options) w result turn.taken turn.given next after new) conversed.same
       (subst (λ (t : Terms). Turns seen session writable t world result turn.taken turn.given next after new) agreed turn.turns)
 
   moves_so : (taken given : List ℕ) → Moved taken given now after →
-      Moved (flat_map bytes_of conversed.options ++ taken) (answers_to old.graph terms conversed.options ++ given) before after
+      Moved (flat_map sent_bytes conversed.options ++ taken) (answers_to old.graph terms conversed.options ++ given) before after
   moves_so taken given moved =
-      moved_on before now after (flat_map bytes_of conversed.options) (answers_to old.graph terms conversed.options) taken given conversed.moved moved
+      moved_on before now after (flat_map sent_bytes conversed.options) (answers_to old.graph terms conversed.options) taken given conversed.moved moved
 
   -- one option more was answered
-  pub conversed_more : {E : Type 0} (told : Turn) → told ≡ turn.Stays → TakesTurn {E = E} seen session writable reader.terms now world (Ok told) next after new →
+  pub conversed_more : {E : Type 0} (told : Negotiation) → told ≡ negotiation.Stays → TakesTurn {E = E} seen session writable reader.terms now world (Ok told) next after new →
       Conversed terms before after old new next (count + 1)
   conversed_more {E} told is taken =
       let goes : GoesOn (terms_after terms conversed.options) old taken.taken taken.given next new =
-      subst (λ (t : Turn). Turns {E = E} seen session writable (terms_after terms conversed.options) old (Ok t) taken.taken taken.given next after new) is (turns_so (Ok told) taken) in
+      subst (λ (t : Negotiation). Turns {E = E} seen session writable (terms_after terms conversed.options) old (Ok t) taken.taken taken.given next after new) is (turns_so (Ok told) taken) in
       let behind : Terms = terms_after terms conversed.options in
       let given : taken.given ≡ text_for old.graph behind taken.taken = goes.given_is in
       record {
         options = conversed.options ++ taken.taken ∷ [];
         stay = stay_more old.graph terms conversed.options taken.taken conversed.stay goes.option goes.step;
         moved = subst (λ (bytes : List ℕ). Moved bytes (answers_to old.graph terms (conversed.options ++ taken.taken ∷ [])) before after) (sym (bytes_more conversed.options taken.taken))
-            (subst (λ (bytes : List ℕ). Moved (flat_map bytes_of conversed.options ++ taken.taken) bytes before after)
+            (subst (λ (bytes : List ℕ). Moved (flat_map sent_bytes conversed.options ++ taken.taken) bytes before after)
             (ap (λ (bytes : List ℕ). answers_to old.graph terms conversed.options ++ bytes) given ∙ sym (answers_more old.graph terms conversed.options taken.taken))
             (moves_so taken.taken taken.given taken.moved));
         counted = length-append conversed.options (taken.taken ∷ []) ∙ ap (λ (n : ℕ). n + 1) conversed.counted;
@@ -100,7 +100,7 @@ module _ {D : Type 0} (seen : D → Seen) (session : ℕ) (writable : Bool) (ter
       }
 
   -- options were over
-  pub converses_end : {E F : Type 0} (budget : ℕ) (told : Turn) (opened : Opened) → told ≡ turn.Over opened →
+  pub converses_end : {E F : Type 0} (budget : ℕ) (told : Negotiation) (opened : Opened) → told ≡ negotiation.Over opened →
       TakesTurn {E = E} seen session writable reader.terms now world (Ok told) next after new →
       Converses {E = F} seen session writable budget terms before old (Ok opened) after new
   converses_end {E} budget told opened is taken = record {
@@ -109,7 +109,7 @@ module _ {D : Type 0} (seen : D → Seen) (session : ℕ) (writable : Bool) (ter
     rest = taken.taken;
     given = taken.given;
     moved = moves_so taken.taken taken.given taken.moved;
-    finishes = inl (subst (λ (t : Turn). Turns {E = E} seen session writable (terms_after terms conversed.options) old (Ok t) taken.taken taken.given next after new) is
+    finishes = inl (subst (λ (t : Negotiation). Turns {E = E} seen session writable (terms_after terms conversed.options) old (Ok t) taken.taken taken.given next after new) is
         (turns_so (Ok told) taken));
   }
 
@@ -134,6 +134,6 @@ converses_spent seen session writable terms before now old world reader count bu
   stay = conversed.stay;
   rest = [];
   given = [];
-  moved = moved_on before now now (flat_map bytes_of conversed.options) (answers_to old.graph terms conversed.options) [] [] conversed.moved (moved_none now);
+  moved = moved_on before now now (flat_map sent_bytes conversed.options) (answers_to old.graph terms conversed.options) [] [] conversed.moved (moved_none now);
   finishes = inr (record { opened_is = refl; all = conversed.counted ∙ all; rest_is = refl; given_is = refl; same = conversed.same });
 }

@@ -19,17 +19,17 @@ use Rattle.qs_nbd_handshake.specs.declared.event.Want.{Want}
 use Rattle.qs_nbd_handshake.specs.declared.event.Want.TheVariants as want
 use Rattle.qs_nbd_handshake.specs.declared.stage.Terms.{Terms}
 use Rattle.qs_nbd_handshake.specs.Answers.{CanFind, CanTell, phase_behind, reader_behind}
-use Rattle.qs_nbd_handshake.specs.Phases.{Reader, InOption, Asked, Stuck, behind_flags, data_size, event_of, flags_event, opening, option_size, phase_of_option, wish_in}
+use Rattle.qs_nbd_handshake.specs.Phases.{Reader, InOption, Asked, Stuck, behind_flags, data_size, event_of, flags_event, opening_reader, option_size, phase_of_option, wish_in}
 use Rattle.qs_nbd_handshake.specs.Sessions.{HandshakeCall, Took, CallLeads, CallsLead, IsOption, IsRefused, taken_by}
 use Rattle.qs_nbd_handshake.specs.Wishes.{want_of}
 use Rattle.qs_nbd_handshake.proofs.Sizes.{size-long, size-least}
 use Rattle.qs_stream.specs.Flows.{Flow}
 use Rattle.qs_world.specs.Values.{WorldValue}
 use Rattle.qs_opening.specs.declared.turn.Opened.{Opened}
-use Rattle.qs_opening.specs.Openings.{Finishes, terms_of}
+use Rattle.qs_opening.specs.Openings.{FinishesOpening, terms_of}
 use Rattle.qs_opening.specs.Options.{AllStay, step_for, terms_after, terms_behind, told_for}
 use Rattle.qs_opening.specs.Reading.{ReadsHandshakes, flags_call, option_calls}
-use Rattle.qs_opening.specs.Telling.{told_info, told_of}
+use Rattle.qs_opening.specs.Telling.{told_info, graph_told}
 use Rattle.qs_opening.specs.Turns.{Concludes}
 
 -- calls lead on
@@ -42,7 +42,7 @@ can_find : (name : List ℕ) (known : Option ExportInfo) → CanFind (Some name)
 can_find name (Some info) = tt
 can_find name None = tt
 
-can_tell : (graph : GraphValue) (w : Want) → CanTell w (told_of graph w)
+can_tell : (graph : GraphValue) (w : Want) → CanTell w (graph_told graph w)
 can_tell graph want.Nothing = tt
 can_tell graph (want.Find None) = tt
 can_tell graph (want.Find (Some name)) = can_find name (info_of graph name)
@@ -95,11 +95,11 @@ options_lead graph terms (o ∷ os) stay =
     (turn_leads graph terms o stay.0 stay.1) (options_lead graph (terms_behind terms o) os stay.2)
 
 -- the flags came
-flags_lead : (flags : List ℕ) (known : ClientFlags) → length flags ≡ 4 → flags_of (number32 flags 0) ≡ Some known → CallLeads opening (flags_call flags) (between (terms_of known))
+flags_lead : (flags : List ℕ) (known : ClientFlags) → length flags ≡ 4 → flags_of (number32 flags 0) ≡ Some known → CallLeads opening_reader (flags_call flags) (between (terms_of known))
 flags_lead flags known four is = (
   four,
   ap (λ (d : Option ClientFlags). flags_event (number32 flags 0) d) (sym is),
-  ap (λ (d : Option ClientFlags). behind_flags opening.terms (number32 flags 0) d) (sym is),
+  ap (λ (d : Option ClientFlags). behind_flags opening_reader.terms (number32 flags 0) d) (sym is),
 )
 
 -- what comes last: a whole option, less than one, or a head that is refused
@@ -130,7 +130,7 @@ none_short : (fixed : Bool) (rest : List ℕ) → rest ≡ [] → length rest < 
 none_short fixed rest is = omega (arith, ap length is, size-least fixed rest)
 
 finishes_rest : {D : Type 0} (seen : D → Seen) (session : ℕ) (writable : Bool) (budget : ℕ) (options : List (List ℕ)) (terms : Terms) (old : WorldValue D) (result : Result Opened Failed)
-    (rest given : List ℕ) (after : Flow) (new : WorldValue D) → Finishes {E = Failed} seen session writable budget options terms old result rest given after new → IsRest terms.fixed rest
+    (rest given : List ℕ) (after : Flow) (new : WorldValue D) → FinishesOpening {E = Failed} seen session writable budget options terms old result rest given after new → IsRest terms.fixed rest
 finishes_rest seen session writable budget options terms old (Ok opened) rest given after new (inl concludes) = go concludes
   where
     go : Concludes seen session writable terms old opened rest given after new → IsRest terms.fixed rest

@@ -10,7 +10,7 @@ use Rattle.qs_nbd_wire.specs.declared.opening.ClientFlags.{ClientFlags}
 use Rattle.qs_nbd_wire.specs.Greetings.{flags_of, greeting_bytes}
 use Rattle.qs_nbd_handshake.specs.declared.stage.Terms.{Terms}
 use Rattle.qs_nbd_handshake.specs.Phases.{Reader, InFlags, InOption, end_at}
-use Rattle.qs_nbd_handshake.specs.Sessions.{bytes_of}
+use Rattle.qs_nbd_handshake.specs.Sessions.{sent_bytes}
 use Rattle.qs_stream.specs.declared.state.State.TheVariants.{Open}
 use Rattle.qs_stream.specs.Flows.{Flow, IsUsedUp, Moved}
 use Rattle.qs_world.specs.Values.{WorldValue}
@@ -32,10 +32,10 @@ pub record Spends {D : Type 0} (budget : ℕ) (options : List (List ℕ)) (old :
   pub same : new ≡ old
 
 -- how the options end, behind those that stayed
-abbrev pub Finishes : {E D : Type 0} → (D → Seen) → ℕ → Bool → ℕ → List (List ℕ) → Terms → WorldValue D → Result Opened E → List ℕ → List ℕ → Flow → WorldValue D → Type 0
-Finishes seen session writable budget options terms old (Ok opened) rest given after new =
+abbrev pub FinishesOpening : {E D : Type 0} → (D → Seen) → ℕ → Bool → ℕ → List (List ℕ) → Terms → WorldValue D → Result Opened E → List ℕ → List ℕ → Flow → WorldValue D → Type 0
+FinishesOpening seen session writable budget options terms old (Ok opened) rest given after new =
     Concludes seen session writable terms old opened rest given after new ⊎ Spends budget options old opened rest given new
-Finishes seen session writable budget options terms old (Err e) rest given after new = Fails terms old rest given after new
+FinishesOpening seen session writable budget options terms old (Err e) rest given after new = Fails terms old rest given after new
 
 -- Options were read and answered, one after the other, behind each of which options go on, and then the handshake was over.
 pub record Converses {E D : Type 0} (seen : D → Seen) (session : ℕ) (writable : Bool) (budget : ℕ) (terms : Terms) (before : Flow) (old : WorldValue D) (result : Result Opened E) (after : Flow)
@@ -44,8 +44,8 @@ pub record Converses {E D : Type 0} (seen : D → Seen) (session : ℕ) (writabl
   pub stay : AllStay old.graph terms options
   pub rest : List ℕ
   pub given : List ℕ
-  pub moved : Moved (flat_map bytes_of options ++ rest) (answers_to old.graph terms options ++ given) before after
-  pub finishes : Finishes seen session writable budget options (terms_after terms options) old result rest given after new
+  pub moved : Moved (flat_map sent_bytes options ++ rest) (answers_to old.graph terms options ++ given) before after
+  pub finishes : FinishesOpening seen session writable budget options (terms_after terms options) old result rest given after new
 
 -- Of the client's flags these bytes came, and the session ended, or the stream failed.
 abbrev pub LacksFlags : {E : Type 0} → List ℕ → Result Status E → Flow → Type 0
@@ -89,8 +89,8 @@ pub record Agrees {E D : Type 0} (seen : D → Seen) (session : ℕ) (writable :
   pub stay : AllStay old.graph (terms_of known) options
   pub rest : List ℕ
   pub given : List ℕ
-  pub moved : Moved (flags ++ (flat_map bytes_of options ++ rest)) (greeting_bytes ++ (answers_to old.graph (terms_of known) options ++ given)) before after
-  pub finishes : Finishes seen session writable budget options (terms_after (terms_of known) options) old result rest given after new
+  pub moved : Moved (flags ++ (flat_map sent_bytes options ++ rest)) (greeting_bytes ++ (answers_to old.graph (terms_of known) options ++ given)) before after
+  pub finishes : FinishesOpening seen session writable budget options (terms_after (terms_of known) options) old result rest given after new
 
 -- Memory was refused before anything was read or written.
 pub record Forgoes {E D : Type 0} (before : Flow) (old : WorldValue D) (result : Result Opened E) (after : Flow) (new : WorldValue D) : Type 0 where
@@ -99,6 +99,6 @@ pub record Forgoes {E D : Type 0} (before : Flow) (old : WorldValue D) (result :
   pub same : new ≡ old
 
 -- One handshake: the greeting, the client's flags, options and their answers.
-abbrev pub Opens : {E D : Type 0} → (D → Seen) → ℕ → Bool → ℕ → Flow → WorldValue D → Result Opened E → Flow → WorldValue D → Type 0
-Opens seen session writable budget before old result after new =
+abbrev pub OpensSession : {E D : Type 0} → (D → Seen) → ℕ → Bool → ℕ → Flow → WorldValue D → Result Opened E → Flow → WorldValue D → Type 0
+OpensSession seen session writable budget before old result after new =
     Agrees seen session writable budget before old result after new ⊎ (Greets before old result after new ⊎ Forgoes before old result after new)

@@ -5,15 +5,15 @@ use Rattle.qs_nbd_handshake.specs.declared.event.HandStep.{HandStep}
 use Rattle.qs_nbd_handshake.specs.declared.event.HandStep.TheVariants.{Stay}
 use Rattle.qs_nbd_handshake.specs.declared.event.Told.{Told}
 use Rattle.qs_nbd_handshake.specs.declared.stage.Terms.{Terms}
-use Rattle.qs_nbd_handshake.specs.Answers.{mode_behind, step_of, text_of}
+use Rattle.qs_nbd_handshake.specs.Answers.{mode_behind, hand_step_of, text_of}
 use Rattle.qs_nbd_handshake.specs.Phases.{wish_in}
 use Rattle.qs_nbd_handshake.specs.Sessions.{IsOption}
 use Rattle.qs_nbd_handshake.specs.Wishes.{want_of}
-use Rattle.qs_opening.specs.Telling.{told_of}
+use Rattle.qs_opening.specs.Telling.{graph_told}
 
 -- what is told for an option
 abbrev pub told_for : GraphValue → List ℕ → Told
-told_for graph option = told_of graph (want_of (wish_in option))
+told_for graph option = graph_told graph (want_of (wish_in option))
 
 -- what it is answered
 abbrev pub text_for : GraphValue → Terms → List ℕ → List ℕ
@@ -21,7 +21,7 @@ text_for graph terms option = text_of terms.mode (wish_in option) (told_for grap
 
 -- how the session goes on behind it
 abbrev pub step_for : GraphValue → Terms → List ℕ → HandStep
-step_for graph terms option = step_of terms.mode (wish_in option) (told_for graph option)
+step_for graph terms option = hand_step_of terms.mode (wish_in option) (told_for graph option)
 
 -- what is agreed on behind it
 abbrev pub terms_behind : Terms → List ℕ → Terms

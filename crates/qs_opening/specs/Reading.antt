@@ -6,7 +6,7 @@ use Rattle.qs_outside.specs.Blocks.{Seen}
 use Rattle.qs_outside.specs.declared.stream.Failed.{Failed}
 use Rattle.qs_graph.specs.Table.{GraphValue}
 use Rattle.qs_nbd_handshake.specs.declared.event.HandEvent.TheVariants as event
-use Rattle.qs_nbd_handshake.specs.Phases.{Reader, opening, wish_in}
+use Rattle.qs_nbd_handshake.specs.Phases.{Reader, opening_reader, wish_in}
 use Rattle.qs_nbd_handshake.specs.Sessions.{HandshakeCall, Took, Answered, CallsLead, taken_by}
 use Rattle.qs_nbd_handshake.specs.Wishes.{want_of}
 use Rattle.qs_stream.specs.Flows.{Flow}
@@ -27,7 +27,7 @@ option_calls graph option = Took option (Some (event.Wanted (want_of (wish_in op
 pub record IsRead (graph : GraphValue) (flags : List ℕ) (options : List (List ℕ)) (rest : List ℕ) : Type 0 where
   pub behind : List HandshakeCall
   pub new : Reader
-  pub leads : CallsLead opening (flags_call flags ∷ (flat_map (option_calls graph) options ++ behind)) new
+  pub leads : CallsLead opening_reader (flags_call flags ∷ (flat_map (option_calls graph) options ++ behind)) new
   pub rest_is : flat_map taken_by behind ≡ rest
 
 -- every handshake is read so, as far as it came

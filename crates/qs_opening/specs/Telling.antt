@@ -22,11 +22,11 @@ told_name graph (Some name) = told_info (info_of graph name)
 told_name graph None = told.Missing
 
 -- what is told to one who wants this
-abbrev pub told_of : GraphValue → Want → Told
-told_of graph want.Nothing = told.Nothing
-told_of graph (want.Find name) = told_name graph name
-told_of graph (want.Attach name) = told_name graph name
-told_of graph want.Names = told.Names (names_of graph)
+abbrev pub graph_told : GraphValue → Want → Told
+graph_told graph want.Nothing = told.Nothing
+graph_told graph (want.Find name) = told_name graph name
+graph_told graph (want.Attach name) = told_name graph name
+graph_told graph want.Names = told.Names (names_of graph)
 
 -- the session was attached to this export by a name, or nothing changed where there is none
 abbrev pub JoinsAt : {D : Type 0} → (D → Seen) → ℕ → Bool → WorldValue D → List ℕ → Option ExportInfo → WorldValue D → Type 0
@@ -38,6 +38,6 @@ Joins seen session writable old (Some name) new = JoinsAt seen session writable 
 Joins seen session writable old None new = new ≡ old
 
 -- what becomes of the core: one who wants to attach is attached, and for others nothing changes
-abbrev pub Changes : {D : Type 0} → (D → Seen) → ℕ → Bool → WorldValue D → Want → WorldValue D → Type 0
-Changes seen session writable old (want.Attach name) new = Joins seen session writable old name new
-Changes seen session writable old other new = new ≡ old
+abbrev pub WantChanges : {D : Type 0} → (D → Seen) → ℕ → Bool → WorldValue D → Want → WorldValue D → Type 0
+WantChanges seen session writable old (want.Attach name) new = Joins seen session writable old name new
+WantChanges seen session writable old other new = new ≡ old

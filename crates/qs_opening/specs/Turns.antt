@@ -10,7 +10,7 @@ use Rattle.qs_nbd_handshake.specs.declared.event.HandStep.{HandStep}
 use Rattle.qs_nbd_handshake.specs.declared.event.HandStep.TheVariants.{Stay, Transmit as TransmitStep, Close}
 use Rattle.qs_nbd_handshake.specs.declared.stage.Terms.{Terms}
 use Rattle.qs_nbd_handshake.specs.declared.wish.Wish.{Wish}
-use Rattle.qs_nbd_handshake.specs.Answers.{reader_behind, step_of, text_of}
+use Rattle.qs_nbd_handshake.specs.Answers.{reader_behind, hand_step_of, text_of}
 use Rattle.qs_nbd_handshake.specs.Phases.{Reader, InOption, Asked as AskedPhase, end_at, option_size, wish_in}
 use Rattle.qs_nbd_handshake.specs.Sessions.{IsOption, IsRefused}
 use Rattle.qs_nbd_handshake.specs.Wishes.{want_of}
@@ -22,10 +22,10 @@ use Rattle.qs_opening.specs.declared.turn.Came.{Came}
 use Rattle.qs_opening.specs.declared.turn.Came.TheVariants as came
 use Rattle.qs_opening.specs.declared.turn.Opened.{Opened}
 use Rattle.qs_opening.specs.declared.turn.Opened.TheVariants.{Transmit, Ends}
-use Rattle.qs_opening.specs.declared.turn.Turn.{Turn}
-use Rattle.qs_opening.specs.declared.turn.Turn.TheVariants as turn
+use Rattle.qs_opening.specs.declared.turn.Negotiation.{Negotiation}
+use Rattle.qs_opening.specs.declared.turn.Negotiation.TheVariants as negotiation
 use Rattle.qs_opening.specs.Options.{step_for, terms_behind, text_for}
-use Rattle.qs_opening.specs.Telling.{Changes, told_of}
+use Rattle.qs_opening.specs.Telling.{WantChanges, graph_told}
 
 -- the status of a session that ended so
 abbrev pub status_at : SessionEnd → Status
@@ -33,10 +33,10 @@ status_at end.Done = Done
 status_at other = Ended other
 
 -- whether options go on behind an answer
-abbrev pub turn_at : HandStep → Turn
-turn_at Stay = turn.Stays
-turn_at (TransmitStep mode) = turn.Over (Transmit mode)
-turn_at (Close how) = turn.Over (Ends (status_at how))
+abbrev pub turn_at : HandStep → Negotiation
+turn_at Stay = negotiation.Stays
+turn_at (TransmitStep mode) = negotiation.Over (Transmit mode)
+turn_at (Close how) = negotiation.Over (Ends (status_at how))
 
 -- the input ended between options, or within one
 pub record IsCut (fixed : Bool) (status : Status) (rest : List ℕ) (after : Flow) : Type 0 where
@@ -69,12 +69,12 @@ pub record Asking {E : Type 0} (terms : Terms) (before : Flow) (result : Result 
 
 -- An option was answered: by what the core tells, and the answer was put. For want of memory no answer was put, and a session may have been
 -- attached before.
-abbrev pub Answers : {D : Type 0} → (D → Seen) → ℕ → Bool → Terms → Wish → WorldValue D → Option HandStep → Reader → WorldValue D → Side → Buffers → Side → Buffers → Type 0
-Answers seen session writable terms w old (Some step) reader new output stream output' stream' =
-    (step ≡ step_of terms.mode w (told_of old.graph (want_of w))) × (reader ≡ reader_behind terms w (told_of old.graph (want_of w)))
-    × Changes seen session writable old (want_of w) new × Puts (text_of terms.mode w (told_of old.graph (want_of w))) output stream output' stream'
-Answers seen session writable terms w old None reader new output stream output' stream' =
-    ((new ≡ old) ⊎ Changes seen session writable old (want_of w) new) × (stream' ≡ stream) × (output' ≡ output)
+abbrev pub AnswersOption : {D : Type 0} → (D → Seen) → ℕ → Bool → Terms → Wish → WorldValue D → Option HandStep → Reader → WorldValue D → Side → Buffers → Side → Buffers → Type 0
+AnswersOption seen session writable terms w old (Some step) reader new output stream output' stream' =
+    (step ≡ hand_step_of terms.mode w (graph_told old.graph (want_of w))) × (reader ≡ reader_behind terms w (graph_told old.graph (want_of w)))
+    × WantChanges seen session writable old (want_of w) new × Puts (text_of terms.mode w (graph_told old.graph (want_of w))) output stream output' stream'
+AnswersOption seen session writable terms w old None reader new output stream output' stream' =
+    ((new ≡ old) ⊎ WantChanges seen session writable old (want_of w) new) × (stream' ≡ stream) × (output' ≡ output)
 
 -- Requests follow: the last option was answered so, and the session is attached.
 pub record Transmits {D : Type 0} (seen : D → Seen) (session : ℕ) (writable : Bool) (terms : Terms) (old : WorldValue D) (opened : Opened) (rest given : List ℕ) (new : WorldValue D) : Type 0 where
@@ -83,7 +83,7 @@ pub record Transmits {D : Type 0} (seen : D → Seen) (session : ℕ) (writable 
   pub option : IsOption terms.fixed rest
   pub step : step_for old.graph terms rest ≡ TransmitStep mode
   pub given_is : given ≡ text_for old.graph terms rest
-  pub changes : Changes seen session writable old (want_of (wish_in rest)) new
+  pub changes : WantChanges seen session writable old (want_of (wish_in rest)) new
 
 -- The last option was answered, and closed the session.
 pub record Closes {D : Type 0} (terms : Terms) (old : WorldValue D) (opened : Opened) (rest given : List ℕ) (new : WorldValue D) : Type 0 where
@@ -99,7 +99,7 @@ pub record Starves {D : Type 0} (seen : D → Seen) (session : ℕ) (writable : 
   pub opened_is : opened ≡ Ends Memory
   pub option : IsOption terms.fixed rest
   pub given_is : given ≡ []
-  pub changes : (new ≡ old) ⊎ Changes seen session writable old (want_of (wish_in rest)) new
+  pub changes : (new ≡ old) ⊎ WantChanges seen session writable old (want_of (wish_in rest)) new
 
 -- No whole option that may be sent came.
 pub record Stops {D : Type 0} (terms : Terms) (old : WorldValue D) (opened : Opened) (rest given : List ℕ) (after : Flow) (new : WorldValue D) : Type 0 where
@@ -130,13 +130,13 @@ pub record GoesOn {D : Type 0} (terms : Terms) (old : WorldValue D) (taken given
   pub reader_is : reader ≡ record { terms = terms_behind terms taken; phase = InOption [] }
   pub same : new ≡ old
 
-abbrev pub Turns : {E D : Type 0} → (D → Seen) → ℕ → Bool → Terms → WorldValue D → Result Turn E → List ℕ → List ℕ → Reader → Flow → WorldValue D → Type 0
-Turns seen session writable terms old (Ok turn.Stays) taken given reader after new = GoesOn terms old taken given reader new
-Turns seen session writable terms old (Ok (turn.Over opened)) taken given reader after new = Concludes seen session writable terms old opened taken given after new
+abbrev pub Turns : {E D : Type 0} → (D → Seen) → ℕ → Bool → Terms → WorldValue D → Result Negotiation E → List ℕ → List ℕ → Reader → Flow → WorldValue D → Type 0
+Turns seen session writable terms old (Ok negotiation.Stays) taken given reader after new = GoesOn terms old taken given reader new
+Turns seen session writable terms old (Ok (negotiation.Over opened)) taken given reader after new = Concludes seen session writable terms old opened taken given after new
 Turns seen session writable terms old (Err e) taken given reader after new = Fails terms old taken given after new
 
 -- one option was read and answered, or the session ended before, or the stream failed
-pub record TakesTurn {E D : Type 0} (seen : D → Seen) (session : ℕ) (writable : Bool) (terms : Terms) (before : Flow) (old : WorldValue D) (result : Result Turn E) (reader : Reader) (after : Flow)
+pub record TakesTurn {E D : Type 0} (seen : D → Seen) (session : ℕ) (writable : Bool) (terms : Terms) (before : Flow) (old : WorldValue D) (result : Result Negotiation E) (reader : Reader) (after : Flow)
     (new : WorldValue D) : Type 0 where
   pub taken : List ℕ
   pub given : List ℕ

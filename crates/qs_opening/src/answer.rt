@@ -4,7 +4,7 @@ ghost use Rattle.qs_nbd_handshake.specs.declared.wish.Wish.{Wish};
 ghost use Rattle.qs_nbd_handshake.specs.Phases.{Asked};
 ghost use Rattle.qs_nbd_handshake.specs.Wishes.{want_of};
 ghost use Rattle.qs_stream.specs.Flows.{side};
-ghost use Rattle.qs_opening.specs.Turns.{Answers};
+ghost use Rattle.qs_opening.specs.Turns.{AnswersOption};
 
 use crate::telling::tell;
 use qs_bytes::Bytes;
@@ -28,7 +28,7 @@ pub fn answer_option<O: Sink, D: Disk + Drop>(
     requires begins { (disks : List D) × (read_only : Bool) × Begins D.seen disks read_only world.old }
     requires asked { (w : Wish) × ((reader.old.phase ≡ Asked w) × (want.now ≡ want_of w)) }
     ensures { (w : Wish) (disks : List D) (read_only : Bool) → reader.old.phase ≡ Asked w → want.now ≡ want_of w → Begins D.seen disks read_only world.old →
-        Answers D.seen session (not read_only) reader.old.terms w world.old result reader.new world.new
+        AnswersOption D.seen session (not read_only) reader.old.terms w world.old result reader.new world.new
         (side O.sent O.write_faults output.old) stream.old (side O.sent O.write_faults output.new) stream.new }
 {
     let told = match tell(alloc, world, session, want) {

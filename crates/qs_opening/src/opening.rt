@@ -1,11 +1,11 @@
 ghost use Rattle.std.specs.Prelude.{◌≡◌, [], Bool, List, not};
 ghost use Rattle.qs_calls.specs.Runs.{Begins};
-ghost use Rattle.qs_nbd_handshake.specs.Phases.{InOption, opening};
+ghost use Rattle.qs_nbd_handshake.specs.Phases.{InOption, opening_reader};
 ghost use Rattle.qs_stream.specs.Flows.{flow};
-ghost use Rattle.qs_opening.specs.Openings.{Converses, Opens, ReadsFlags};
+ghost use Rattle.qs_opening.specs.Openings.{Converses, OpensSession, ReadsFlags};
 
 use crate::event::next_event;
-use crate::turn::{Opened, Turn, status_of, take_turn};
+use crate::turn::{Negotiation, Opened, status_of, take_turn};
 use qs_nbd_handshake::{HandEvent, Handshake};
 use qs_outside::{Disk, Failed, Sink, Source};
 use qs_status::Status;
@@ -20,7 +20,7 @@ fn read_flags<I: Source, O: Sink>(
     input: &mut I,
     output: &mut O,
 ) -> Result<Option<Status>, Failed>
-    requires opens { reader.old ≡ opening }
+    requires opens { reader.old ≡ opening_reader }
     ensures { ReadsFlags (flow I.left I.read_faults O.sent O.write_faults input.old output.old stream.old) result
         reader.new (flow I.left I.read_faults O.sent O.write_faults input.new output.new stream.new) }
 {
@@ -53,8 +53,8 @@ fn take_turns<I: Source, O: Sink, D: Disk + Drop>(
 {
     for _ in 0..budget {
         match take_turn(alloc, reader, stream, input, output, world, session)? {
-            Turn::Stays => {}
-            Turn::Over(opened) => return Ok(opened),
+            Negotiation::Stays => {}
+            Negotiation::Over(opened) => return Ok(opened),
         }
     }
     Ok(Opened::Ends(Status::Spent))
@@ -79,7 +79,7 @@ pub fn open_session<I: Source, O: Sink, D: Disk + Drop>(
 ) -> Result<Opened, Failed>
     requires begins { (disks : List D) × (read_only : Bool) × Begins D.seen disks read_only world.old }
     ensures { (disks : List D) (read_only : Bool) → Begins D.seen disks read_only world.old →
-        Opens D.seen session (not read_only) budget
+        OpensSession D.seen session (not read_only) budget
         (flow I.left I.read_faults O.sent O.write_faults input.old output.old stream.old) world.old result
         (flow I.left I.read_faults O.sent O.write_faults input.new output.new stream.new) world.new }
 {

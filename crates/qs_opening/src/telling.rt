@@ -1,7 +1,7 @@
 ghost use Rattle.std.specs.Prelude.{◌≡◌, Bool, List, IfNone, IfSome, not};
 ghost use Rattle.qs_calls.specs.Runs.{Begins};
 ghost use Rattle.qs_graph.specs.Readings.{info_of, names_of};
-ghost use Rattle.qs_opening.specs.Telling.{Changes, Joins, JoinsAt, told_info, told_name, told_of};
+ghost use Rattle.qs_opening.specs.Telling.{WantChanges, Joins, JoinsAt, told_info, told_name, graph_told};
 
 use qs_bytes::{Name, NameList};
 use qs_nbd_handshake::{Told, Want};
@@ -91,9 +91,9 @@ pub fn tell<D: Disk + Drop>(
     want: &Want,
 ) -> Option<Told>
     requires begins { (disks : List D) × (read_only : Bool) × Begins D.seen disks read_only world.old }
-    ensures told { IfSome result (λ told. told ≡ told_of world.old.graph want.now) }
+    ensures told { IfSome result (λ told. told ≡ graph_told world.old.graph want.now) }
     ensures changes { IfSome result (λ told. (disks : List D) (read_only : Bool) → Begins D.seen disks read_only world.old →
-        Changes D.seen session (not read_only) world.old want.now world.new) }
+        WantChanges D.seen session (not read_only) world.old want.now world.new) }
     ensures none { IfNone result (world.new ≡ world.old) }
 {
     match want {

@@ -30,7 +30,7 @@ pub enum Came {
 
 /// Whether options go on.
 #[derive(Clone, Copy, Debug, PartialEq, Eq)]
-pub enum Turn {
+pub enum Negotiation {
     Stays,
     Over(Opened),
 }
@@ -66,13 +66,13 @@ fn next_option<I: Source, O: Sink>(
 }
 
 /// Whether options go on behind an answer.
-fn turn_of(step: &HandStep) -> Turn
+fn turn_of(step: &HandStep) -> Negotiation
     ensures { result ≡ turn_at step.now }
 {
     match step {
-        HandStep::Stay => Turn::Stays,
-        HandStep::Transmit(mode) => Turn::Over(Opened::Transmit(*mode)),
-        HandStep::Close(how) => Turn::Over(Opened::Ends(status_of(*how))),
+        HandStep::Stay => Negotiation::Stays,
+        HandStep::Transmit(mode) => Negotiation::Over(Opened::Transmit(*mode)),
+        HandStep::Close(how) => Negotiation::Over(Opened::Ends(status_of(*how))),
     }
 }
 
@@ -85,7 +85,7 @@ pub fn take_turn<I: Source, O: Sink, D: Disk + Drop>(
     output: &mut O,
     world: &mut World<D>,
     session: u32,
-) -> Result<Turn, Failed>
+) -> Result<Negotiation, Failed>
     requires begins { (disks : List D) × (read_only : Bool) × Begins D.seen disks read_only world.old }
     requires awaits { reader.old.phase ≡ InOption [] }
     ensures { (disks : List D) (read_only : Bool) → Begins D.seen disks read_only world.old →
@@ -95,10 +95,10 @@ pub fn take_turn<I: Source, O: Sink, D: Disk + Drop>(
 {
     let want = match next_option(reader, stream, input, output)? {
         Came::Asked(want) => want,
-        Came::Ended(status) => return Ok(Turn::Over(Opened::Ends(status))),
+        Came::Ended(status) => return Ok(Negotiation::Over(Opened::Ends(status))),
     };
     match answer_option(alloc, reader, stream, output, world, session, &want) {
         Some(step) => Ok(turn_of(&step)),
-        None => Ok(Turn::Over(Opened::Ends(Status::Memory))),
+        None => Ok(Negotiation::Over(Opened::Ends(Status::Memory))),
     }
 }

@@ -11,11 +11,11 @@ use borrow.Rule.Slice.PartMut.{put_mid}
 use Rattle.qs_bytes.specs.Pieces.{part}
 use Rattle.qs_outside.specs.Blocks.{Stored}
 use Rattle.qs_bytes.specs.Geometry.{stripe_of}
-use Rattle.qs_outside.specs.Held.{Held, block_of, rank_of}
+use Rattle.qs_outside.specs.Held.{Held, block_of, holder_rank}
 
 -- a block of the stripe is a part of the bytes
 pub block-here : (held : Held) (b align : ℕ) (bytes : List ℕ) → stripe_of b ≡ held.stripe → held.align ≡ align → held.bytes ≡ bytes
-    → block_of held b ≡ part bytes (rank_of b * align) align
+    → block_of held b ≡ part bytes (holder_rank b * align) align
 unfolding block_of
 block-here held b align bytes here same whole = rw (eq-eqb (stripe_of b) held.stripe here, same, whole) refl
 
@@ -24,9 +24,9 @@ unfolding block_of
 block-elsewhere held b h = rw (ne_eqb (stripe_of b) held.stripe h) refl
 
 -- two blocks of one stripe have ranks of their own
-rank-apart : (b c : ℕ) → stripe_of b ≡ stripe_of c → c ≢ b → (rank_of c + 1 ≤ rank_of b) ⊎ (rank_of b + 1 ≤ rank_of c)
+rank-apart : (b c : ℕ) → stripe_of b ≡ stripe_of c → c ≢ b → (holder_rank c + 1 ≤ holder_rank b) ⊎ (holder_rank b + 1 ≤ holder_rank c)
 rank-apart b c h differ =
-    elim (cases_lt (rank_of c) (rank_of b)) [ inl below ↦ inl (omega arith) | inr above ↦ inr (omega arith) ]
+    elim (cases_lt (holder_rank c) (holder_rank b)) [ inl below ↦ inl (omega arith) | inr above ↦ inr (omega arith) ]
 
 -- the part of a list that lies within a front
 part-below : (xs ys : List ℕ) (i n : ℕ) → take (i + n) xs ≡ take (i + n) ys → part xs i n ≡ part ys i n
@@ -57,29 +57,29 @@ refilled n at k bytes piece items room whole e =
 
 -- a write over a block's bytes is a store of the block
 pub block-stored : (old new : Held) (b k : ℕ) (piece : List ℕ) → new.stripe ≡ old.stripe → new.align ≡ old.align
-    → new.bytes ≡ put_mid (rank_of b * old.align) k old.bytes piece → stripe_of b ≡ old.stripe → rank_of b * old.align + old.align ≤ length old.bytes
+    → new.bytes ≡ put_mid (holder_rank b * old.align) k old.bytes piece → stripe_of b ≡ old.stripe → holder_rank b * old.align + old.align ≤ length old.bytes
     → length piece ≡ old.align → k ≡ old.align → Stored b piece (block_of old) (block_of new)
 block-stored old new b k piece stripe align bytes here room whole e = record {
-  here = block-here new b old.align _ (here ∙ sym stripe) align bytes ∙ part-same old.bytes piece (rank_of b * old.align) old.align k room whole;
+  here = block-here new b old.align _ (here ∙ sym stripe) align bytes ∙ part-same old.bytes piece (holder_rank b * old.align) old.align k room whole;
   others = λ c differ. elim (eqb_tells (stripe_of c) old.stripe) [
     | inl also ↦ block-here new c old.align _ (also.1 ∙ sym stripe) align bytes
-        ∙ part-other old.bytes piece (rank_of b) (rank_of c) old.align k (rank-apart b c (here ∙ sym also.1) differ) room whole e
+        ∙ part-other old.bytes piece (holder_rank b) (holder_rank c) old.align k (rank-apart b c (here ∙ sym also.1) differ) room whole e
         ∙ sym (block-here old c old.align old.bytes also.1 refl refl)
     | inr other ↦ block-elsewhere new c (λ same. other.1 (same ∙ stripe)) ∙ sym (block-elsewhere old c other.1)
   ];
 }
 
 -- each of the stripe's blocks inside the image has room
-pub rank-room : (b align size n : ℕ) → 0 < align → (b + 1) * align ≤ size → n ≡ div_ceil (size / align) 128 * 16 * align → (rank_of b + 1) * align ≤ n
+pub rank-room : (b align size n : ℕ) → 0 < align → (b + 1) * align ≤ size → n ≡ div_ceil (size / align) 128 * 16 * align → (holder_rank b + 1) * align ≤ n
 rank-room b align size n some inside e =
     let blocks : b + 1 ≤ size / align = le-div (b + 1) size align some inside in
-    let ranks : rank_of b + 1 ≤ div_ceil (size / align) 128 * 16 = omega arith in
+    let ranks : holder_rank b + 1 ≤ div_ceil (size / align) 128 * 16 = omega arith in
     rw e (mul-le-mul_right align ranks)
 
 -- a block of zeros
-pub block-zeros : (held : Held) (b n : ℕ) → held.bytes ≡ replicate n 0 → stripe_of b ≡ held.stripe → (rank_of b + 1) * held.align ≤ n
+pub block-zeros : (held : Held) (b n : ℕ) → held.bytes ≡ replicate n 0 → stripe_of b ≡ held.stripe → (holder_rank b + 1) * held.align ≤ n
     → block_of held b ≡ replicate held.align 0
 block-zeros held b n zeros here room =
     let none : ℕ = 0 in
     block-here held b held.align (replicate n none) here refl zeros
-    ∙ (rw (drop-replicate (rank_of b * held.align) n none) (take-replicate held.align (n - rank_of b * held.align) none (omega arith)))
+    ∙ (rw (drop-replicate (holder_rank b * held.align) n none) (take-replicate held.align (n - holder_rank b * held.align) none (omega arith)))

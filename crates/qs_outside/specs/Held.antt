@@ -13,12 +13,12 @@ pub record Held : Type 0 where
   pub bytes : List ℕ
 
 -- which one of its stripe's blocks a block is, counted from 0
-abbrev pub rank_of : ℕ → ℕ
-rank_of b = b / 128 * 16 + b % 16
+abbrev pub holder_rank : ℕ → ℕ
+holder_rank b = b / 128 * 16 + b % 16
 
 -- what a block holds, which is nothing where it is of another stripe
 unfoldable pub block_of : Held → ℕ → List ℕ
-block_of held b = if stripe_of b == held.stripe then part held.bytes (rank_of b * held.align) held.align else []
+block_of held b = if stripe_of b == held.stripe then part held.bytes (holder_rank b * held.align) held.align else []
 
 -- a stripe's blocks of zeros, in whole rounds of the eight stripes
 abbrev pub zeros_of : ℕ → ℕ → ℕ → Held

@@ -2,7 +2,7 @@ ghost use Rattle.std.specs.Prelude.{◌≡◌, ◌+◌, ◌*◌, ◌/◌, ◌<�
 ghost use Rattle.std.specs.Int.{div_ceil};
 ghost use Rattle.qs_outside.specs.Blocks.{Fixed, Stored};
 ghost use Rattle.qs_bytes.specs.Geometry.{stripe_of};
-ghost use Rattle.qs_outside.specs.Held.{IsZeros, block_of, quiet_seen, rank_of, zeros_of};
+ghost use Rattle.qs_outside.specs.Held.{IsZeros, block_of, quiet_seen, holder_rank, zeros_of};
 
 use qs_bytes::Memory;
 use std::alloc::Global;
@@ -20,13 +20,13 @@ pub struct BlockStore {
 impl Model for BlockStore {
     ghost use Rattle.std.specs.Prelude.{◌≡◌, ℕ, ◌+◌, ◌*◌, ◌≤◌, vec_len};
     ghost use Rattle.qs_bytes.specs.Geometry.{stripe_of};
-    ghost use Rattle.qs_outside.specs.Held.{Held, rank_of};
+    ghost use Rattle.qs_outside.specs.Held.{Held, holder_rank};
 
     ghost Value = { Held };
 
     ghost view = { λ s. record { stripe = s.stripe; align = s.align; size = s.length; bytes = s.bytes.items } };
 
-    ghost invariant = { λ s. (b : ℕ) → stripe_of b ≡ s.stripe → (b + 1) * s.align ≤ s.length → (rank_of b + 1) * s.align ≤ vec_len s.bytes };
+    ghost invariant = { λ s. (b : ℕ) → stripe_of b ≡ s.stripe → (b + 1) * s.align ≤ s.length → (holder_rank b + 1) * s.align ≤ vec_len s.bytes };
 }
 
 /// How many bytes the blocks of a stripe take, in whole rounds of the eight stripes.
@@ -79,7 +79,7 @@ impl BlockStore {
     fn place(&self, b: u64) -> usize
         requires here { stripe_of b ≡ self.now.stripe }
         requires inside { (b + 1) * self.now.align ≤ self.now.size }
-        ensures place { result ≡ rank_of b * self.now.align }
+        ensures place { result ≡ holder_rank b * self.now.align }
         ensures inside { result + self.now.align ≤ length self.now.bytes }
     {
         (b / 128 * 16 + b % 16) as usize * self.align as usize

@@ -16,13 +16,13 @@ export_perms writable share_write = record {
 }
 
 -- two users together
-abbrev pub joined : UserPerms → UserPerms → UserPerms
-joined x y = record { taken = union x.taken y.taken; shared = intersection x.shared y.shared }
+abbrev pub union_of : UserPerms → UserPerms → UserPerms
+union_of x y = record { taken = union x.taken y.taken; shared = intersection x.shared y.shared }
 
 -- What a node takes of its child and shares there: the union of what its users take, and the
 -- intersection of what they share.
 abbrev pub joined_all : List UserPerms → UserPerms
-joined_all users = fold joined idle users
+joined_all users = fold union_of idle users
 
 -- one takes what the other doesn't share
 abbrev pub conflicts : UserPerms → UserPerms → Bool

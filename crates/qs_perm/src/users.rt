@@ -1,5 +1,5 @@
 ghost use Rattle.std.specs.Prelude.{◌≡◌, ◌<◌, length};
-ghost use Rattle.qs_perm.specs.Users.{conflicts, export_perms, idle, joined, joined_all, Checks, FirstAgainst};
+ghost use Rattle.qs_perm.specs.Users.{conflicts, export_perms, idle, union_of, joined_all, Checks, FirstAgainst};
 
 use crate::perms::Perms;
 
@@ -42,7 +42,7 @@ impl UserPerms {
 
     /// What two users take together, and what both share.
     pub fn join(self, other: UserPerms) -> Self
-        ensures { result ≡ joined self other }
+        ensures { result ≡ union_of self other }
     {
         UserPerms {
             taken: self.taken.union(other.taken),

@@ -8,12 +8,12 @@ use Rattle.serde_json.specs.View.{view}
 use Rattle.serde_json.specs.declared.value.Value.{Value}
 use Rattle.qs_qmp.specs.declared.keys.Keys.{Keys}
 use Rattle.qs_qmp.specs.declared.keys.Keys.TheVariants as keys
-use Rattle.qs_qmp.specs.Kinds.{id_text, name_text, whole_of, truth_of, choice_text}
+use Rattle.qs_qmp.specs.Kinds.{id_text, short_text, whole_of, truth_of, choice_text}
 use Rattle.qs_qmp.specs.Problems.{Problem, missing, unexpected, invalid}
 
 -- a value that may be there, as its data
-abbrev pub seen : Option (Bor Value) → Option Data
-seen v = option_map (λ v. view v.now) v
+abbrev pub seen_data : Option (Bor Value) → Option Data
+seen_data v = option_map (λ v. view v.now) v
 
 -- the keys that an object may have
 abbrev pub is_limit_key : List ℕ → Bool
@@ -72,12 +72,12 @@ text_at name args = option_and_then as_str (argument name args)
 abbrev pub needs : List ℕ → Option Data → Result ⊤ Problem
 needs name args = if is_some (argument name args) then Ok tt else Err (missing name)
 
-abbrev pub is_known : Option (List ℕ) → Result ⊤ Problem
-is_known None = Ok tt
-is_known (Some k) = Err (unexpected k)
+abbrev pub has_no_other : Option (List ℕ) → Result ⊤ Problem
+has_no_other None = Ok tt
+has_no_other (Some k) = Err (unexpected k)
 
 abbrev pub none_but : Keys → Option Data → Result ⊤ Problem
-none_but ks args = is_known (first_not (λ k. is_key ks k) (keys_in args))
+none_but ks args = has_no_other (first_not (λ k. is_key ks k) (keys_in args))
 
 -- what was found, or the refusal of the argument
 abbrev pub or_invalid : {A : Type 0} → List ℕ → Option A → Result A Problem
@@ -97,7 +97,7 @@ abbrev pub id_at : List ℕ → Option Data → Result (List ℕ) Problem
 id_at name args = or_invalid name (option_and_then id_text (text_at name args))
 
 abbrev pub name_at : List ℕ → Option Data → Result (Option (List ℕ)) Problem
-name_at name args = optional (λ d. option_and_then name_text (as_str d)) name (argument name args)
+name_at name args = optional (λ d. option_and_then short_text (as_str d)) name (argument name args)
 
 abbrev pub whole_at : List ℕ → Option Data → Result (Option ℕ) Problem
 whole_at name args = optional whole_of name (argument name args)
@@ -114,5 +114,5 @@ abbrev pub is_word : List ℕ → Option (List ℕ) → Bool
 is_word word None = false
 is_word word (Some s) = bytes_eq s word
 
-abbrev pub word_at : List ℕ → List ℕ → Option Data → Result ⊤ Problem
-word_at name word args = if is_word word (text_at name args) then Ok tt else Err (invalid name)
+abbrev pub is_word_at : List ℕ → List ℕ → Option Data → Result ⊤ Problem
+is_word_at name word args = if is_word word (text_at name args) then Ok tt else Err (invalid name)

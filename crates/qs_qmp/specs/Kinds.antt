@@ -20,8 +20,8 @@ abbrev pub id_text : List ℕ → Option (List ℕ)
 id_text s = if is_id s then Some s else None
 
 -- any text of 1 to 63 bytes
-abbrev pub name_text : List ℕ → Option (List ℕ)
-name_text s = if nat_le 1 (length s) && nat_le (length s) 63 then Some s else None
+abbrev pub short_text : List ℕ → Option (List ℕ)
+short_text s = if nat_le 1 (length s) && nat_le (length s) 63 then Some s else None
 
 -- 1 to 20 decimal digits, of a number below 2^64
 abbrev pub whole_text : List ℕ → Option ℕ

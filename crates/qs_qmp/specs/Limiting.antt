@@ -81,5 +81,5 @@ abbrev pub unbroken : Limits → Option Rule → Result Limits Problem
 unbroken limits None = Ok limits
 unbroken limits (Some rule) = Err (generic (codes "Invalid limits"))
 
-abbrev pub checked : Limits → Result Limits Problem
-checked limits = unbroken limits (first_broken limits)
+abbrev pub limits_checked : Limits → Result Limits Problem
+limits_checked limits = unbroken limits (first_broken limits)

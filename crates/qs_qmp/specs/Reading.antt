@@ -19,8 +19,8 @@ use Rattle.qs_qmp.specs.declared.verb.Verb.{Verb}
 use Rattle.qs_qmp.specs.declared.verb.Verb.TheVariants as verbs
 use Rattle.qs_qmp.specs.Problems.{Problem, ◌>>=◌, generic, invalid, not_found, not_negotiated}
 use Rattle.qs_qmp.specs.Kinds.{only_object, is_empty_list}
-use Rattle.qs_qmp.specs.Arguments.{first_not, is_key, keys_in, argument, needs, none_but, or_missing, id_at, name_at, whole_at, truth_at, choice_at, word_at}
-use Rattle.qs_qmp.specs.Limiting.{limits_at, checked}
+use Rattle.qs_qmp.specs.Arguments.{first_not, is_key, keys_in, argument, needs, none_but, or_missing, id_at, name_at, whole_at, truth_at, choice_at, is_word_at}
+use Rattle.qs_qmp.specs.Limiting.{limits_at, limits_checked}
 
 -- ---- nodes
 
@@ -59,9 +59,9 @@ node_of again args = do
   raw ← is_raw args
   if raw then raw_of again args else throttle_of again args
 
-abbrev pub added : Node → Command
-added (nodes.Raw name child offset size read_only) = AddRaw name child offset size read_only
-added (nodes.Throttle name child group read_only) = AddThrottle name child group read_only
+abbrev pub adding : Node → Command
+adding (nodes.Raw name child offset size read_only) = AddRaw name child offset size read_only
+adding (nodes.Throttle name child group read_only) = AddThrottle name child group read_only
 
 abbrev pub reopened : Node → Command
 reopened (nodes.Raw name child offset size read_only) = ReopenRaw name child offset size
@@ -70,7 +70,7 @@ reopened (nodes.Throttle name child group read_only) = ReopenThrottle name child
 unfoldable pub blockdev_add : Option Data → Result Command Problem
 blockdev_add args = do
   node ← node_of false args
-  Ok (added node)
+  Ok (adding node)
 
 unfoldable pub blockdev_del : Option Data → Result Command Problem
 blockdev_del args = do
@@ -104,8 +104,8 @@ object_add args = do
   _ ← none_but keys.ObjectAdd args
   id ← id_at (codes "id") args
   limits ← limits_at args
-  _ ← word_at (codes "qom-type") (codes "throttle-group") args
-  limits ← checked limits
+  _ ← is_word_at (codes "qom-type") (codes "throttle-group") args
+  limits ← limits_checked limits
   Ok (GroupAdd id limits)
 
 unfoldable pub object_del : Option Data → Result Command Problem
@@ -124,7 +124,7 @@ export_add args = do
   id ← id_at (codes "id") args
   name ← name_at (codes "name") args
   node ← id_at (codes "node-name") args
-  _ ← word_at (codes "type") (codes "nbd") args
+  _ ← is_word_at (codes "type") (codes "nbd") args
   writable ← truth_at (codes "writable") args
   share_write ← choice_at (codes "x-share") (codes "all") (codes "read") args
   Ok (ExportAdd id (unwrap_or name node) node (unwrap_or writable false) (unwrap_or share_write true))
@@ -230,9 +230,9 @@ pub record Refusing : Type 0 where
   pub problem : Problem
   pub id : Option Data
 
-abbrev pub with_id : Option Data → Result QmpCommand Problem → Result Asked Refusing
-with_id id (Ok command) = Ok (record { command = command; id = id })
-with_id id (Err problem) = Err (record { problem = problem; id = id })
+abbrev pub asked_with_id : Option Data → Result QmpCommand Problem → Result Asked Refusing
+asked_with_id id (Ok command) = Ok (record { command = command; id = id })
+asked_with_id id (Err problem) = Err (record { problem = problem; id = id })
 
 -- an id can be written back where its numbers are whole
 abbrev pub is_fit : Option Data → Bool
@@ -242,14 +242,14 @@ is_fit (Some d) = if has_float d then false else true
 abbrev pub without_id : List ℕ → Result Asked Refusing
 without_id desc = Err (record { problem = generic desc; id = None })
 
-abbrev pub asked : Bool → Data → Result Asked Refusing
-asked negotiated d =
-    if is_fit (get (codes "id") d) then with_id (get (codes "id") d) (command_of negotiated d)
+abbrev pub asked_of : Bool → Data → Result Asked Refusing
+asked_of negotiated d =
+    if is_fit (get (codes "id") d) then asked_with_id (get (codes "id") d) (command_of negotiated d)
     else without_id (codes "Invalid parameter 'id'")
 
 -- JSON or none
 abbrev pub asked_by : Bool → Option Data → Result Asked Refusing
-asked_by negotiated (Some d) = asked negotiated d
+asked_by negotiated (Some d) = asked_of negotiated d
 asked_by negotiated None = without_id (codes "Invalid JSON")
 
 -- what the code answers is what is read; want of memory may stand in its place

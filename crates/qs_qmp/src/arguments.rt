@@ -1,9 +1,9 @@
 ghost use Rattle.std.specs.Prelude.{◌≡◌, Option, option_and_then, option_map};
 ghost use Rattle.serde_json.specs.Find.{as_str};
 ghost use Rattle.serde_json.specs.View.{view};
-ghost use Rattle.qs_qmp.specs.Arguments.{argument, choice_at, id_at, is_word, name_at, needs, none_but, or_invalid, seen, text_at, truth_at, whole_at, word_at};
+ghost use Rattle.qs_qmp.specs.Arguments.{argument, choice_at, id_at, is_word, name_at, needs, none_but, or_invalid, seen_data, text_at, truth_at, whole_at, is_word_at};
 ghost use Rattle.qs_qmp.specs.Problems.{Gives};
-ghost use Rattle.qs_qmp.specs.Kinds.{choice_text, name_text};
+ghost use Rattle.qs_qmp.specs.Kinds.{choice_text, short_text};
 
 use crate::fault::{Wrong, invalid, missing, unexpected};
 use crate::keys::Keys;
@@ -14,7 +14,7 @@ use std::alloc::Global;
 
 /// The argument of this name.
 pub(crate) fn argument<'a>(arguments: Option<&'a Value>, name: &str) -> Option<&'a Value>
-    ensures { seen result ≡ argument name.now (seen arguments.entry) }
+    ensures { seen_data result ≡ argument name.now (seen_data arguments.entry) }
 {
     match arguments {
         Some(value) => value.get(name),
@@ -24,7 +24,7 @@ pub(crate) fn argument<'a>(arguments: Option<&'a Value>, name: &str) -> Option<&
 
 /// The argument of this name, if it is a text.
 pub(crate) fn text_at<'a>(arguments: Option<&'a Value>, name: &str) -> Option<&'a str>
-    ensures { option_map (λ s. s.now) result ≡ text_at name.now (seen arguments.entry) }
+    ensures { option_map (λ s. s.now) result ≡ text_at name.now (seen_data arguments.entry) }
 {
     match argument(arguments, name) {
         Some(value) => value.as_str(),
@@ -34,7 +34,7 @@ pub(crate) fn text_at<'a>(arguments: Option<&'a Value>, name: &str) -> Option<&'
 
 /// Refuses arguments that lack this one.
 pub(crate) fn needs(alloc: Global, arguments: Option<&Value>, name: &str) -> Result<(), Wrong>
-    ensures { Gives (λ x. x) result (needs name.now (seen arguments.entry)) }
+    ensures { Gives (λ x. x) result (needs name.now (seen_data arguments.entry)) }
 {
     match argument(arguments, name) {
         Some(_) => Ok(()),
@@ -44,7 +44,7 @@ pub(crate) fn needs(alloc: Global, arguments: Option<&Value>, name: &str) -> Res
 
 /// Refuses arguments other than these, by the first such name in rising order of bytes.
 pub(crate) fn none_but(alloc: Global, arguments: Option<&Value>, keys: Keys) -> Result<(), Wrong>
-    ensures { Gives (λ x. x) result (none_but keys (seen arguments.entry)) }
+    ensures { Gives (λ x. x) result (none_but keys (seen_data arguments.entry)) }
 {
     match keys.first_other(arguments) {
         Some(name) => Err(unexpected(alloc, name)),
@@ -54,7 +54,7 @@ pub(crate) fn none_but(alloc: Global, arguments: Option<&Value>, keys: Keys) -> 
 
 /// An argument that is an id.
 pub(crate) fn id_at(alloc: Global, arguments: Option<&Value>, name: &str) -> Result<Name, Wrong>
-    ensures { Gives (λ x. x) result (id_at name.now (seen arguments.entry)) }
+    ensures { Gives (λ x. x) result (id_at name.now (seen_data arguments.entry)) }
 {
     match text_at(arguments, name) {
         Some(text) => match id_text(text) {
@@ -66,7 +66,7 @@ pub(crate) fn id_at(alloc: Global, arguments: Option<&Value>, name: &str) -> Res
 }
 
 fn name_of(value: &Value) -> Option<Name>
-    ensures { result ≡ option_and_then name_text (as_str (view value.now)) }
+    ensures { result ≡ option_and_then short_text (as_str (view value.now)) }
 {
     match value.as_str() {
         Some(text) => name_text(text),
@@ -80,7 +80,7 @@ pub(crate) fn name_at(
     arguments: Option<&Value>,
     name: &str,
 ) -> Result<Option<Name>, Wrong>
-    ensures { Gives (λ x. x) result (name_at name.now (seen arguments.entry)) }
+    ensures { Gives (λ x. x) result (name_at name.now (seen_data arguments.entry)) }
 {
     match argument(arguments, name) {
         None => Ok(None),
@@ -97,7 +97,7 @@ pub(crate) fn whole_at(
     arguments: Option<&Value>,
     name: &str,
 ) -> Result<Option<u64>, Wrong>
-    ensures { Gives (λ x. x) result (whole_at name.now (seen arguments.entry)) }
+    ensures { Gives (λ x. x) result (whole_at name.now (seen_data arguments.entry)) }
 {
     match argument(arguments, name) {
         None => Ok(None),
@@ -114,7 +114,7 @@ pub(crate) fn truth_at(
     arguments: Option<&Value>,
     name: &str,
 ) -> Result<Option<bool>, Wrong>
-    ensures { Gives (λ x. x) result (truth_at name.now (seen arguments.entry)) }
+    ensures { Gives (λ x. x) result (truth_at name.now (seen_data arguments.entry)) }
 {
     match argument(arguments, name) {
         None => Ok(None),
@@ -142,7 +142,7 @@ pub(crate) fn choice_at(
     on: &str,
     off: &str,
 ) -> Result<Option<bool>, Wrong>
-    ensures { Gives (λ x. x) result (choice_at name.now on.now off.now (seen arguments.entry)) }
+    ensures { Gives (λ x. x) result (choice_at name.now on.now off.now (seen_data arguments.entry)) }
 {
     match argument(arguments, name) {
         None => Ok(None),
@@ -169,7 +169,7 @@ pub(crate) fn word_at(
     name: &str,
     word: &str,
 ) -> Result<(), Wrong>
-    ensures { Gives (λ x. x) result (word_at name.now word.now (seen arguments.entry)) }
+    ensures { Gives (λ x. x) result (is_word_at name.now word.now (seen_data arguments.entry)) }
 {
     if is_word(text_at(arguments, name), word) {
         Ok(())

@@ -1,6 +1,6 @@
 ghost use Rattle.std.specs.Prelude.{◌≡◌, option_map, string_bytes};
 ghost use Rattle.serde_json.specs.View.{members_view};
-ghost use Rattle.qs_qmp.specs.Arguments.{first_not, is_key, is_limit_key, keys_in, keys_of, seen};
+ghost use Rattle.qs_qmp.specs.Arguments.{first_not, is_key, is_limit_key, keys_in, keys_of, seen_data};
 
 use serde_json::{Map, Value};
 
@@ -45,7 +45,7 @@ impl Keys {
     /// The first key of an object, in rising order of bytes, that isn't among them.
     pub(crate) fn first_other(self, object: Option<&Value>) -> Option<&str>
         ensures { option_map (λ s. s.now) result
-            ≡ first_not (λ k. is_key self k) (keys_in (seen object.entry)) }
+            ≡ first_not (λ k. is_key self k) (keys_in (seen_data object.entry)) }
     {
         match object {
             None => None,

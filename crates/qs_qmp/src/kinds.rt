@@ -3,7 +3,7 @@ ghost use Rattle.std.specs.Str.Parse.{digits_value};
 ghost use Rattle.std.specs.List.{list_all};
 ghost use Rattle.std.specs.Char.{is_ascii_digit};
 ghost use Rattle.serde_json.specs.View.{view, items_view};
-ghost use Rattle.qs_qmp.specs.Kinds.{choice_text, has_no_item, id_text, is_empty_list, is_id, name_text, only_item, only_object, truth_of, whole_of, whole_text};
+ghost use Rattle.qs_qmp.specs.Kinds.{choice_text, has_no_item, id_text, is_empty_list, is_id, short_text, only_item, only_object, truth_of, whole_of, whole_text};
 
 use qs_bytes::Name;
 use serde_json::Value;
@@ -26,7 +26,7 @@ pub(crate) fn id_text(text: &str) -> Option<Name>
 
 /// The name of a text of 1 to 63 bytes.
 pub(crate) fn name_text(text: &str) -> Option<Name>
-    ensures { result ≡ name_text text.now }
+    ensures { result ≡ short_text text.now }
 {
     if text.is_empty() {
         return None;

@@ -1,7 +1,7 @@
 ghost use Rattle.std.specs.Prelude.{◌≡◌};
 ghost use Rattle.serde_json.specs.View.{view};
-ghost use Rattle.qs_qmp.specs.Arguments.{seen};
-ghost use Rattle.qs_qmp.specs.Limiting.{checked, has_limit_keys, limit_in, limits_at, limits_in, limits_of, whole_or};
+ghost use Rattle.qs_qmp.specs.Arguments.{seen_data};
+ghost use Rattle.qs_qmp.specs.Limiting.{limits_checked, has_limit_keys, limit_in, limits_at, limits_in, limits_of, whole_or};
 ghost use Rattle.qs_qmp.specs.Problems.{Gives};
 
 use crate::arguments::argument;
@@ -15,7 +15,7 @@ use std::alloc::Global;
 
 /// A whole number, or what stands for an absent one.
 fn whole_or(value: Option<&Value>, default: u64) -> Option<u64>
-    ensures { result ≡ whole_or default (seen value.entry) }
+    ensures { result ≡ whole_or default (seen_data value.entry) }
 {
     match value {
         None => Some(default),
@@ -87,7 +87,7 @@ fn limits_of(value: &Value) -> Option<Limits>
 
 /// The limits that the argument `limits` says, none where it is left out. What is wrong in it makes it invalid.
 pub(crate) fn limits_at(alloc: Global, arguments: Option<&Value>) -> Result<Limits, Wrong>
-    ensures { Gives (λ x. x) result (limits_at (seen arguments.entry)) }
+    ensures { Gives (λ x. x) result (limits_at (seen_data arguments.entry)) }
 {
     match argument(arguments, "limits") {
         None => Ok(Limits::NONE),
@@ -100,7 +100,7 @@ pub(crate) fn limits_at(alloc: Global, arguments: Option<&Value>) -> Result<Limi
 
 /// Refuses limits that break a rule.
 pub(crate) fn checked(alloc: Global, limits: Limits) -> Result<CheckedLimits, Wrong>
-    ensures { Gives (λ x. x) result (checked limits) }
+    ensures { Gives (λ x. x) result (limits_checked limits) }
 {
     match CheckedLimits::of(limits) {
         Ok(checked) => Ok(checked),

@@ -1,7 +1,7 @@
 ghost use Rattle.std.specs.Prelude.{◌≡◌};
-ghost use Rattle.qs_qmp.specs.Arguments.{seen};
+ghost use Rattle.qs_qmp.specs.Arguments.{seen_data};
 ghost use Rattle.qs_qmp.specs.Problems.{Gives};
-ghost use Rattle.qs_qmp.specs.Reading.{added, is_raw, node_of, raw_of, reopened, throttle_of};
+ghost use Rattle.qs_qmp.specs.Reading.{adding, is_raw, node_of, raw_of, reopened, throttle_of};
 
 use crate::arguments::{choice_at, id_at, needs, none_but, truth_at, whole_at};
 use crate::fault::{Wrong, missing};
@@ -32,7 +32,7 @@ pub(crate) enum Node {
 /// Whether the driver is `raw`; else it is `throttle`.
 #[tactic(auto, unfolding(crate::specs::Reading::is_raw))]
 fn is_raw(alloc: Global, arguments: Option<&Value>) -> Result<bool, Wrong>
-    ensures { Gives (λ x. x) result (is_raw (seen arguments.entry)) }
+    ensures { Gives (λ x. x) result (is_raw (seen_data arguments.entry)) }
 {
     match choice_at(alloc, arguments, "driver", "raw", "throttle")? {
         Some(raw) => Ok(raw),
@@ -42,7 +42,7 @@ fn is_raw(alloc: Global, arguments: Option<&Value>) -> Result<bool, Wrong>
 
 #[tactic(auto, unfolding(crate::specs::Reading::raw_of))]
 fn raw_of(alloc: Global, arguments: Option<&Value>, again: bool) -> Result<Node, Wrong>
-    ensures { Gives (λ x. x) result (raw_of again (seen arguments.entry)) }
+    ensures { Gives (λ x. x) result (raw_of again (seen_data arguments.entry)) }
 {
     needs(alloc, arguments, "node-name")?;
     needs(alloc, arguments, "file")?;
@@ -63,7 +63,7 @@ fn raw_of(alloc: Global, arguments: Option<&Value>, again: bool) -> Result<Node,
 
 #[tactic(auto, unfolding(crate::specs::Reading::throttle_of))]
 fn throttle_of(alloc: Global, arguments: Option<&Value>, again: bool) -> Result<Node, Wrong>
-    ensures { Gives (λ x. x) result (throttle_of again (seen arguments.entry)) }
+    ensures { Gives (λ x. x) result (throttle_of again (seen_data arguments.entry)) }
 {
     needs(alloc, arguments, "node-name")?;
     needs(alloc, arguments, "file")?;
@@ -84,7 +84,7 @@ fn throttle_of(alloc: Global, arguments: Option<&Value>, again: bool) -> Result<
 /// The node that arguments say: a new one, or one that is there already (`again`).
 #[tactic(auto, unfolding(crate::specs::Reading::node_of))]
 pub(crate) fn node_of(alloc: Global, arguments: Option<&Value>, again: bool) -> Result<Node, Wrong>
-    ensures { Gives (λ x. x) result (node_of again (seen arguments.entry)) }
+    ensures { Gives (λ x. x) result (node_of again (seen_data arguments.entry)) }
 {
     if is_raw(alloc, arguments)? {
         raw_of(alloc, arguments, again)
@@ -96,7 +96,7 @@ pub(crate) fn node_of(alloc: Global, arguments: Option<&Value>, again: bool) -> 
 impl Node {
     /// The command that adds the node.
     pub(crate) fn added(self) -> Command
-        ensures { result ≡ added self }
+        ensures { result ≡ adding self }
     {
         match self {
             Node::Raw {

@@ -3,10 +3,10 @@ ghost use Rattle.std.specs.Str.{IsUtf8};
 ghost use Rattle.serde_json.specs.Find.{as_str, get};
 ghost use Rattle.serde_json.specs.Read.{read};
 ghost use Rattle.serde_json.specs.View.{view};
-ghost use Rattle.qs_qmp.specs.Arguments.{first_not, is_key, keys_in, seen};
+ghost use Rattle.qs_qmp.specs.Arguments.{first_not, is_key, keys_in, seen_data};
 ghost use Rattle.qs_qmp.specs.Problems.{Gives, Problem};
 ghost use Rattle.qs_qmp.specs.declared.asked.QmpCommand.{QmpCommand};
-ghost use Rattle.qs_qmp.specs.Reading.{Answers, HasFitId, are_arguments, asked, asked_by, command_of, enables_none, is_fit, is_member, is_negotiation, job_named, negotiation, or_no_command, or_not_found, verb_named, with_id, without_id};
+ghost use Rattle.qs_qmp.specs.Reading.{Answers, HasFitId, are_arguments, asked_of, asked_by, command_of, enables_none, is_fit, is_member, is_negotiation, job_named, negotiation, or_no_command, or_not_found, verb_named, asked_with_id, without_id};
 
 use crate::arguments::{argument, none_but};
 use crate::asked::{QmpAsked, QmpCommand};
@@ -36,7 +36,7 @@ fn execute_of(alloc: Global, message: &Value) -> Result<&str, Wrong>
 }
 
 fn text_of(value: Option<&Value>) -> Option<&str>
-    ensures { option_map (λ s. s.now) result ≡ option_and_then as_str (seen value.entry) }
+    ensures { option_map (λ s. s.now) result ≡ option_and_then as_str (seen_data value.entry) }
 {
     match value {
         Some(value) => value.as_str(),
@@ -78,7 +78,7 @@ fn verb_of(alloc: Global, name: &str) -> Result<Verb, Wrong>
 
 /// Refuses arguments that are no object.
 fn are_arguments(alloc: Global, arguments: Option<&Value>) -> Result<(), Wrong>
-    ensures { Gives (λ x. x) result (are_arguments (seen arguments.entry)) }
+    ensures { Gives (λ x. x) result (are_arguments (seen_data arguments.entry)) }
 {
     match arguments {
         None => Ok(()),
@@ -94,7 +94,7 @@ fn are_arguments(alloc: Global, arguments: Option<&Value>) -> Result<(), Wrong>
 
 #[tactic(auto, unfolding(crate::specs::Reading::job_named))]
 fn job_named(alloc: Global, name: &str, arguments: Option<&Value>) -> Result<QmpCommand, Wrong>
-    ensures { Gives (λ x. x) result (job_named name.now (seen arguments.entry)) }
+    ensures { Gives (λ x. x) result (job_named name.now (seen_data arguments.entry)) }
 {
     let verb = verb_of(alloc, name)?;
     are_arguments(alloc, arguments)?;
@@ -119,7 +119,7 @@ fn is_negotiation(alloc: Global, name: &str) -> Result<(), Wrong>
 }
 
 fn enables_none(alloc: Global, enable: Option<&Value>) -> Result<(), Wrong>
-    ensures { Gives (λ x. x) result (enables_none (seen enable.entry)) }
+    ensures { Gives (λ x. x) result (enables_none (seen_data enable.entry)) }
 {
     match enable {
         None => Ok(()),
@@ -135,7 +135,7 @@ fn enables_none(alloc: Global, enable: Option<&Value>) -> Result<(), Wrong>
 
 #[tactic(auto, unfolding(crate::specs::Reading::negotiation))]
 fn negotiation(alloc: Global, name: &str, arguments: Option<&Value>) -> Result<QmpCommand, Wrong>
-    ensures { Gives (λ x. x) result (negotiation name.now (seen arguments.entry)) }
+    ensures { Gives (λ x. x) result (negotiation name.now (seen_data arguments.entry)) }
 {
     is_negotiation(alloc, name)?;
     are_arguments(alloc, arguments)?;
@@ -160,7 +160,7 @@ fn command_of(alloc: Global, message: &Value, negotiated: bool) -> Result<QmpCom
 
 /// Whether an id can be written back: each number in it is whole.
 fn is_fit(id: Option<&Value>) -> bool
-    ensures { result ≡ is_fit (seen id.entry) }
+    ensures { result ≡ is_fit (seen_data id.entry) }
 {
     match id {
         None => true,
@@ -169,7 +169,7 @@ fn is_fit(id: Option<&Value>) -> bool
 }
 
 fn copied(id: Option<&Value>) -> Result<Option<Value>, AllocError>
-    ensures { IfOk result (λ copy. option_map view copy ≡ seen id.entry) }
+    ensures { IfOk result (λ copy. option_map view copy ≡ seen_data id.entry) }
 {
     match id {
         None => Ok(None),
@@ -181,7 +181,7 @@ fn copied(id: Option<&Value>) -> Result<Option<Value>, AllocError>
 fn with_id(command: Result<QmpCommand, Wrong>, id: Option<Value>) -> Result<QmpAsked, QmpFault>
     requires { is_fit (option_map view id) ≡ true }
     ensures answers { (read : Result QmpCommand Problem) → Gives (λ x. x) command read
-        → Answers result (with_id (option_map view id) read) }
+        → Answers result (asked_with_id (option_map view id) read) }
     ensures fit { HasFitId result }
 {
     match command {
@@ -211,7 +211,7 @@ fn without_id(alloc: Global, desc: &str) -> QmpFault
 /// the negotiation, of the command's name, of `arguments`, then missing arguments in the order in which
 /// QAPI has them, unknown ones and invalid ones in rising order of bytes, and limits that break a rule.
 pub fn read_command(alloc: Global, message: &Value, negotiated: bool) -> Result<QmpAsked, QmpFault>
-    ensures answers { Answers result (asked negotiated (view message.now)) }
+    ensures answers { Answers result (asked_of negotiated (view message.now)) }
     ensures fit { HasFitId result }
 {
     let id = message.get("id");

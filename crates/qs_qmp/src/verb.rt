@@ -1,5 +1,5 @@
 ghost use Rattle.std.specs.Prelude.{◌≡◌, codes, option_and_then};
-ghost use Rattle.qs_qmp.specs.Arguments.{argument, seen};
+ghost use Rattle.qs_qmp.specs.Arguments.{argument, seen_data};
 ghost use Rattle.qs_qmp.specs.Kinds.{only_object};
 ghost use Rattle.qs_qmp.specs.Problems.{Gives};
 ghost use Rattle.qs_qmp.specs.Reading.{blockdev_add, blockdev_del, blockdev_reopen, export_add, export_del, job, object_add, object_del, options_of, plain, verb_named};
@@ -51,7 +51,7 @@ impl Verb {
 
     /// The command with its arguments.
     pub(crate) fn job(self, alloc: Global, arguments: Option<&Value>) -> Result<Command, Wrong>
-        ensures { Gives (λ x. x) result (job self (seen arguments.entry)) }
+        ensures { Gives (λ x. x) result (job self (seen_data arguments.entry)) }
     {
         match self {
             Verb::BlockdevAdd => blockdev_add(alloc, arguments),
@@ -70,7 +70,7 @@ impl Verb {
 
 #[tactic(auto, unfolding(crate::specs::Reading::blockdev_add))]
 fn blockdev_add(alloc: Global, arguments: Option<&Value>) -> Result<Command, Wrong>
-    ensures { Gives (λ x. x) result (blockdev_add (seen arguments.entry)) }
+    ensures { Gives (λ x. x) result (blockdev_add (seen_data arguments.entry)) }
 {
     let node = node_of(alloc, arguments, false)?;
     Ok(node.added())
@@ -78,7 +78,7 @@ fn blockdev_add(alloc: Global, arguments: Option<&Value>) -> Result<Command, Wro
 
 #[tactic(auto, unfolding(crate::specs::Reading::blockdev_del))]
 fn blockdev_del(alloc: Global, arguments: Option<&Value>) -> Result<Command, Wrong>
-    ensures { Gives (λ x. x) result (blockdev_del (seen arguments.entry)) }
+    ensures { Gives (λ x. x) result (blockdev_del (seen_data arguments.entry)) }
 {
     needs(alloc, arguments, "node-name")?;
     none_but(alloc, arguments, Keys::Node)?;
@@ -88,7 +88,7 @@ fn blockdev_del(alloc: Global, arguments: Option<&Value>) -> Result<Command, Wro
 
 /// The node of the options. What is wrong in them makes them invalid.
 fn options_of(alloc: Global, options: Option<&Value>) -> Result<Node, Wrong>
-    ensures { Gives (λ x. x) result (options_of (seen options.entry)) }
+    ensures { Gives (λ x. x) result (options_of (seen_data options.entry)) }
 {
     match options {
         None => Err(invalid(alloc, "options")),
@@ -102,8 +102,8 @@ fn options_of(alloc: Global, options: Option<&Value>) -> Result<Node, Wrong>
 
 /// The one object of the argument `options`.
 fn options_in(arguments: Option<&Value>) -> Option<&Value>
-    ensures { seen result
-        ≡ option_and_then only_object (argument (codes "options") (seen arguments.entry)) }
+    ensures { seen_data result
+        ≡ option_and_then only_object (argument (codes "options") (seen_data arguments.entry)) }
 {
     match argument(arguments, "options") {
         Some(options) => only_object(options),
@@ -113,7 +113,7 @@ fn options_in(arguments: Option<&Value>) -> Option<&Value>
 
 #[tactic(auto, unfolding(crate::specs::Reading::blockdev_reopen))]
 fn blockdev_reopen(alloc: Global, arguments: Option<&Value>) -> Result<Command, Wrong>
-    ensures { Gives (λ x. x) result (blockdev_reopen (seen arguments.entry)) }
+    ensures { Gives (λ x. x) result (blockdev_reopen (seen_data arguments.entry)) }
 {
     needs(alloc, arguments, "options")?;
     none_but(alloc, arguments, Keys::Reopen)?;
@@ -123,7 +123,7 @@ fn blockdev_reopen(alloc: Global, arguments: Option<&Value>) -> Result<Command, 
 
 #[tactic(auto, unfolding(crate::specs::Reading::object_add))]
 fn object_add(alloc: Global, arguments: Option<&Value>) -> Result<Command, Wrong>
-    ensures { Gives (λ x. x) result (object_add (seen arguments.entry)) }
+    ensures { Gives (λ x. x) result (object_add (seen_data arguments.entry)) }
 {
     needs(alloc, arguments, "qom-type")?;
     needs(alloc, arguments, "id")?;
@@ -137,7 +137,7 @@ fn object_add(alloc: Global, arguments: Option<&Value>) -> Result<Command, Wrong
 
 #[tactic(auto, unfolding(crate::specs::Reading::object_del))]
 fn object_del(alloc: Global, arguments: Option<&Value>) -> Result<Command, Wrong>
-    ensures { Gives (λ x. x) result (object_del (seen arguments.entry)) }
+    ensures { Gives (λ x. x) result (object_del (seen_data arguments.entry)) }
 {
     needs(alloc, arguments, "id")?;
     none_but(alloc, arguments, Keys::Object)?;
@@ -147,7 +147,7 @@ fn object_del(alloc: Global, arguments: Option<&Value>) -> Result<Command, Wrong
 
 #[tactic(auto, unfolding(crate::specs::Reading::export_add))]
 fn export_add(alloc: Global, arguments: Option<&Value>) -> Result<Command, Wrong>
-    ensures { Gives (λ x. x) result (export_add (seen arguments.entry)) }
+    ensures { Gives (λ x. x) result (export_add (seen_data arguments.entry)) }
 {
     needs(alloc, arguments, "type")?;
     needs(alloc, arguments, "id")?;
@@ -170,7 +170,7 @@ fn export_add(alloc: Global, arguments: Option<&Value>) -> Result<Command, Wrong
 
 #[tactic(auto, unfolding(crate::specs::Reading::export_del))]
 fn export_del(alloc: Global, arguments: Option<&Value>) -> Result<Command, Wrong>
-    ensures { Gives (λ x. x) result (export_del (seen arguments.entry)) }
+    ensures { Gives (λ x. x) result (export_del (seen_data arguments.entry)) }
 {
     needs(alloc, arguments, "id")?;
     none_but(alloc, arguments, Keys::ExportDel)?;
@@ -185,7 +185,7 @@ fn export_del(alloc: Global, arguments: Option<&Value>) -> Result<Command, Wrong
 /// A command that takes no arguments.
 #[tactic(auto, unfolding(crate::specs::Reading::plain))]
 fn plain(alloc: Global, arguments: Option<&Value>, command: Command) -> Result<Command, Wrong>
-    ensures { Gives (λ x. x) result (plain command (seen arguments.entry)) }
+    ensures { Gives (λ x. x) result (plain command (seen_data arguments.entry)) }
 {
     none_but(alloc, arguments, Keys::Nothing)?;
     Ok(command)

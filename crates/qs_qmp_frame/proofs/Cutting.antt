@@ -5,7 +5,7 @@ use Rattle.std.proofs.lemmas.List.{length-append, append-nil, nil_from_length}
 use Rattle.qs_qmp_frame.specs.declared.place.Place.{Place}
 use Rattle.qs_qmp_frame.specs.declared.place.Place.TheVariants.{Outside}
 use Rattle.qs_qmp_frame.specs.Objects.{open_brace, is_blank, limit, closes, ends, next, stays, is_object, is_beginning}
-use Rattle.qs_qmp_frame.specs.Phases.{Phase, Gap, Part, Whole, Wrong, Long, after, refusal_of}
+use Rattle.qs_qmp_frame.specs.Phases.{Phase, Gap, Part, Whole, Wrong, Long, phase_after, refusal_of}
 use Rattle.qs_qmp_frame.specs.Streams.{Item, Blank, Framed, item_bytes, IsItem, AreItems, framed, Rest, Bare, Begun, Stray, Endless, rest_bytes, IsRest, refused_in, Stream, stream_bytes, IsStream, IsCut, IsSpelled, CutsStreams}
 use Rattle.qs_qmp_frame.proofs.Runs.{Leads, leads-append, leads-cons, wrong_stays, long_stays, IsReady, ready_begins, begin_blank, begin_stray, go_end, go_more, go_long}
 
@@ -112,7 +112,7 @@ overrunning (b ∷ x ∷ bytes) place kept stay short long =
 -- what begins with a brace
 record Braced (p : Phase) (b : ℕ) : Type 0 where
   is : b ≡ open_brace
-  leads : after p b ≡ Part (Outside 0) (open_brace ∷ [])
+  leads : phase_after p b ≡ Part (Outside 0) (open_brace ∷ [])
 
 braced : (p : Phase) (b : ℕ) → IsReady p → (b == open_brace) ≡ true → Braced p b
 braced p b ready is = let e : b ≡ open_brace = grind (arith, is) in record { is = e; leads = rw e (ready_begins p open_brace ready) }

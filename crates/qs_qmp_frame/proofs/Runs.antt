@@ -3,7 +3,7 @@ use Rattle.std.proofs.Common.{◌≡◌, ℕ, ◌<◌, true, false, ◌==◌, Li
 use Rattle.std.proofs.lemmas.List.Sums.{fold-append}
 use Rattle.qs_qmp_frame.specs.declared.place.Place.{Place}
 use Rattle.qs_qmp_frame.specs.Objects.{open_brace, is_blank, limit, ends, next}
-use Rattle.qs_qmp_frame.specs.Phases.{Phase, Gap, Part, Whole, Wrong, Long, after, begin, go_on, objects, run, whole}
+use Rattle.qs_qmp_frame.specs.Phases.{Phase, Gap, Part, Whole, Wrong, Long, phase_after, begin, go_on, objects, run, whole_object}
 
 -- the bytes lead from p to q, and these objects end within them
 pub record Leads (p : Phase) (bytes : List ℕ) (q : Phase) (os : List (List ℕ)) : Type 0 where
@@ -11,13 +11,13 @@ pub record Leads (p : Phase) (bytes : List ℕ) (q : Phase) (os : List (List ℕ
   pub objects : objects p bytes ≡ os
 
 pub run-append : (p : Phase) (a b : List ℕ) → run p (a ++ b) ≡ run (run p a) b
-run-append p a b = fold-append after p a b
+run-append p a b = fold-append phase_after p a b
 
 pub objects-append : (p : Phase) (a b : List ℕ) → objects p (a ++ b) ≡ objects p a ++ objects (run p a) b
 objects-append p [] b = refl
 objects-append p (x ∷ a) b =
-    ap (λ os. whole (after p x) ++ os) (objects-append (after p x) a b) ∙
-    sym (append_assoc (whole (after p x)) (objects (after p x) a) (objects (run (after p x) a) b))
+    ap (λ os. whole_object (phase_after p x) ++ os) (objects-append (phase_after p x) a b) ∙
+    sym (append_assoc (whole_object (phase_after p x)) (objects (phase_after p x) a) (objects (run (phase_after p x) a) b))
 
 pub leads-append : (p q r : Phase) (a b : List ℕ) (os more : List (List ℕ)) → Leads p a q os → Leads q b r more → Leads p (a ++ b) r (os ++ more)
 leads-append p q r a b os more x y = record {
@@ -25,10 +25,10 @@ leads-append p q r a b os more x y = record {
   objects = objects-append p a b ∙ ap (λ zs. zs ++ objects (run p a) b) x.objects ∙ ap (λ (z : Phase). os ++ objects z b) x.run ∙ ap (λ zs. os ++ zs) y.objects;
 }
 
-pub leads-cons : (p q r : Phase) (b : ℕ) (bytes : List ℕ) (os : List (List ℕ)) → after p b ≡ q → Leads q bytes r os → Leads p (b ∷ bytes) r (whole q ++ os)
+pub leads-cons : (p q r : Phase) (b : ℕ) (bytes : List ℕ) (os : List (List ℕ)) → phase_after p b ≡ q → Leads q bytes r os → Leads p (b ∷ bytes) r (whole_object q ++ os)
 leads-cons p q r b bytes os e x = record {
   run = ap (λ (z : Phase). run z bytes) e ∙ x.run;
-  objects = ap (λ (z : Phase). whole z ++ objects z bytes) e ∙ ap (λ zs. whole q ++ zs) x.objects;
+  objects = ap (λ (z : Phase). whole_object z ++ objects z bytes) e ∙ ap (λ zs. whole_object q ++ zs) x.objects;
 }
 
 -- a refused stream stays as it is
@@ -46,7 +46,7 @@ IsReady Gap = Unit {0}
 IsReady (Whole object) = Unit {0}
 IsReady other = ⊥
 
-pub ready_begins : (p : Phase) (b : ℕ) → IsReady p → after p b ≡ begin b
+pub ready_begins : (p : Phase) (b : ℕ) → IsReady p → phase_after p b ≡ begin b
 ready_begins Gap b is = refl
 ready_begins (Whole object) b is = refl
 ready_begins (Part place kept) b is = absurd is

@@ -27,24 +27,24 @@ abbrev pub go_on : Place → List ℕ → ℕ → Phase
 go_on place kept b = if ends place b then Whole kept else (if length kept == limit then Long else Part (next place b) kept)
 
 -- behind one more byte
-abbrev pub after : Phase → ℕ → Phase
-after Gap b = begin b
-after (Part place kept) b = go_on place (kept ++ b ∷ []) b
-after (Whole object) b = begin b
-after (Wrong byte) b = Wrong byte
-after Long b = Long
+abbrev pub phase_after : Phase → ℕ → Phase
+phase_after Gap b = begin b
+phase_after (Part place kept) b = go_on place (kept ++ b ∷ []) b
+phase_after (Whole object) b = begin b
+phase_after (Wrong byte) b = Wrong byte
+phase_after Long b = Long
 
 -- behind these bytes
 abbrev pub run : Phase → List ℕ → Phase
-run phase bytes = fold after phase bytes
+run phase bytes = fold phase_after phase bytes
 
 -- what a phase tells at the byte that led to it
-abbrev pub event_of : Phase → Option FrameEvent
-event_of Gap = None
-event_of (Part place kept) = None
-event_of (Whole object) = Some Object
-event_of (Wrong byte) = Some (NotObject byte)
-event_of Long = Some TooLong
+abbrev pub frame_event_of : Phase → Option FrameEvent
+frame_event_of Gap = None
+frame_event_of (Part place kept) = None
+frame_event_of (Whole object) = Some Object
+frame_event_of (Wrong byte) = Some (NotObject byte)
+frame_event_of Long = Some TooLong
 
 -- what a refused stream tells again
 abbrev pub refusal_of : Phase → Option FrameEvent
@@ -63,22 +63,22 @@ object_of (Whole object) = object
 object_of other = []
 
 -- the object that a byte ended, where it ended one
-abbrev pub whole : Phase → List (List ℕ)
-whole (Whole object) = object ∷ []
-whole other = []
+abbrev pub whole_object : Phase → List (List ℕ)
+whole_object (Whole object) = object ∷ []
+whole_object other = []
 
 -- the objects that end within these bytes, in order
 abbrev pub objects : Phase → List ℕ → List (List ℕ)
 objects phase [] = []
-objects phase (b ∷ bytes) = whole (after phase b) ++ objects (after phase b) bytes
+objects phase (b ∷ bytes) = whole_object (phase_after phase b) ++ objects (phase_after phase b) bytes
 
 -- A piece was fed: bytes from its front were taken up to the first event, or all where there is none.
 -- A refused stream takes none and tells its refusal again.
 pub record IsFed (old : Phase) (piece : List ℕ) (taken : ℕ) (event : Option FrameEvent) (new : Phase) : Type 0 where
   pub within : taken ≤ length piece
   pub now : new ≡ run old (take taken piece)
-  pub quiet : (k : ℕ) → 0 < k → k < taken → event_of (run old (take k piece)) ≡ None
-  pub told : event ≡ (if taken == 0 then refusal_of new else event_of new)
+  pub quiet : (k : ℕ) → 0 < k → k < taken → frame_event_of (run old (take k piece)) ≡ None
+  pub told : event ≡ (if taken == 0 then refusal_of new else frame_event_of new)
   pub all : event ≡ None → taken ≡ length piece
   pub stuck : is_refused old ≡ true → taken ≡ 0
 
@@ -91,6 +91,6 @@ phase_of (stage.Wrong byte) kept = Wrong byte
 phase_of stage.Long kept = Long
 
 -- another byte may be kept; each open brace is a kept byte
-abbrev pub HasRoom : Stage → List ℕ → Type 0
-HasRoom (stage.Part place) kept = (length kept < limit) × (braces place < length kept)
-HasRoom other kept = Unit {0}
+abbrev pub HasStageRoom : Stage → List ℕ → Type 0
+HasStageRoom (stage.Part place) kept = (length kept < limit) × (braces place < length kept)
+HasStageRoom other kept = Unit {0}

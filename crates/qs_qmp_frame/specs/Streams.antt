@@ -92,21 +92,21 @@ pub record FramerCall : Type 0 where
   pub new : Phase
 
 -- calls one after the other, the first at this phase
-abbrev pub AreCalls : Phase → List FramerCall → Type 0
-AreCalls old [] = Unit {0}
-AreCalls old (call ∷ calls) = IsFed old call.piece call.taken call.event call.new × AreCalls call.new calls
+abbrev pub AreFramerCalls : Phase → List FramerCall → Type 0
+AreFramerCalls old [] = Unit {0}
+AreFramerCalls old (call ∷ calls) = IsFed old call.piece call.taken call.event call.new × AreFramerCalls call.new calls
 
 -- the bytes that a call took
-abbrev pub bytes_of : FramerCall → List ℕ
-bytes_of call = take call.taken call.piece
+abbrev pub fed_bytes : FramerCall → List ℕ
+fed_bytes call = take call.taken call.piece
 
 -- the object that a call told
-abbrev pub told : Option FrameEvent → Phase → List (List ℕ)
-told (Some Object) new = object_of new ∷ []
-told other new = []
+abbrev pub objects_told : Option FrameEvent → Phase → List (List ℕ)
+objects_told (Some Object) new = object_of new ∷ []
+objects_told other new = []
 
 abbrev pub told_by : FramerCall → List (List ℕ)
-told_by call = told call.event call.new
+told_by call = objects_told call.event call.new
 
 -- the phase behind the calls
 abbrev pub reached : Phase → List FramerCall → Phase
@@ -115,8 +115,8 @@ reached old (call ∷ calls) = reached call.new calls
 
 -- However the bytes are cut into pieces, the objects told and the phase reached are those of the bytes.
 pub record JoinsPieces : Type 0 where
-  pub objects : (old : Phase) → (calls : List FramerCall) → AreCalls old calls → flat_map told_by calls ≡ objects old (flat_map bytes_of calls)
-  pub phase : (old : Phase) → (calls : List FramerCall) → AreCalls old calls → reached old calls ≡ run old (flat_map bytes_of calls)
+  pub objects : (old : Phase) → (calls : List FramerCall) → AreFramerCalls old calls → flat_map told_by calls ≡ objects old (flat_map fed_bytes calls)
+  pub phase : (old : Phase) → (calls : List FramerCall) → AreFramerCalls old calls → reached old calls ≡ run old (flat_map fed_bytes calls)
 
 -- a call that takes bytes takes none behind a refused one
 abbrev pub RefusesAtOnce : Type 0

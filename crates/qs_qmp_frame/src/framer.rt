@@ -18,13 +18,13 @@ pub struct Framer {
 impl Model for Framer {
     ghost use Rattle.std.specs.Prelude.{◌≤◌, vec_capacity};
     ghost use Rattle.qs_qmp_frame.specs.Objects.{limit};
-    ghost use Rattle.qs_qmp_frame.specs.Phases.{Phase, phase_of, HasRoom};
+    ghost use Rattle.qs_qmp_frame.specs.Phases.{Phase, phase_of, HasStageRoom};
 
     ghost Value = { Phase };
 
     ghost view = { λ f. phase_of f.stage f.kept.items };
 
-    ghost invariant = { λ f. HasRoom f.stage f.kept.items × (limit ≤ vec_capacity f.kept) };
+    ghost invariant = { λ f. HasStageRoom f.stage f.kept.items × (limit ≤ vec_capacity f.kept) };
 }
 
 impl Framer {

@@ -1,6 +1,6 @@
 ghost use Rattle.std.specs.Prelude.{◌≡◌, ℕ, ◌≤◌, List, [], ◌∷◌, ◌++◌, false, vec_capacity};
 ghost use Rattle.qs_qmp_frame.specs.Objects.{limit};
-ghost use Rattle.qs_qmp_frame.specs.Phases.{HasRoom, IsFed, after, begin, event_of, go_on, is_refused, phase_of};
+ghost use Rattle.qs_qmp_frame.specs.Phases.{HasStageRoom, IsFed, phase_after, begin, frame_event_of, go_on, is_refused, phase_of};
 
 use crate::place::Place;
 
@@ -44,7 +44,7 @@ pub struct Advance {
 impl Stage {
     /// The event that this stage is, where it is one.
     pub fn event(self) -> Option<FrameEvent>
-        ensures { (kept : List ℕ) → result ≡ event_of (phase_of self kept) }
+        ensures { (kept : List ℕ) → result ≡ frame_event_of (phase_of self kept) }
     {
         match self {
             Stage::Gap | Stage::Part(_) => None,
@@ -59,7 +59,7 @@ impl Stage {
 fn begin(kept: &mut Vec<u8>, byte: u8) -> Stage
     requires capacity { limit ≤ vec_capacity kept.old }
     ensures after { phase_of result kept.new.items ≡ begin byte }
-    ensures room { HasRoom result kept.new.items }
+    ensures room { HasStageRoom result kept.new.items }
     ensures capacity { vec_capacity kept.new ≡ vec_capacity kept.old }
 {
     kept.clear();
@@ -75,10 +75,10 @@ fn begin(kept: &mut Vec<u8>, byte: u8) -> Stage
 
 /// Takes a byte of an object.
 fn go_on(place: Place, kept: &mut Vec<u8>, byte: u8) -> Stage
-    requires room { HasRoom (Stage.Part place) kept.old.items }
+    requires room { HasStageRoom (Stage.Part place) kept.old.items }
     requires capacity { limit ≤ vec_capacity kept.old }
     ensures after { phase_of result kept.new.items ≡ go_on place (kept.old.items ++ byte ∷ []) byte }
-    ensures room { HasRoom result kept.new.items }
+    ensures room { HasStageRoom result kept.new.items }
     ensures capacity { vec_capacity kept.new ≡ vec_capacity kept.old }
 {
     kept.push_reserved(byte);
@@ -93,10 +93,10 @@ fn go_on(place: Place, kept: &mut Vec<u8>, byte: u8) -> Stage
 
 /// Takes a byte.
 fn step(stage: Stage, kept: &mut Vec<u8>, byte: u8) -> Stage
-    requires room { HasRoom stage kept.old.items }
+    requires room { HasStageRoom stage kept.old.items }
     requires capacity { limit ≤ vec_capacity kept.old }
-    ensures after { phase_of result kept.new.items ≡ after (phase_of stage kept.old.items) byte }
-    ensures room { HasRoom result kept.new.items }
+    ensures after { phase_of result kept.new.items ≡ phase_after (phase_of stage kept.old.items) byte }
+    ensures room { HasStageRoom result kept.new.items }
     ensures capacity { vec_capacity kept.new ≡ vec_capacity kept.old }
 {
     match stage {
@@ -108,12 +108,12 @@ fn step(stage: Stage, kept: &mut Vec<u8>, byte: u8) -> Stage
 
 /// Takes bytes from the front of the piece, up to the first event.
 pub fn take_piece(stage: Stage, kept: &mut Vec<u8>, piece: &[u8]) -> Advance
-    requires room { HasRoom stage kept.old.items }
+    requires room { HasStageRoom stage kept.old.items }
     requires capacity { limit ≤ vec_capacity kept.old }
     requires goes_on { is_refused (phase_of stage kept.old.items) ≡ false }
     ensures fed { IsFed (phase_of stage kept.old.items) piece.now result.taken result.event
         (phase_of result.stage kept.new.items) }
-    ensures room { HasRoom result.stage kept.new.items }
+    ensures room { HasStageRoom result.stage kept.new.items }
     ensures capacity { vec_capacity kept.new ≡ vec_capacity kept.old }
 {
     let mut stage = stage;

@@ -7,13 +7,13 @@ use Rattle.serde_json.specs.Written.{has_float, items_have_float}
 use Rattle.serde_json.specs.declared.value.Value.{Value}
 use Rattle.qs_command.specs.declared.table.NodeRow.{NodeRow}
 use Rattle.qs_command.specs.declared.table.ExportRow.{ExportRow}
-use Rattle.qs_qmp_write.specs.Texts.{node, nodes, export, exports}
+use Rattle.qs_qmp_write.specs.Texts.{node, nodes, export_data, exports}
 
 nodes_whole : (rows : List NodeRow) → items_have_float (items_of (map node rows)) ≡ false
 nodes_whole [] = refl
 nodes_whole (row ∷ rows) = nodes_whole rows
 
-exports_whole : (rows : List ExportRow) → items_have_float (items_of (map export rows)) ≡ false
+exports_whole : (rows : List ExportRow) → items_have_float (items_of (map export_data rows)) ≡ false
 exports_whole [] = refl
 exports_whole (row ∷ rows) = exports_whole rows
 
@@ -23,8 +23,8 @@ nodes_listed d vs rows k is same long =
     let e : d ≡ nodes rows = is ∙ ap (λ ds. array (items_of ds)) (same ∙ ap (λ xs. map node xs) (take_all k rows long)) in
     (e, ap (λ x. has_float x) e ∙ nodes_whole rows)
 
-pub exports_listed : (d : Data) (vs : List Value) (rows : List ExportRow) (k : ℕ) → d ≡ array (items_view vs) → map view vs ≡ map export (take k rows) →
+pub exports_listed : (d : Data) (vs : List Value) (rows : List ExportRow) (k : ℕ) → d ≡ array (items_view vs) → map view vs ≡ map export_data (take k rows) →
     length rows ≤ k → (d ≡ exports rows) × (has_float d ≡ false)
 exports_listed d vs rows k is same long =
-    let e : d ≡ exports rows = is ∙ ap (λ ds. array (items_of ds)) (same ∙ ap (λ xs. map export xs) (take_all k rows long)) in
+    let e : d ≡ exports rows = is ∙ ap (λ ds. array (items_of ds)) (same ∙ ap (λ xs. map export_data xs) (take_all k rows long)) in
     (e, ap (λ x. has_float x) e ∙ exports_whole rows)

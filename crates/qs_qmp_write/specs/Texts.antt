@@ -27,11 +27,11 @@ abbrev pub with_id : Option Data → Members → Members
 with_id None ms = ms
 with_id (Some d) ms = put (codes "id") d ms
 
-abbrev pub answered : List ℕ → Data → Option Data → Data
-answered key d id = object (with_id id (member key d no_members))
+abbrev pub answer_data : List ℕ → Data → Option Data → Data
+answer_data key d id = object (with_id id (member key d no_members))
 
 abbrev pub returned : Data → Option Data → List ℕ
-returned d id = message (answered (codes "return") d id)
+returned d id = message (answer_data (codes "return") d id)
 
 abbrev pub class_text : Class → List ℕ
 class_text GenericError = codes "GenericError"
@@ -41,7 +41,7 @@ abbrev pub error : Class → List ℕ → Data
 error class desc = object (member (codes "class") (string (class_text class)) (member (codes "desc") (string desc) no_members))
 
 abbrev pub failed : Class → List ℕ → Option Data → List ℕ
-failed class desc id = message (answered (codes "error") (error class desc) id)
+failed class desc id = message (answer_data (codes "error") (error class desc) id)
 
 -- ---- what a query lists
 
@@ -56,8 +56,8 @@ node row = object
     (member (codes "node-name") (string row.name)
     (member (codes "ro") (boolean row.read_only) no_members)))
 
-abbrev pub export : ExportRow → Data
-export row = object
+abbrev pub export_data : ExportRow → Data
+export_data row = object
     (member (codes "id") (string row.id)
     (member (codes "node-name") (string row.node)
     (member (codes "shutting-down") (boolean row.shutting)
@@ -67,7 +67,7 @@ abbrev pub nodes : List NodeRow → Data
 nodes rows = array (items_of (map node rows))
 
 abbrev pub exports : List ExportRow → Data
-exports rows = array (items_of (map export rows))
+exports rows = array (items_of (map export_data rows))
 
 -- ---- the event of a deleted export, at a reading in nanoseconds
 
@@ -76,12 +76,12 @@ timestamp now = object
     (member (codes "microseconds") (number (unsigned (now % 1_000_000_000 / 1_000)))
     (member (codes "seconds") (number (unsigned (now / 1_000_000_000))) no_members))
 
-abbrev pub named : List ℕ → Data
-named name = object (member (codes "id") (string name) no_members)
+abbrev pub named_data : List ℕ → Data
+named_data name = object (member (codes "id") (string name) no_members)
 
 abbrev pub deletion : List ℕ → ℕ → Data
 deletion name now = object
-    (member (codes "data") (named name)
+    (member (codes "data") (named_data name)
     (member (codes "event") (string (codes "BLOCK_EXPORT_DELETED"))
     (member (codes "timestamp") (timestamp now) no_members)))
 
@@ -89,7 +89,7 @@ deletion name now = object
 
 abbrev pub user_text : User → List ℕ
 user_text (users.Node name) = codes "node '" ++ name ++ codes "'"
-user_text (users.Export id) = codes "export '" ++ id ++ codes "'"
+user_text (users.Export id) = codes "export_data '" ++ id ++ codes "'"
 
 abbrev pub refusal_text : Refusal → List ℕ
 refusal_text (refusals.Duplicate name) = codes "Duplicate name '" ++ name ++ codes "'"
@@ -110,26 +110,26 @@ refusal_text (refusals.Connected name clients) = codes "Export '" ++ name ++ cod
 
 -- ---- answers
 
-abbrev pub nothing : Data
-nothing = object no_members
+abbrev pub empty_object : Data
+empty_object = object no_members
 
 abbrev pub quit_text : Bool → Option Data → List ℕ
-quit_text true id = returned nothing id
+quit_text true id = returned empty_object id
 quit_text false id = failed GenericError (codes "Flush failed") id
 
 abbrev pub end_text : JobEnd → Option Data → ℕ → List ℕ
-end_text ends.Fine id now = returned nothing id
+end_text ends.Fine id now = returned empty_object id
 end_text (ends.Nodes rows) id now = returned (nodes rows) id
 end_text (ends.Exports rows) id now = returned (exports rows) id
-end_text (ends.Deleted name) id now = returned nothing id ++ message (deletion name now)
+end_text (ends.Deleted name) id now = returned empty_object id ++ message (deletion name now)
 end_text (ends.Quit synced) id now = quit_text synced id
 end_text (ends.Refused refusal) id now = failed GenericError (refusal_text refusal) id
 end_text ends.Memory id now = failed GenericError (codes "Out of memory") id
 
 -- a refusal whose id can be written
-abbrev pub CanTell : QmpFault → Type 0
-CanTell (faults.Refused class desc id) = is_fit (option_map view id) ≡ true
-CanTell faults.Memory = ⊥
+abbrev pub CanTellFault : QmpFault → Type 0
+CanTellFault (faults.Refused class desc id) = is_fit (option_map view id) ≡ true
+CanTellFault faults.Memory = ⊥
 
 abbrev pub fault_text : QmpFault → List ℕ
 fault_text (faults.Refused class desc id) = failed class (string_bytes desc) (option_map view id)

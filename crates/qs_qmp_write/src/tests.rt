@@ -1,7 +1,7 @@
 ghost use Rattle.std.specs.Prelude.{◌≡◌, true};
-ghost use Rattle.qs_qmp.specs.Arguments.{seen};
+ghost use Rattle.qs_qmp.specs.Arguments.{seen_data};
 ghost use Rattle.qs_qmp.specs.Reading.{is_fit};
-ghost use Rattle.qs_qmp_write.specs.Texts.{CanTell};
+ghost use Rattle.qs_qmp_write.specs.Texts.{CanTellFault};
 
 use crate::{laws, write_end, write_fault};
 use qs_bytes::{Bytes, Name};
@@ -106,7 +106,7 @@ fn asked(alloc: Global, command: &QmpCommand) -> Result<String, Fail> {
 
 /// The whole answer to what is refused.
 fn refused(alloc: Global, fault: &QmpFault) -> Result<String, Fail>
-    requires { CanTell fault.now }
+    requires { CanTellFault fault.now }
 {
     let mut out = Bytes::of(Vec::new(alloc));
     write_fault(alloc, fault, &mut out)?;
@@ -574,7 +574,7 @@ fn a_message_nests_127_deep(rt: HostRuntime) -> Result<(), Fail> {
 }
 
 fn answer(alloc: Global, end: &JobEnd, id: Option<&Value>, now: u64) -> Result<String, Fail>
-    requires { is_fit (seen id) ≡ true }
+    requires { is_fit (seen_data id) ≡ true }
 {
     let mut out = Bytes::of(Vec::new(alloc));
     write_end(alloc, end, id, now, &mut out)?;

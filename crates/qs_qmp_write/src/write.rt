@@ -2,9 +2,9 @@ ghost use Rattle.std.specs.Prelude.{◌≡◌, ◌++◌, false, true, string_byt
 ghost use Rattle.serde_json.specs.Data.{array, member, no_members, object};
 ghost use Rattle.serde_json.specs.View.{items_view, members_view, view};
 ghost use Rattle.serde_json.specs.Written.{has_float};
-ghost use Rattle.qs_qmp.specs.Arguments.{seen};
+ghost use Rattle.qs_qmp.specs.Arguments.{seen_data};
 ghost use Rattle.qs_qmp.specs.Reading.{is_fit};
-ghost use Rattle.qs_qmp_write.specs.Texts.{CanTell, answered, deletion, end_text, error, export, exports, failed, fault_text, message, named, node, nodes, quit_text, returned, timestamp, with_id};
+ghost use Rattle.qs_qmp_write.specs.Texts.{CanTellFault, answer_data, deletion, end_text, error, export_data, exports, failed, fault_text, message, named_data, node, nodes, quit_text, returned, timestamp, with_id};
 
 use crate::texts::{class_text, driver_text, refusal_text, text};
 use qs_bytes::{Bytes, Memory, Name};
@@ -29,7 +29,7 @@ fn with_id(
     id: Option<&Value>,
 ) -> Result<Value, AllocError>
     ensures { IfOk result (λ v. view v
-        ≡ object (with_id (seen id.entry) (members_view members.entries))) }
+        ≡ object (with_id (seen_data id.entry) (members_view members.entries))) }
 {
     match id {
         None => Ok(Value::Object(members)),
@@ -42,7 +42,7 @@ fn with_id(
 
 /// An answer with one member, and the id of what it answers.
 fn answered(alloc: Global, key: &str, value: Value, id: Option<&Value>) -> Result<Value, AllocError>
-    ensures { IfOk result (λ v. view v ≡ answered key.now (view value) (seen id.entry)) }
+    ensures { IfOk result (λ v. view v ≡ answer_data key.now (view value) (seen_data id.entry)) }
 {
     let mut members = Map::new(alloc);
     put(&mut members, alloc, key, value)?;
@@ -51,8 +51,8 @@ fn answered(alloc: Global, key: &str, value: Value, id: Option<&Value>) -> Resul
 
 fn returned(alloc: Global, value: Value, id: Option<&Value>) -> Result<Vec<u8>, AllocError>
     requires value { has_float (view value) ≡ false }
-    requires id { is_fit (seen id) ≡ true }
-    ensures { IfOk result (λ bytes. bytes.items ≡ returned (view value) (seen id.entry)) }
+    requires id { is_fit (seen_data id) ≡ true }
+    ensures { IfOk result (λ bytes. bytes.items ≡ returned (view value) (seen_data id.entry)) }
 {
     let answer = answered(alloc, "return", value, id)?;
     message(alloc, &answer)
@@ -70,8 +70,8 @@ fn failed(
     desc: &str,
     id: Option<&Value>,
 ) -> Result<Vec<u8>, AllocError>
-    requires { is_fit (seen id) ≡ true }
-    ensures { IfOk result (λ bytes. bytes.items ≡ failed class desc.now (seen id.entry)) }
+    requires { is_fit (seen_data id) ≡ true }
+    ensures { IfOk result (λ bytes. bytes.items ≡ failed class desc.now (seen_data id.entry)) }
 {
     let answer = answered(alloc, "error", error(alloc, class, desc)?, id)?;
     message(alloc, &answer)
@@ -104,7 +104,7 @@ fn nodes(alloc: Global, rows: &[NodeRow]) -> Result<Value, AllocError>
 }
 
 fn export(alloc: Global, row: &ExportRow) -> Result<Value, AllocError>
-    ensures { IfOk result (λ v. view v ≡ export row.now) }
+    ensures { IfOk result (λ v. view v ≡ export_data row.now) }
 {
     json!(in alloc; {
         "id": text(&row.id),
@@ -134,7 +134,7 @@ fn timestamp(alloc: Global, now: u64) -> Result<Value, AllocError>
 }
 
 fn named(alloc: Global, name: &Name) -> Result<Value, AllocError>
-    ensures { IfOk result (λ v. view v ≡ named name.now) }
+    ensures { IfOk result (λ v. view v ≡ named_data name.now) }
 {
     json!(in alloc; {"id": text(name)})
 }
@@ -150,9 +150,9 @@ fn deletion(alloc: Global, name: &Name, now: u64) -> Result<Value, AllocError>
 
 /// The return, and the event behind it.
 fn deleted(alloc: Global, name: &Name, id: Option<&Value>, now: u64) -> Result<Vec<u8>, AllocError>
-    requires { is_fit (seen id) ≡ true }
+    requires { is_fit (seen_data id) ≡ true }
     ensures { IfOk result (λ bytes. bytes.items
-        ≡ returned (object no_members) (seen id.entry) ++ message (deletion name.now now)) }
+        ≡ returned (object no_members) (seen_data id.entry) ++ message (deletion name.now now)) }
 {
     let mut bytes = returned(alloc, Value::Object(Map::new(alloc)), id)?;
     let event = message(alloc, &deletion(alloc, name, now)?)?;
@@ -161,15 +161,15 @@ fn deleted(alloc: Global, name: &Name, id: Option<&Value>, now: u64) -> Result<V
 }
 
 fn fine(alloc: Global, id: Option<&Value>) -> Result<Vec<u8>, AllocError>
-    requires { is_fit (seen id) ≡ true }
-    ensures { IfOk result (λ bytes. bytes.items ≡ returned (object no_members) (seen id.entry)) }
+    requires { is_fit (seen_data id) ≡ true }
+    ensures { IfOk result (λ bytes. bytes.items ≡ returned (object no_members) (seen_data id.entry)) }
 {
     returned(alloc, Value::Object(Map::new(alloc)), id)
 }
 
 fn quit(alloc: Global, synced: bool, id: Option<&Value>) -> Result<Vec<u8>, AllocError>
-    requires { is_fit (seen id) ≡ true }
-    ensures { IfOk result (λ bytes. bytes.items ≡ quit_text synced (seen id.entry)) }
+    requires { is_fit (seen_data id) ≡ true }
+    ensures { IfOk result (λ bytes. bytes.items ≡ quit_text synced (seen_data id.entry)) }
 {
     if synced {
         fine(alloc, id)
@@ -185,8 +185,8 @@ fn end_text(
     id: Option<&Value>,
     now: u64,
 ) -> Result<Vec<u8>, AllocError>
-    requires { is_fit (seen id) ≡ true }
-    ensures { IfOk result (λ bytes. bytes.items ≡ end_text end.now (seen id.entry) now) }
+    requires { is_fit (seen_data id) ≡ true }
+    ensures { IfOk result (λ bytes. bytes.items ≡ end_text end.now (seen_data id.entry) now) }
 {
     match end {
         JobEnd::Fine => fine(alloc, id),
@@ -213,8 +213,8 @@ pub fn write_end(
     now: u64,
     out: &mut Bytes,
 ) -> Result<(), Memory>
-    requires { is_fit (seen id) ≡ true }
-    ensures ok { OnOk result (out.new ≡ out.old ++ end_text end.now (seen id.entry) now) }
+    requires { is_fit (seen_data id) ≡ true }
+    ensures ok { OnOk result (out.new ≡ out.old ++ end_text end.now (seen_data id.entry) now) }
     ensures err { OnErr result (out.new ≡ out.old) }
 {
     let bytes = end_text(alloc, end, id, now)?;
@@ -223,7 +223,7 @@ pub fn write_end(
 
 /// The bytes of a refusal's answer.
 fn fault_text(alloc: Global, fault: &QmpFault) -> Result<Vec<u8>, AllocError>
-    requires { CanTell fault.now }
+    requires { CanTellFault fault.now }
     ensures { IfOk result (λ bytes. bytes.items ≡ fault_text fault.now) }
 {
     match fault {
@@ -236,7 +236,7 @@ fn fault_text(alloc: Global, fault: &QmpFault) -> Result<Vec<u8>, AllocError>
 
 /// Writes why a message was refused, at the end of `out`. Refused memory leaves `out` as it was.
 pub fn write_fault(alloc: Global, fault: &QmpFault, out: &mut Bytes) -> Result<(), Memory>
-    requires { CanTell fault.now }
+    requires { CanTellFault fault.now }
     ensures ok { OnOk result (out.new ≡ out.old ++ fault_text fault.now) }
     ensures err { OnErr result (out.new ≡ out.old) }
 {

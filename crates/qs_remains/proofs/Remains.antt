@@ -6,13 +6,13 @@ use Rattle.qs_bytes.specs.declared.ask.Verdict.TheVariants.{Fine}
 use Rattle.qs_cells.specs.declared.cell.CellEntry.{CellEntry}
 use Rattle.qs_cells.specs.declared.cell.CellEntry.TheVariants.{Read, Write, Maybe}
 use Rattle.qs_cells.specs.Cells.{value_after}
-use Rattle.qs_model.specs.Requests.{Client, Stage, asked, body_at, covers, no_route, writes}
+use Rattle.qs_model.specs.Requests.{Client, Stage, new_request, body_at, covers, no_route, writes}
 use Rattle.qs_model.specs.Worlds.{Image, Opening, World, byte_at}
 use Rattle.qs_model.specs.Acts.{Act, Loads, Stores, StoreFails, Element, Asked, Did}
-use Rattle.qs_model.specs.Guards.{May}
+use Rattle.qs_model.specs.Guards.{CanCome}
 use Rattle.qs_model.specs.Histories.{Acts, Answered, cell_of, reads_in, writes_in}
-use Rattle.qs_model.specs.Laws.{opening}
-use Rattle.qs_model.specs.Steps.{Runs, after, happens}
+use Rattle.qs_model.specs.Laws.{opening_world}
+use Rattle.qs_model.specs.Steps.{Runs, world_after, happens}
 use Rattle.qs_model.proofs.Along.{lasts_run}
 use Rattle.qs_model.proofs.Basics.{either, put_here}
 use Rattle.qs_model.proofs.Cells.{step_leads, three, told_run}
@@ -104,7 +104,7 @@ record Reached (A : ℕ) (w : World) (c : Client) (i : Image) : Type 0 where
   from : IsFrom A w.image (routed_in w.graph c) i
   remains : Remains A w.image (routed_in w.graph c) i
 
-step_reached : (A : ℕ) (w : World) (r : ℕ) (c : Client) (steps : List Element) (x : World) (e : Element) → 0 < A → IsTrue w.tells → May A x e → Acts r e →
+step_reached : (A : ℕ) (w : World) (r : ℕ) (c : Client) (steps : List Element) (x : World) (e : Element) → 0 < A → IsTrue w.tells → CanCome A x e → Acts r e →
     Tracks A w r c steps x → Reached A w c x.image → Reached A w c (happens A x e).image
 step_reached A w r c steps x (Did s q act) pos told may own t so =
     let d : Client = routed_in w.graph c in
@@ -138,22 +138,22 @@ step_reached A w r c steps x (Did s q act) pos told may own t so =
 step_reached A w r c steps x _ pos told may own t so = absurd own
 
 run_reached : (A : ℕ) (w : World) (r : ℕ) (c : Client) (steps : List Element) (x : World) (es : List Element) → 0 < A → IsTrue w.tells → c.route ≡ no_route → Runs A x es →
-    AreOf r es → Tracks A w r c steps x → Reached A w c x.image → Reached A w c (after A x es).image
+    AreOf r es → Tracks A w r c steps x → Reached A w c x.image → Reached A w c (world_after A x es).image
 run_reached A w r c steps x [] pos told unrouted run own t so = so
 run_reached A w r c steps x (e ∷ es) pos told unrouted run own t so =
     run_reached A w r c (steps ++ e ∷ []) (happens A x e) es pos told unrouted run.1 own.1 (tracks_step A w r c steps x e pos unrouted run.0 own.0 t)
     (step_reached A w r c steps x e pos told run.0 own.0 t so)
 
-pub remains : (A : ℕ) (o : Opening) (before : List Element) (r : ℕ) (c : Client) (front : List Element) (e : Element) (v : Verdict) → 0 < A → IsTrue (after A (opening o) before).tells →
+pub remains : (A : ℕ) (o : Opening) (before : List Element) (r : ℕ) (c : Client) (front : List Element) (e : Element) (v : Verdict) → 0 < A → IsTrue (world_after A (opening_world o) before).tells →
     IsAlone A o before r c (front ++ e ∷ []) → IsAnswered r v e →
-    Remains A (after A (opening o) before).image (routed_in (after A (opening o) before).graph c) (after A (opening o) (before ++ Asked r c ∷ (front ++ e ∷ []))).image
+    Remains A (world_after A (opening_world o) before).image (routed_in (world_after A (opening_world o) before).graph c) (world_after A (opening_world o) (before ++ Asked r c ∷ (front ++ e ∷ []))).image
 remains A o before r c front e v pos told alone is =
-    let w : World = after A (opening o) before in
+    let w : World = world_after A (opening_world o) before in
     let (ok, run) = own_run A o before r c (front ++ e ∷ []) pos alone in
-    let reached : Reached A w c (after A (happens A w (Asked r c)) (front ++ e ∷ [])).image =
+    let reached : Reached A w c (world_after A (happens A w (Asked r c)) (front ++ e ∷ [])).image =
     run_reached A w r c [] (happens A w (Asked r c)) (front ++ e ∷ []) pos told run.0.unrouted run.1 alone.own
     (tracks_asked A w r c pos ok alone.idle run.0) (record { from = λ y. inl refl; remains = λ y u h. inl h }) in
-    subst (λ (x : World). Remains A w.image (routed_in w.graph c) x.image) (sym (after_append A (opening o) before (Asked r c ∷ (front ++ e ∷ [])))) reached.remains
+    subst (λ (x : World). Remains A w.image (routed_in w.graph c) x.image) (sym (after_append A (opening_world o) before (Asked r c ∷ (front ++ e ∷ [])))) reached.remains
 
 -- the same steps, by the definition of the crash law
 own_of : (r : ℕ) (es : List Element) → AreOf r es → AreOwn r es
@@ -165,30 +165,30 @@ asked_none : (A r s : ℕ) (c : Client) → Had s (told A r (Asked r c ∷ [])) 
 asked_none A r s c had = subst (Had s) (ask_step A r r c None ∙ if_same r r (Some (begun c)) None refl) had
 
 -- the FLUSH that answers
-answers_flush : (A : ℕ) (x : World) (r : ℕ) (c : Client) (e : Element) → May A x e → IsAnswered r Fine e → HasKind c.ask.kind (x.req r) →
+answers_flush : (A : ℕ) (x : World) (r : ℕ) (c : Client) (e : Element) → CanCome A x e → IsAnswered r Fine e → HasKind c.ask.kind (x.req r) →
     (d : Client) × (Answered r d Fine e × (d.ask.kind ≡ c.ask.kind))
 answers_flush A x r c (Did s q act) may is kind =
     (q.client, ((is.0, refl, is.1), subst (HasKind c.ask.kind) (ap x.req (sym is.0) ∙ may.0) kind))
 answers_flush A x r c _ may is kind = absurd is
 
-pub flushed : (A : ℕ) (o : Opening) (before : List Element) (r : ℕ) (c : Client) (front : List Element) (e : Element) → 0 < A → IsTrue (after A (opening o) before).tells →
-    IsCleanSettled (after A (opening o) before).image → c.ask.kind ≡ Flush → IsAlone A o before r c (front ++ e ∷ []) → IsAnswered r Fine e →
-    IsSettled (after A (opening o) (before ++ Asked r c ∷ (front ++ e ∷ []))).image
+pub flushed : (A : ℕ) (o : Opening) (before : List Element) (r : ℕ) (c : Client) (front : List Element) (e : Element) → 0 < A → IsTrue (world_after A (opening_world o) before).tells →
+    IsCleanSettled (world_after A (opening_world o) before).image → c.ask.kind ≡ Flush → IsAlone A o before r c (front ++ e ∷ []) → IsAnswered r Fine e →
+    IsSettled (world_after A (opening_world o) (before ++ Asked r c ∷ (front ++ e ∷ []))).image
 flushed A o before r c front e pos told clean flush alone is b =
-    let w : World = after A (opening o) before in
+    let w : World = world_after A (opening_world o) before in
     let (ok, run) = own_run A o before r c (front ++ e ∷ []) pos alone in
     let es : List Element = Asked r c ∷ (front ++ e ∷ []) in
     let x : World = happens A w (Asked r c) in
     let (up, may) = split_run A x (front ++ e ∷ []) front e run.1 ([], refl) in
-    let kind : HasKind c.ask.kind ((after A x front).req r) =
+    let kind : HasKind c.ask.kind ((world_after A x front).req r) =
     lasts_run A (HasKind c.ask.kind) (kind_lasts A c.ask.kind) x front r up (omega (arith, run.0.next))
-    (subst (HasKind c.ask.kind) (sym (put_here w.req r (Some (asked c)))) refl) in
-    let (d, (fine, same)) = answers_flush A (after A x front) r c e may is kind in
+    (subst (HasKind c.ask.kind) (sym (put_here w.req r (Some (new_request c)))) refl) in
+    let (d, (fine, same)) = answers_flush A (world_after A x front) r c e may is kind in
     subst (λ (y : World). y.image.past b ≡ y.image.now b ∷ [])
-    (sym (after_append A (opening o) before es ∙ after_append A x front (e ∷ [])))
+    (sym (after_append A (opening_world o) before es ∙ after_append A x front (e ∷ [])))
     (flush_alone A w es (Asked r c ∷ []) front e r d b
     (record { pos = pos; told = told; ok = ok; none = alone.idle; alone = clean; run = run })
     (same ∙ flush) fine ([], refl) (λ s. asked_none A r s c) (own_of r front (own_front r front (e ∷ []) alone.own)))
 
-pub clean_settled : (A : ℕ) (w : World) (es : List Element) → IsCleanSettled w.image → IsCleanSettled (after A w es).image
+pub clean_settled : (A : ℕ) (w : World) (es : List Element) → IsCleanSettled w.image → IsCleanSettled (world_after A w es).image
 clean_settled A w es clean = run_alone A w es clean

@@ -14,7 +14,7 @@ use Rattle.qs_stream.proofs.Bytes.{gives_on}
 use Rattle.qs_stream.proofs.Moves.{moved_on, moved_none, moved_split}
 use Rattle.qs_stream.proofs.Calls.{write_failed}
 use Rattle.qs_replay.specs.declared.lines.Came.{Came}
-use Rattle.qs_replay.specs.Readings.{AllSent, Comes, Feeds, IsText, Seeks, came_of, end_of}
+use Rattle.qs_replay.specs.Readings.{AllSent, PieceComes, Feeds, IsText, Seeks, came_of, end_of}
 
 pub has_no_append : (byte : ℕ) (xs ys : List ℕ) → HasNo byte xs → HasNo byte ys → HasNo byte (xs ++ ys)
 has_no_append byte [] ys p q k below = q k below
@@ -119,7 +119,7 @@ joins line taken line' text cuts =
 
 -- a cut is a line's end, or there were too many bytes
 comes_of : (E : Type 0) (line taken line' : List ℕ) (event : Cut) (after : Flow) → IsText line → Cuts line taken (Some event) line' →
-    Comes {E = E} (line ++ taken) (Ok (came_of event)) line' after
+    PieceComes {E = E} (line ++ taken) (Ok (came_of event)) line' after
 comes_of E line taken line' cut.Line after text cuts = (
   ap (λ (l : List ℕ). line ++ l) cuts.1.0 ∙ sym (append_assoc line cuts.0 (10 ∷ [])) ∙ ap (λ (l : List ℕ). l ++ 10 ∷ []) (sym cuts.1.2),
   record { no_end = subst (λ (l : List ℕ). HasNo 10 l) (sym cuts.1.2) (has_no_append 10 line cuts.0 text.no_end cuts.1.1); short = cuts.1.3 },
@@ -190,7 +190,7 @@ module _ {E : Type 0} (before now read : Flow) (line : List ℕ) (sought : Sough
       nothing [] e = refl
       nothing (x ∷ xs) e = absurd (omega (arith, e))
 
-      at_end : (l : List ℕ) → IsText l → Comes {E = E} l (Ok (end_of l)) l read
+      at_end : (l : List ℕ) → IsText l → PieceComes {E = E} l (Ok (end_of l)) l read
       at_end [] text = (refl, (fills.at_end is, nothing read.stream.waiting (sym fills.count ∙ is)))
       at_end (b ∷ l) text = (refl, text, (λ e. absurd (omega (arith, ap length e))), (fills.at_end is, nothing read.stream.waiting (sym fills.count ∙ is)))
 

@@ -5,16 +5,16 @@ use Rattle.std.specs.Prelude.{Option, None, Some}
 use Rattle.qs_outside.specs.Blocks.{Seen}
 use Rattle.qs_status.specs.declared.status.Status.{Status}
 use Rattle.qs_status.specs.declared.status.Status.TheVariants as status
-use Rattle.qs_script.specs.Cuts.{longest}
+use Rattle.qs_script.specs.Cuts.{longest_line}
 use Rattle.qs_script.specs.Finds.{HasNo}
 use Rattle.qs_world.specs.Values.{WorldValue}
 use Rattle.qs_replay_lines.specs.declared.stop.Stop.TheVariants as stop
 use Rattle.qs_calls.specs.Calls.{Call}
-use Rattle.qs_replay.specs.Readings.{IsText, IsUsedUp}
+use Rattle.qs_replay.specs.Readings.{IsText, IsReadUp}
 use Rattle.qs_replay_lines.specs.Tables.{Names}
 use Rattle.qs_stream.specs.Bytes.{Takes}
-use Rattle.qs_replay.specs.Scripts.{AllDone, BreaksOff, Ends, IsBad, IsFront, IsLine, IsNextLine, IsScript, IsUntimely, ReachesLine, Replays}
-use Rattle.qs_replay.specs.Scripts.{Scene, lines_from, lines_of, spelled}
+use Rattle.qs_replay.specs.Scripts.{AllDone, BreaksOff, EndsScript, IsBad, IsReadFront, IsLine, IsNextLine, IsScript, IsUntimely, ReachesLine, Replays}
+use Rattle.qs_replay.specs.Scripts.{Scene, lines_from, lines_of, spelled_lines}
 
 -- one byte more, whatever the front of the line is
 lines_step : (line bytes : List ℕ) (b : ℕ) →
@@ -91,14 +91,14 @@ are_bare seen w t (text ∷ texts) calls printed w' t' done =
     (done.is_text.no_end, are_bare seen done.world done.names texts done.later done.more w' t' done.rest)
 
 -- the texts are the first lines
-lines_spelled : (texts : List (List ℕ)) (more : List ℕ) → AreBare texts → lines_of (spelled texts ++ more) ≡ texts ++ lines_of more
+lines_spelled : (texts : List (List ℕ)) (more : List ℕ) → AreBare texts → lines_of (spelled_lines texts ++ more) ≡ texts ++ lines_of more
 lines_spelled [] more bare = refl
 lines_spelled (text ∷ texts) more bare =
-    ap lines_of (append_assoc text (10 ∷ spelled texts) more)
-    ∙ lines_line text (spelled texts ++ more) bare.0
+    ap lines_of (append_assoc text (10 ∷ spelled_lines texts) more)
+    ∙ lines_line text (spelled_lines texts ++ more) bare.0
     ∙ ap (λ (ls : List (List ℕ)). text ∷ ls) (lines_spelled texts more bare.1)
 
-lines_front : (script : List ℕ) (texts : List (List ℕ)) (more : List ℕ) → AreBare texts → script ≡ spelled texts ++ more →
+lines_front : (script : List ℕ) (texts : List (List ℕ)) (more : List ℕ) → AreBare texts → script ≡ spelled_lines texts ++ more →
     lines_of script ≡ texts ++ lines_of more
 lines_front script texts more bare is = ap lines_of is ∙ lines_spelled texts more bare
 
@@ -106,7 +106,7 @@ lines_front script texts more bare is = ap lines_of is ∙ lines_spelled texts m
 pub record Splits (script taken : List ℕ) (left : Option (List ℕ)) (waiting : List ℕ) : Type 0 where
   pub more : List ℕ
   pub is : script ≡ taken ++ more
-  pub up : IsUsedUp left waiting → more ≡ []
+  pub up : IsReadUp left waiting → more ≡ []
 
 splits_told : (script taken : List ℕ) (left : Option (List ℕ)) (waiting : List ℕ) → Takes (Some script) [] taken left waiting →
     Splits script taken left waiting
@@ -124,15 +124,15 @@ splits_of script taken left left' waiting waiting' told empty takes =
     (subst (λ (l : Option (List ℕ)). Takes l waiting taken left' waiting') told takes))
 
 -- where all of the script was taken
-pub whole_of : (script taken : List ℕ) (left : Option (List ℕ)) (waiting : List ℕ) → Splits script taken left waiting → IsUsedUp left waiting → script ≡ taken
+pub whole_of : (script taken : List ℕ) (left : Option (List ℕ)) (waiting : List ℕ) → Splits script taken left waiting → IsReadUp left waiting → script ≡ taken
 whole_of script taken left waiting split used =
     split.is ∙ ap (λ (l : List ℕ). taken ++ l) (split.up used) ∙ append-nil taken
 
 -- behind the texts come the lines of what wasn't done
 lines_behind : (script : List ℕ) (texts : List (List ℕ)) (taken bytes more : List ℕ) → AreBare texts → script ≡ taken ++ more →
-    taken ≡ spelled texts ++ bytes → lines_of script ≡ texts ++ lines_of (bytes ++ more)
+    taken ≡ spelled_lines texts ++ bytes → lines_of script ≡ texts ++ lines_of (bytes ++ more)
 lines_behind script texts taken bytes more bare is taken_is =
-    lines_front script texts (bytes ++ more) bare (is ∙ ap (λ (l : List ℕ). l ++ more) taken_is ∙ append_assoc (spelled texts) bytes more)
+    lines_front script texts (bytes ++ more) bare (is ∙ ap (λ (l : List ℕ). l ++ more) taken_is ∙ append_assoc (spelled_lines texts) bytes more)
 
 bare_split : (front others : List (List ℕ)) → AreBare (front ++ others) → AreBare front × AreBare others
 bare_split [] others bare = (tt, bare)
@@ -141,7 +141,7 @@ bare_split (text ∷ front) others bare = let both : AreBare front × AreBare ot
 -- the texts are all lines
 lines_all : (script taken : List ℕ) (texts : List (List ℕ)) → AreBare texts → script ≡ taken → IsScript taken texts → lines_of script ≡ texts
 lines_all script taken texts bare whole (inl is) =
-    lines_front script texts [] bare (whole ∙ is ∙ sym (append-nil (spelled texts))) ∙ append-nil texts
+    lines_front script texts [] bare (whole ∙ is ∙ sym (append-nil (spelled_lines texts))) ∙ append-nil texts
 lines_all script taken texts bare whole (inr is) =
     let both : AreBare is.0 × AreBare (is.1 ∷ []) = bare_split is.0 (is.1 ∷ []) (subst AreBare is.2.0 bare) in
     lines_front script is.0 is.1 both.0 (whole ∙ is.2.2)
@@ -150,7 +150,7 @@ lines_all script taken texts bare whole (inr is) =
 
 -- the line behind the texts, whole
 lines_next : (P : List ℕ → Type 0) (script taken bytes text : List ℕ) (texts : List (List ℕ)) (left : Option (List ℕ)) (waiting : List ℕ) →
-    AreBare texts → Splits script taken left waiting → taken ≡ spelled texts ++ bytes → HasNo 10 text → IsLine bytes text left waiting → P text →
+    AreBare texts → Splits script taken left waiting → taken ≡ spelled_lines texts ++ bytes → HasNo 10 text → IsLine bytes text left waiting → P text →
     IsNextLine (lines_of script) texts P
 lines_next P script taken bytes text texts left waiting bare split taken_is free (inl line) p = (
   text,
@@ -174,12 +174,12 @@ lines_next P script taken bytes text texts left waiting bare split taken_is free
   ),
 )
 
-long_filled : (text : List ℕ) → length text ≡ longest → text ≢ []
+long_filled : (text : List ℕ) → length text ≡ longest_line → text ≢ []
 long_filled text long e = absurd (omega (arith, ap length e))
 
 -- the line behind the texts, of which too many bytes were taken
 lines_long : (t : Names) (script taken bytes text : List ℕ) (texts : List (List ℕ)) (left : Option (List ℕ)) (waiting : List ℕ) →
-    AreBare texts → Splits script taken left waiting → taken ≡ spelled texts ++ bytes → HasNo 10 text → bytes ≡ text → length text ≡ longest →
+    AreBare texts → Splits script taken left waiting → taken ≡ spelled_lines texts ++ bytes → HasNo 10 text → bytes ≡ text → length text ≡ longest_line →
     IsNextLine (lines_of script) texts (IsBad t)
 lines_long t script taken bytes text texts left waiting bare split taken_is free same long =
     let begun : Begins text (lines_from text split.more) = lines_begin text split.more (long_filled text long) in (
@@ -194,8 +194,8 @@ lines_long t script taken bytes text texts left waiting bare split taken_is free
     )
 
 lines_bad : (t : Names) (script taken bytes text : List ℕ) (texts : List (List ℕ)) (left : Option (List ℕ)) (waiting : List ℕ) →
-    AreBare texts → Splits script taken left waiting → taken ≡ spelled texts ++ bytes → HasNo 10 text →
-    IsLine bytes text left waiting ⊎ ((bytes ≡ text) × (length text ≡ longest)) → IsBad t text → IsNextLine (lines_of script) texts (IsBad t)
+    AreBare texts → Splits script taken left waiting → taken ≡ spelled_lines texts ++ bytes → HasNo 10 text →
+    IsLine bytes text left waiting ⊎ ((bytes ≡ text) × (length text ≡ longest_line)) → IsBad t text → IsNextLine (lines_of script) texts (IsBad t)
 lines_bad t script taken bytes text texts left waiting bare split taken_is free (inl line) bad =
     lines_next (IsBad t) script taken bytes text texts left waiting bare split taken_is free line bad
 lines_bad t script taken bytes text texts left waiting bare split taken_is free (inr long) bad =
@@ -203,7 +203,7 @@ lines_bad t script taken bytes text texts left waiting bare split taken_is free 
 
 -- where the output failed
 lines_some : (script taken : List ℕ) (texts : List (List ℕ)) (left : Option (List ℕ)) (waiting : List ℕ) → AreBare texts →
-    Splits script taken left waiting → IsFront texts taken left waiting → (rest : List (List ℕ)) × (lines_of script ≡ texts ++ rest)
+    Splits script taken left waiting → IsReadFront texts taken left waiting → (rest : List (List ℕ)) × (lines_of script ≡ texts ++ rest)
 lines_some script taken texts left waiting bare split (inl begun) =
     (lines_of (begun.0 ++ split.more), lines_behind script texts taken begun.0 split.more bare split.is begun.1)
 lines_some script taken texts left waiting bare split (inr all) =
@@ -211,7 +211,7 @@ lines_some script taken texts left waiting bare split (inr all) =
 
 reaches_end : {D : Type 0} (result : Status) (budget : ℕ) (script taken : List ℕ) (texts : List (List ℕ)) (cut : List Call) (w : WorldValue D)
     (t : Names) (left : Option (List ℕ)) (waiting : List ℕ) → AreBare texts → Splits script taken left waiting →
-    Ends result budget texts taken cut w t left waiting → ReachesLine result budget (lines_of script) texts w t
+    EndsScript result budget texts taken cut w t left waiting → ReachesLine result budget (lines_of script) texts w t
 reaches_end status.Done budget script taken texts cut w t left waiting bare split ends =
     sym (lines_all script taken texts bare (whole_of script taken left waiting split ends.1) ends.0)
 reaches_end (status.BadLine n) budget script taken texts cut w t left waiting bare split ends =

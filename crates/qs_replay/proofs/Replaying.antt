@@ -1,7 +1,7 @@
 -- Lines one after the other, and the end of a script.
 use Rattle.std.proofs.Common.{◌≡◌, ℕ, ◌+◌, ◌<◌, ◌≤◌, length, Bool, List, [], ◌∷◌, ◌++◌, refl, sym, subst, ap, ◌∙◌, inl, inr, arith, append_assoc, append-nil, length-append, true, false, ◌≢◌}
 use Rattle.std.specs.Prelude.{Option, Result, Ok, Err}
-use Rattle.qs_script.specs.Lines.{Reads}
+use Rattle.qs_script.specs.Lines.{ReadsLine}
 use Rattle.qs_script.specs.declared.line.Line.{Line}
 use Rattle.qs_replay_lines.specs.declared.desk.Desk.{Desk}
 use Rattle.qs_replay_lines.specs.declared.stop.Stop.{Stop}
@@ -12,8 +12,8 @@ use Rattle.qs_status.specs.declared.status.Status.{Status}
 use Rattle.qs_status.specs.declared.status.Status.TheVariants as status
 use Rattle.qs_world.specs.Values.{WorldValue}
 use Rattle.qs_replay_lines.specs.declared.stop.Stop.TheVariants as stop
-use Rattle.qs_replay.specs.declared.replay.Turn.{Turn}
-use Rattle.qs_replay.specs.declared.replay.Turn.TheVariants as turn
+use Rattle.qs_replay.specs.declared.replay.LineOutcome.{LineOutcome}
+use Rattle.qs_replay.specs.declared.replay.LineOutcome.TheVariants as line_outcome
 use Rattle.qs_calls.specs.Calls.{Call, Plays}
 use Rattle.qs_replay_lines.specs.Tables.{Names}
 use Rattle.qs_stream.specs.declared.state.State.{State}
@@ -23,15 +23,15 @@ use Rattle.qs_stream.specs.Bytes.{Gives}
 use Rattle.qs_stream.specs.Flows.{Flow, Moved, Proceeds, Puts, Side}
 use Rattle.qs_stream.proofs.Moves.{moved_none, moved_on}
 use Rattle.qs_replay.specs.Readings.{AllSent, IsText}
-use Rattle.qs_replay.specs.Scripts.{AllDone, DoesText, Ends, Finishes, IsFront, PlaysText, Replays, Scene, SoFar, Turns, done_of}
-use Rattle.qs_replay.specs.Scripts.{is_silent, is_whole, side_of, spelled, status_of}
+use Rattle.qs_replay.specs.Scripts.{AllDone, DoesText, EndsScript, Finishes, IsReadFront, PlaysText, Replays, Scene, SoFar, Turns, done_of}
+use Rattle.qs_replay.specs.Scripts.{is_silent, is_whole, side_of, spelled_lines, status_of}
 use Rattle.qs_replay.proofs.Coming.{all_sent_on}
 use Rattle.qs_replay.proofs.Turning.{open_reads, put_reads}
 
-pub spelled_more : (texts : List (List ℕ)) (text : List ℕ) → spelled (texts ++ text ∷ []) ≡ spelled texts ++ (text ++ 10 ∷ [])
+pub spelled_more : (texts : List (List ℕ)) (text : List ℕ) → spelled_lines (texts ++ text ∷ []) ≡ spelled_lines texts ++ (text ++ 10 ∷ [])
 spelled_more [] text = refl
 spelled_more (t ∷ texts) text =
-    ap (λ (l : List ℕ). t ++ 10 ∷ l) (spelled_more texts text) ∙ sym (append_assoc t (10 ∷ spelled texts) (text ++ 10 ∷ []))
+    ap (λ (l : List ℕ). t ++ 10 ∷ l) (spelled_more texts text) ∙ sym (append_assoc t (10 ∷ spelled_lines texts) (text ++ 10 ∷ []))
 
 -- no line was done
 pub done_none : {D : Type 0} (seen : D → Seen) (w : WorldValue D) (t : Names) → AllDone seen w t [] [] [] w t
@@ -81,7 +81,7 @@ so_far_none seen a going = record {
   reads = open_reads a.flow.stream.state going;
 }
 
-pub so_far_more : {D : Type 0} (seen : D → Seen) (a b c : Scene D) (n : ℕ) → SoFar seen a n b → Turns seen b turn.Goes c → SoFar seen a (n + 1) c
+pub so_far_more : {D : Type 0} (seen : D → Seen) (a b c : Scene D) (n : ℕ) → SoFar seen a n b → Turns seen b line_outcome.Goes c → SoFar seen a (n + 1) c
 so_far_more seen a b c n so t = record {
   texts = so.texts ++ t.text ∷ [];
   calls = so.calls ++ t.calls;
@@ -90,8 +90,8 @@ so_far_more seen a b c n so t = record {
   done = done_more seen a.world a.names so.texts so.calls so.printed b.world b.names t.text t.calls t.printed c.world c.names so.done t.does.1 t.does.2;
   moved =
       subst (λ (l : List ℕ). Moved l (so.printed ++ t.printed) a.flow c.flow)
-      (ap (λ (l : List ℕ). spelled so.texts ++ l) t.does.0 ∙ sym (spelled_more so.texts t.text))
-      (moved_on a.flow b.flow c.flow (spelled so.texts) so.printed t.taken t.printed so.moved t.moved);
+      (ap (λ (l : List ℕ). spelled_lines so.texts ++ l) t.does.0 ∙ sym (spelled_more so.texts t.text))
+      (moved_on a.flow b.flow c.flow (spelled_lines so.texts) so.printed t.taken t.printed so.moved t.moved);
   reads = t.stream_is;
 }
 
@@ -117,13 +117,13 @@ pub record Closes {D : Type 0} (seen : D → Seen) (a : Scene D) (budget : ℕ) 
   pub written : result ≡ status.ReadFault → AllSent printed a.flow c.flow
   pub cut : List Call
   pub cut_plays : Plays seen world cut c.world
-  pub ends : Ends result budget texts taken cut world names c.flow.input.bytes c.flow.stream.waiting
+  pub ends : EndsScript result budget texts taken cut world names c.flow.input.bytes c.flow.stream.waiting
 
 -- the parts that all ends but a last line share: the lines before, and what was taken and given behind them
-record_of : {D : Type 0} (seen : D → Seen) (a b c : Scene D) (n budget : ℕ) (how : Turn) (so : SoFar seen a n b) (t : Turns seen b how c)
+record_of : {D : Type 0} (seen : D → Seen) (a b c : Scene D) (n budget : ℕ) (how : LineOutcome) (so : SoFar seen a n b) (t : Turns seen b how c)
     (result : Status) (cut : List Call) → n < budget → t.printed ≡ [] → StreamAtEnd result c.flow.stream.state →
     (result ≡ status.ReadFault → AllSent so.printed a.flow c.flow) → Plays seen b.world cut c.world →
-    Ends result budget so.texts (spelled so.texts ++ t.taken) cut b.world b.names c.flow.input.bytes c.flow.stream.waiting → Closes seen a budget result c
+    EndsScript result budget so.texts (spelled_lines so.texts ++ t.taken) cut b.world b.names c.flow.input.bytes c.flow.stream.waiting → Closes seen a budget result c
 record_of seen a b c n budget how so t result cut below silent stream_is written plays ends = record {
   texts = so.texts;
   calls = so.calls;
@@ -132,11 +132,11 @@ record_of seen a b c n budget how so t result cut below silent stream_is written
   names = b.names;
   done = so.done;
   few = omega (arith, so.count);
-  taken = spelled so.texts ++ t.taken;
+  taken = spelled_lines so.texts ++ t.taken;
   moved =
-      subst (λ (l : List ℕ). Moved (spelled so.texts ++ t.taken) l a.flow c.flow)
+      subst (λ (l : List ℕ). Moved (spelled_lines so.texts ++ t.taken) l a.flow c.flow)
       (ap (λ (l : List ℕ). so.printed ++ l) silent ∙ append-nil so.printed)
-      (moved_on a.flow b.flow c.flow (spelled so.texts) so.printed t.taken t.printed so.moved t.moved);
+      (moved_on a.flow b.flow c.flow (spelled_lines so.texts) so.printed t.taken t.printed so.moved t.moved);
   stream_is = stream_is;
   written = written;
   cut = cut;
@@ -155,15 +155,15 @@ sent_before a b c taken given more moved reads behind failed sent = by_state b.s
     by_state state.WriteFault now reads runs = absurd runs
 
 -- a last line without LF isn't spelled with one
-bare_last : (texts : List (List ℕ)) (text : List ℕ) → spelled texts ++ text ≡ spelled (texts ++ text ∷ []) → ⊥
+bare_last : (texts : List (List ℕ)) (text : List ℕ) → spelled_lines texts ++ text ≡ spelled_lines (texts ++ text ∷ []) → ⊥
 bare_last texts text same =
-    let long : length (spelled texts ++ text) ≡ length (spelled texts ++ (text ++ 10 ∷ [])) = ap length (same ∙ spelled_more texts text) in
-    omega (arith, long, length-append (spelled texts) text, length-append (spelled texts) (text ++ 10 ∷ []), length-append text (10 ∷ []))
+    let long : length (spelled_lines texts ++ text) ≡ length (spelled_lines texts ++ (text ++ 10 ∷ [])) = ap length (same ∙ spelled_more texts text) in
+    omega (arith, long, length-append (spelled_lines texts) text, length-append (spelled_lines texts) (text ++ 10 ∷ []), length-append text (10 ∷ []))
 
-pub closes : {D : Type 0} (seen : D → Seen) (a b c : Scene D) (n budget : ℕ) (how : Turn) → n < budget → SoFar seen a n b → Turns seen b how c →
-    (how ≡ turn.Goes → ⊥) → Closes seen a budget (status_of how (n + 1)) c
-closes seen a b c n budget turn.Goes below so t ne = absurd (ne refl)
-closes seen a b c n budget turn.Last below so t ne = record {
+pub closes : {D : Type 0} (seen : D → Seen) (a b c : Scene D) (n budget : ℕ) (how : LineOutcome) → n < budget → SoFar seen a n b → Turns seen b how c →
+    (how ≡ line_outcome.Goes → ⊥) → Closes seen a budget (status_of how (n + 1)) c
+closes seen a b c n budget line_outcome.Goes below so t ne = absurd (ne refl)
+closes seen a b c n budget line_outcome.Last below so t ne = record {
   texts = so.texts ++ t.text ∷ [];
   calls = so.calls ++ t.calls;
   printed = so.printed ++ t.printed;
@@ -171,44 +171,44 @@ closes seen a b c n budget turn.Last below so t ne = record {
   names = c.names;
   done = done_more seen a.world a.names so.texts so.calls so.printed b.world b.names t.text t.calls t.printed c.world c.names so.done t.does.1 t.does.4;
   few = omega (arith, so.count, length-append so.texts (t.text ∷ []));
-  taken = spelled so.texts ++ t.text;
+  taken = spelled_lines so.texts ++ t.text;
   moved =
-      subst (λ (l : List ℕ). Moved (spelled so.texts ++ l) (so.printed ++ t.printed) a.flow c.flow) t.does.0
-      (moved_on a.flow b.flow c.flow (spelled so.texts) so.printed t.taken t.printed so.moved t.moved);
+      subst (λ (l : List ℕ). Moved (spelled_lines so.texts ++ l) (so.printed ++ t.printed) a.flow c.flow) t.does.0
+      (moved_on a.flow b.flow c.flow (spelled_lines so.texts) so.printed t.taken t.printed so.moved t.moved);
   stream_is = t.stream_is;
   written = λ e. absurd (cc);
   cut = [];
   cut_plays = refl;
   ends = (inr (so.texts, t.text, (refl, t.does.2, refl)), t.does.3, refl, λ same. absurd (bare_last so.texts t.text same));
 }
-closes seen a b c n budget turn.End below so t ne =
-    record_of seen a b c n budget turn.End so t status.Done [] below t.does.2.printed_is (open_reads c.flow.stream.state t.stream_is) (λ e. absurd (cc))
+closes seen a b c n budget line_outcome.End below so t ne =
+    record_of seen a b c n budget line_outcome.End so t status.Done [] below t.does.2.printed_is (open_reads c.flow.stream.state t.stream_is) (λ e. absurd (cc))
     t.does.2.world
-    (inl (ap (λ (l : List ℕ). spelled so.texts ++ l) t.does.0 ∙ append-nil (spelled so.texts)), t.does.1, refl, λ same. omega (arith, so.count))
-closes seen a b c n budget (turn.Stops stop.BadLine) below so t ne =
-    record_of seen a b c n budget (turn.Stops stop.BadLine) so t (status.BadLine (n + 1)) t.does.2.calls below t.does.1
+    (inl (ap (λ (l : List ℕ). spelled_lines so.texts ++ l) t.does.0 ∙ append-nil (spelled_lines so.texts)), t.does.1, refl, λ same. omega (arith, so.count))
+closes seen a b c n budget (line_outcome.Stops stop.BadLine) below so t ne =
+    record_of seen a b c n budget (line_outcome.Stops stop.BadLine) so t (status.BadLine (n + 1)) t.does.2.calls below t.does.1
     (open_reads c.flow.stream.state t.stream_is) (λ e. absurd (cc)) t.does.2.plays (
       ap (λ (k : ℕ). k + 1) (sym so.count),
       record { text = t.text; bytes = t.taken; no_end = t.no_end; taken_is = refl; is_taken = t.does.0; why = t.does.2.why },
       omega arith,
     )
-closes seen a b c n budget (turn.Stops stop.NotNext) below so t ne =
-    record_of seen a b c n budget (turn.Stops stop.NotNext) so t (status.NotNext (n + 1)) t.does.2.calls below t.does.1
+closes seen a b c n budget (line_outcome.Stops stop.NotNext) below so t ne =
+    record_of seen a b c n budget (line_outcome.Stops stop.NotNext) so t (status.NotNext (n + 1)) t.does.2.calls below t.does.1
     (open_reads c.flow.stream.state t.stream_is) (λ e. absurd (cc)) t.does.2.plays (
       ap (λ (k : ℕ). k + 1) (sym so.count),
       record { text = t.text; bytes = t.taken; no_end = t.no_end; taken_is = refl; is_taken = t.does.0; why = t.does.2.why },
       omega arith,
     )
-closes seen a b c n budget (turn.Stops stop.Memory) below so t ne =
-    record_of seen a b c n budget (turn.Stops stop.Memory) so t status.Memory t.does.2.calls below t.does.1 t.stream_is (λ e. absurd (cc)) t.does.2.plays
+closes seen a b c n budget (line_outcome.Stops stop.Memory) below so t ne =
+    record_of seen a b c n budget (line_outcome.Stops stop.Memory) so t status.Memory t.does.2.calls below t.does.1 t.stream_is (λ e. absurd (cc)) t.does.2.plays
     (record { text = t.text; bytes = t.taken; no_end = t.no_end; taken_is = refl; is_taken = t.does.0; why = t.does.2.why })
-closes seen a b c n budget turn.ReadFault below so t ne =
-    record_of seen a b c n budget turn.ReadFault so t status.ReadFault [] below t.does.1.printed_is t.stream_is
-    (λ e. sent_before a.flow b.flow c.flow (spelled so.texts) so.printed t.taken so.moved so.reads
+closes seen a b c n budget line_outcome.ReadFault below so t ne =
+    record_of seen a b c n budget line_outcome.ReadFault so t status.ReadFault [] below t.does.1.printed_is t.stream_is
+    (λ e. sent_before a.flow b.flow c.flow (spelled_lines so.texts) so.printed t.taken so.moved so.reads
     (subst (λ (l : List ℕ). Moved t.taken l b.flow c.flow) t.does.1.printed_is t.moved) t.stream_is (t.written refl so.reads)) t.does.1.world
-    (refl, (t.text, (t.no_end, ap (λ (l : List ℕ). spelled so.texts ++ l) t.does.0)))
-closes seen a b c n budget turn.WriteFault below so t ne =
-    record_of seen a b c n budget turn.WriteFault so t status.WriteFault [] below t.does.1.printed_is t.stream_is (λ e. absurd (cc)) t.does.1.world
+    (refl, (t.text, (t.no_end, ap (λ (l : List ℕ). spelled_lines so.texts ++ l) t.does.0)))
+closes seen a b c n budget line_outcome.WriteFault below so t ne =
+    record_of seen a b c n budget line_outcome.WriteFault so t status.WriteFault [] below t.does.1.printed_is t.stream_is (λ e. absurd (cc)) t.does.1.world
     (refl, inl (t.taken, refl))
 
 -- all lines of the budget were done
@@ -221,7 +221,7 @@ closes_spent seen a b budget so = record {
   names = b.names;
   done = so.done;
   few = omega (arith, so.count);
-  taken = spelled so.texts;
+  taken = spelled_lines so.texts;
   moved = so.moved;
   stream_is = so.reads;
   written = λ e. absurd (cc);
@@ -268,15 +268,15 @@ put_fails o p x y puts reads failed = by_state y.state (put_reads o p x y [] put
 
 -- the output failed behind this end
 front_of : {D : Type 0} (before : Status) (budget : ℕ) (texts : List (List ℕ)) (taken : List ℕ) (cut : List Call) (w : WorldValue D) (t : Names)
-    (left : Option (List ℕ)) (waiting : List ℕ) → is_silent before ≡ false → Ends before budget texts taken cut w t left waiting →
-    (cut ≡ []) × IsFront texts taken left waiting
+    (left : Option (List ℕ)) (waiting : List ℕ) → is_silent before ≡ false → EndsScript before budget texts taken cut w t left waiting →
+    (cut ≡ []) × IsReadFront texts taken left waiting
 front_of status.Done budget texts taken cut w t left waiting on ends = (ends.2, inr (ends.0, ends.1))
 front_of (status.BadLine n) budget texts taken cut w t left waiting on ends = (ends.1.why.0, inl (ends.1.bytes, ends.1.taken_is))
 front_of (status.NotNext n) budget texts taken cut w t left waiting on ends = (ends.1.why.0, inl (ends.1.bytes, ends.1.taken_is))
 front_of status.Memory budget texts taken cut w t left waiting on ends = absurd (cc)
 front_of status.ReadFault budget texts taken cut w t left waiting on ends = (ends.0, inl (ends.1.0, ends.1.1.1))
 front_of status.WriteFault budget texts taken cut w t left waiting on ends = ends
-front_of status.Spent budget texts taken cut w t left waiting on ends = (ends.2, inl ([], ends.1 ∙ sym (append-nil (spelled texts))))
+front_of status.Spent budget texts taken cut w t left waiting on ends = (ends.2, inl ([], ends.1 ∙ sym (append-nil (spelled_lines texts))))
 front_of _ budget texts taken cut w t left waiting on ends = absurd ends
 
 module _ {D : Type 0} (seen : D → Seen) (a c : Scene D) (budget : ℕ) (before result : Status) (output : Side) (stream : Buffers)
@@ -291,7 +291,7 @@ module _ {D : Type 0} (seen : D → Seen) (a c : Scene D) (budget : ℕ) (before
       (moved_on a.flow c.flow last x.taken x.printed [] [] x.moved (f.puts.moved c.flow.input)))
 
   abbrev EndsAs : Status → List ℕ → Type 0
-  EndsAs s waiting = Ends s budget x.texts x.taken x.cut x.world x.names c.flow.input.bytes waiting
+  EndsAs s waiting = EndsScript s budget x.texts x.taken x.cut x.world x.names c.flow.input.bytes waiting
 
   failed_as : stream.state ≡ side_of result
   failed_as = elim f.how [
@@ -351,7 +351,7 @@ module _ {D : Type 0} (seen : D → Seen) (a c : Scene D) (budget : ℕ) (before
   }
 
 -- the text of a line and what the line did
-plays_done : {D : Type 0} (seen : D → Seen) (old : Desk D) (text : List ℕ) (l : Line) (lost : Bool) (played : Result LineTold Stop) (new : Desk D) → Reads text l →
+plays_done : {D : Type 0} (seen : D → Seen) (old : Desk D) (text : List ℕ) (l : Line) (lost : Bool) (played : Result LineTold Stop) (new : Desk D) → ReadsLine text l →
     PlaysLine seen old l lost played new → PlaysText seen old text (done_of played) new
 plays_done seen old text l lost (Ok told) new reads played =
     (played.calls, played.text, (record { line = l; lost = lost; reads = reads; is = played.is }, played.printed))
@@ -363,6 +363,6 @@ plays_done seen old text l lost (Err stop.Memory) new reads s =
     (record { calls = s.0; plays = s.1.1; why = (l, (reads, s.1.0)) }, s.1.2)
 
 pub plays_text_of : {D : Type 0} (seen : D → Seen) (old : Desk D) (text : List ℕ) (l : Line) (lost : Bool) (played : Result LineTold Stop) (result : Result Unit Stop)
-    (new : Desk D) → result ≡ done_of played → Reads text l → PlaysLine seen old l lost played new → PlaysText seen old text result new
+    (new : Desk D) → result ≡ done_of played → ReadsLine text l → PlaysLine seen old l lost played new → PlaysText seen old text result new
 plays_text_of seen old text l lost played result new is reads plays =
     subst (λ (r : Result Unit Stop). PlaysText seen old text r new) (sym is) (plays_done seen old text l lost played new reads plays)

@@ -15,9 +15,9 @@ use Rattle.qs_calls.specs.Calls.{Call, Plays}
 use Rattle.qs_calls.specs.Runs.{Begins, ComesBack}
 use Rattle.qs_replay_generated.specs.Generating.{CountsFault, Generates}
 use Rattle.qs_replay_words.proofs.FromLeft.{tells_one}
-use Rattle.qs_replay_words.specs.Words.{IsImageOf, Tells}
+use Rattle.qs_replay_words.specs.Words.{IsImageOf, TellsWords}
 use Rattle.qs_replay_words.specs.declared.words.ReplayWords.{ReplayWords}
-use Rattle.qs_replay.specs.Runs.{IsEnough, IsReplayed, Opening, Ran, RanBy, Runs, first_scene, most_lines, no_names}
+use Rattle.qs_replay.specs.Runs.{IsEnough, IsReplayed, Opening, Ran, RanBy, RunsScript, first_scene, most_lines, no_names}
 use Rattle.qs_replay.specs.Scripts.{AllDone, Replays, Scene, SoFar, side_of}
 use Rattle.qs_replay_lines.specs.Tables.{Names}
 use Rattle.qs_calls.proofs.Plays.{plays_more}
@@ -109,7 +109,7 @@ pub opening_ran : {D : Type 0} (seen : D → Seen) (disks disks' : List D) (left
 opening_ran seen disks disks' left sent left' sent' told status.Usage e opening = absurd opening
 opening_ran seen disks disks' left sent left' sent' told other e opening = (
   subst (λ (g : Option ℕ). IsEnough g told.blocks) (sym e) tt,
-  subst (λ (g : Option ℕ). Runs g told.align told.blocks seen disks left sent other disks' left' sent') (sym e) opening,
+  subst (λ (g : Option ℕ). RunsScript g told.align told.blocks seen disks left sent other disks' left' sent') (sym e) opening,
 )
 
 -- and a made-up run
@@ -119,7 +119,7 @@ pub generated_ran : {D : Type 0} (seen : D → Seen) (disks disks' : List D) (le
 generated_ran seen disks disks' left sent left' sent' told seed status.Usage e many generates same = absurd generates.ends
 generated_ran seen disks disks' left sent left' sent' told seed other e many generates same = (
   subst (λ (g : Option ℕ). IsEnough g told.blocks) (sym e) many,
-  subst (λ (g : Option ℕ). Runs g told.align told.blocks seen disks left sent other disks' left' sent') (sym e) (generates, same),
+  subst (λ (g : Option ℕ). RunsScript g told.align told.blocks seen disks left sent other disks' left' sent') (sym e) (generates, same),
 )
 
 -- there are too few blocks
@@ -132,7 +132,7 @@ few_ran seen disks left sent told seed e few = (
 
 -- words that tell this
 pub ran_of : {D : Type 0} (words : List (String Global)) (seen : D → Seen) (disks disks' : List D) (left sent left' sent' : Option (List ℕ)) (told : ReplayWords)
-    (result : Status) → Tells words told → RanBy told seen disks left sent result disks' left' sent' → Ran words seen disks left sent result disks' left' sent'
+    (result : Status) → TellsWords words told → RanBy told seen disks left sent result disks' left' sent' → Ran words seen disks left sent result disks' left' sent'
 ran_of words seen disks disks' left sent left' sent' told status.Usage tells ran = (
   λ are. ran.0 (subst (λ (t : ReplayWords). IsEnough t.generate t.blocks) (tells_one words are.0 told are.1.0 tells) are.1.1),
   ran.1,

@@ -2,7 +2,7 @@
 use Rattle.std.proofs.Common.{◌≡◌, ◌≢◌, ◌<◌, length, ℕ, List, [], ◌∷◌, ◌++◌, refl, sym, subst, ap, ◌∙◌, inl, inr, arith, append-nil}
 use Rattle.std.specs.Prelude.{Result, Ok, Err, IsErrAnd}
 use Rattle.qs_outside.specs.Blocks.{Seen}
-use Rattle.qs_script.specs.Cuts.{longest}
+use Rattle.qs_script.specs.Cuts.{longest_line}
 use Rattle.qs_script.specs.Finds.{HasNo}
 use Rattle.qs_stream.specs.declared.state.State.{State}
 use Rattle.qs_stream.specs.declared.state.State.TheVariants as state
@@ -14,9 +14,9 @@ use Rattle.qs_replay_lines.specs.declared.desk.Desk.{Desk}
 use Rattle.qs_replay.specs.declared.lines.Came.TheVariants as came
 use Rattle.qs_replay_lines.specs.declared.stop.Stop.{Stop}
 use Rattle.qs_replay_lines.specs.declared.stop.Stop.TheVariants as stop
-use Rattle.qs_replay.specs.declared.replay.Turn.{Turn}
-use Rattle.qs_replay.specs.declared.replay.Turn.TheVariants as turn
-use Rattle.qs_replay.specs.Readings.{IsUsedUp, Seeks}
+use Rattle.qs_replay.specs.declared.replay.LineOutcome.{LineOutcome}
+use Rattle.qs_replay.specs.declared.replay.LineOutcome.TheVariants as line_outcome
+use Rattle.qs_replay.specs.Readings.{IsReadUp, Seeks}
 use Rattle.qs_replay_lines.specs.Tables.{Names}
 use Rattle.qs_replay.specs.Scripts.{DoesText, IsTaken, PlaysText, PutsText, Turns, fault_turn}
 
@@ -63,7 +63,7 @@ module _ {D : Type 0} (seen : D → Seen) (before mid : Flow) (old new : Desk D)
   abbrev final : Flow
   final = record { input = mid.input; output = output; stream = stream }
 
-  abbrev Made : Turn → Type 0
+  abbrev Made : LineOutcome → Type 0
   Made how = Turns seen (record { flow = before; world = old.world; names = old.table }) how (record { flow = final; world = new.world; names = new.table })
 
   -- what was taken, and what was put
@@ -71,7 +71,7 @@ module _ {D : Type 0} (seen : D → Seen) (before mid : Flow) (old new : Desk D)
   both taken printed moved puts =
       subst (λ (l : List ℕ). Moved l printed before final) (append-nil taken) (moved_on before mid final taken [] [] printed moved (puts.moved mid.input))
 
-  pub turn_goes : {E : Type 0} → Seeks {E = E} before (Ok came.Line) text mid → PutsText seen old mid.output mid.stream text (Ok tt) new output stream → Made turn.Goes
+  pub turn_goes : {E : Type 0} → Seeks {E = E} before (Ok came.Line) text mid → PutsText seen old mid.output mid.stream text (Ok tt) new output stream → Made line_outcome.Goes
   turn_goes seeks puts = record {
     text = text;
     taken = seeks.taken;
@@ -84,7 +84,7 @@ module _ {D : Type 0} (seen : D → Seen) (before mid : Flow) (old new : Desk D)
     written = λ e. absurd (cc);
   }
 
-  pub turn_last : {E : Type 0} → Seeks {E = E} before (Ok came.Last) text mid → PutsText seen old mid.output mid.stream text (Ok tt) new output stream → Made turn.Last
+  pub turn_last : {E : Type 0} → Seeks {E = E} before (Ok came.Last) text mid → PutsText seen old mid.output mid.stream text (Ok tt) new output stream → Made line_outcome.Last
   turn_last seeks puts = record {
     text = text;
     taken = seeks.taken;
@@ -99,7 +99,7 @@ module _ {D : Type 0} (seen : D → Seen) (before mid : Flow) (old new : Desk D)
 
   -- a line wasn't done to its end
   stops_with : (s : Stop) (taken : List ℕ) → Moved taken [] before mid → mid.stream.state ≡ state.Open → HasNo 10 text →
-      IsTaken s taken text mid.input.bytes stream.waiting → PutsText seen old mid.output mid.stream text (Err s) new output stream → Made (turn.Stops s)
+      IsTaken s taken text mid.input.bytes stream.waiting → PutsText seen old mid.output mid.stream text (Err s) new output stream → Made (line_outcome.Stops s)
   stops_with s taken moved going no_end is leaves = record {
     text = text;
     taken = taken;
@@ -114,35 +114,35 @@ module _ {D : Type 0} (seen : D → Seen) (before mid : Flow) (old new : Desk D)
     written = λ e. absurd (cc);
   }
 
-  line_taken : (s : Stop) (taken : List ℕ) → length text < longest → taken ≡ text ++ 10 ∷ [] → IsTaken s taken text mid.input.bytes stream.waiting
+  line_taken : (s : Stop) (taken : List ℕ) → length text < longest_line → taken ≡ text ++ 10 ∷ [] → IsTaken s taken text mid.input.bytes stream.waiting
   line_taken stop.BadLine taken short is = inl (inl is)
   line_taken stop.NotNext taken short is = (inl is, short)
   line_taken stop.Memory taken short is = (inl is, short)
 
   pub turn_stops : {E : Type 0} (s : Stop) → Seeks {E = E} before (Ok came.Line) text mid → PutsText seen old mid.output mid.stream text (Err s) new output stream →
-      Made (turn.Stops s)
+      Made (line_outcome.Stops s)
   turn_stops s seeks leaves =
       stops_with s seeks.taken seeks.moved seeks.tells seeks.comes.1.no_end (line_taken s seeks.taken seeks.comes.1.short seeks.comes.0) leaves
 
-  last_taken : (s : Stop) (taken : List ℕ) → length text < longest → taken ≡ text → text ≢ [] → IsUsedUp mid.input.bytes stream.waiting →
+  last_taken : (s : Stop) (taken : List ℕ) → length text < longest_line → taken ≡ text → text ≢ [] → IsReadUp mid.input.bytes stream.waiting →
       IsTaken s taken text mid.input.bytes stream.waiting
   last_taken stop.BadLine taken short is some over = inl (inr (is, some, over))
   last_taken stop.NotNext taken short is some over = (inr (is, some, over), short)
   last_taken stop.Memory taken short is some over = (inr (is, some, over), short)
 
   pub turn_last_stops : {E : Type 0} (s : Stop) → Seeks {E = E} before (Ok came.Last) text mid → PutsText seen old mid.output mid.stream text (Err s) new output stream →
-      Made (turn.Stops s)
+      Made (line_outcome.Stops s)
   turn_last_stops s seeks leaves =
       stops_with s seeks.taken seeks.moved seeks.tells seeks.comes.1.no_end
       (last_taken s seeks.taken seeks.comes.1.short seeks.comes.0 seeks.comes.2
       (seeks.comes.3.0, ap (λ (b : Buffers). b.waiting) leaves.2 ∙ seeks.comes.3.1)) leaves
 
 module _ {D : Type 0} (seen : D → Seen) (before after : Flow) (w : WorldValue D) (t : Names) (text : List ℕ) where
-  abbrev Brought : Turn → Type 0
+  abbrev Brought : LineOutcome → Type 0
   Brought how = Turns seen (record { flow = before; world = w; names = t }) how (record { flow = after; world = w; names = t })
 
   -- the line was too long
-  pub turn_long : {E : Type 0} → Seeks {E = E} before (Ok came.TooLong) text after → Brought (turn.Stops stop.BadLine)
+  pub turn_long : {E : Type 0} → Seeks {E = E} before (Ok came.TooLong) text after → Brought (line_outcome.Stops stop.BadLine)
   turn_long seeks = record {
     text = text;
     taken = seeks.taken;
@@ -156,7 +156,7 @@ module _ {D : Type 0} (seen : D → Seen) (before after : Flow) (w : WorldValue 
   }
 
   -- there was no line more
-  pub turn_end : {E : Type 0} → Seeks {E = E} before (Ok came.End) text after → Brought turn.End
+  pub turn_end : {E : Type 0} → Seeks {E = E} before (Ok came.End) text after → Brought line_outcome.End
   turn_end seeks = record {
     text = [];
     taken = seeks.taken;
@@ -170,7 +170,7 @@ module _ {D : Type 0} (seen : D → Seen) (before after : Flow) (w : WorldValue 
   }
 
   -- the stream failed
-  pub turn_fault : {E : Type 0} (e : E) (how : Turn) → how ≡ fault_turn after.stream.state → Seeks {E = E} before (Err e) text after → Brought how
+  pub turn_fault : {E : Type 0} (e : E) (how : LineOutcome) → how ≡ fault_turn after.stream.state → Seeks {E = E} before (Err e) text after → Brought how
   turn_fault e how is seeks = subst Brought (sym is) (by_state after.stream.state refl)
     where
       by_state : (s : State) → after.stream.state ≡ s → Brought (fault_turn s)

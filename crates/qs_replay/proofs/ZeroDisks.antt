@@ -9,7 +9,7 @@ use Rattle.qs_outside.specs.Journal.{Journal, journal_seen}
 use Rattle.qs_image.specs.Image.{align_of, disk, size_of}
 use Rattle.qs_image.specs.Opening.{IsAlign}
 use Rattle.qs_replay_words.proofs.FromLeft.{tells_one}
-use Rattle.qs_replay_words.specs.Words.{Tells}
+use Rattle.qs_replay_words.specs.Words.{TellsWords}
 use Rattle.qs_replay_words.specs.declared.words.ReplayWords.{ReplayWords}
 use Rattle.qs_replay.specs.ZeroDisks.{AreDisksOf, AreFrom, AreZeroDisks, IsZeroDisk}
 
@@ -96,7 +96,7 @@ zero_image align blocks ds known few many are = record {
     small = rw size_same (small_by align known)
 
 -- the disks that the words name are of the block and size that the words tell
-pub named_disks : (words : List (String Global)) (disks : List Journal) → AreDisksOf words disks → (told : ReplayWords) → Tells words told →
+pub named_disks : (words : List (String Global)) (disks : List Journal) → AreDisksOf words disks → (told : ReplayWords) → TellsWords words told →
     (align_of (map journal_seen disks) ≡ told.align) × (size_of (map journal_seen disks) ≡ told.blocks * told.align)
 named_disks words disks (inl are) told tells =
     let same : are.0 ≡ told = tells_one words are.0 told are.1 tells in (

@@ -1,7 +1,7 @@
 -- Lines that are cut out of what a stream brings.
 use Rattle.std.specs.Prelude.{◌≡◌, ◌≢◌, ℕ, ◌<◌, List, [], ◌∷◌, ◌++◌, length, Option, IfNone, Result, Ok, Err}
 use Rattle.std.specs.Io.KnownBytes.{IsAtEnd}
-use Rattle.qs_script.specs.Cuts.{Cuts, longest}
+use Rattle.qs_script.specs.Cuts.{Cuts, longest_line}
 use Rattle.qs_script.specs.Finds.{HasNo}
 use Rattle.qs_script.specs.declared.cutter.Cut.{Cut}
 use Rattle.qs_script.specs.declared.cutter.Cut.TheVariants as cut
@@ -29,13 +29,13 @@ end_of [] = came.End
 end_of (x ∷ xs) = came.Last
 
 -- the input has no byte more
-abbrev pub IsUsedUp : Option (List ℕ) → List ℕ → Type 0
-IsUsedUp left waiting = IsAtEnd left × (waiting ≡ [])
+abbrev pub IsReadUp : Option (List ℕ) → List ℕ → Type 0
+IsReadUp left waiting = IsAtEnd left × (waiting ≡ [])
 
 -- the bytes of a line without its LF
 pub record IsText (text : List ℕ) : Type 0 where
   pub no_end : HasNo 10 text
-  pub short : length text < longest
+  pub short : length text < longest_line
 
 -- all that waited to be written, and all that was given, was sent
 abbrev pub AllSent : List ℕ → Flow → Flow → Type 0
@@ -43,17 +43,17 @@ AllSent given old new = Gives old.output.bytes old.stream.held given new.output.
 
 -- What was taken off the input: a line and its LF, the last line without one, nothing before the end, or
 -- too many bytes for a line. Where the stream failed, it was a front of a line.
-abbrev pub Comes : {E : Type 0} → List ℕ → Result Came E → List ℕ → Flow → Type 0
-Comes taken (Ok came.Line) text after = (taken ≡ text ++ 10 ∷ []) × IsText text
-Comes taken (Ok came.Last) text after = (taken ≡ text) × IsText text × (text ≢ []) × IsUsedUp after.input.bytes after.stream.waiting
-Comes taken (Ok came.End) text after = (taken ≡ []) × IsUsedUp after.input.bytes after.stream.waiting
-Comes taken (Ok came.TooLong) text after = (taken ≡ text) × HasNo 10 text × (length text ≡ longest)
-Comes taken (Err e) text after = IsText taken
+abbrev pub PieceComes : {E : Type 0} → List ℕ → Result Came E → List ℕ → Flow → Type 0
+PieceComes taken (Ok came.Line) text after = (taken ≡ text ++ 10 ∷ []) × IsText text
+PieceComes taken (Ok came.Last) text after = (taken ≡ text) × IsText text × (text ≢ []) × IsReadUp after.input.bytes after.stream.waiting
+PieceComes taken (Ok came.End) text after = (taken ≡ []) × IsReadUp after.input.bytes after.stream.waiting
+PieceComes taken (Ok came.TooLong) text after = (taken ≡ text) × HasNo 10 text × (length text ≡ longest_line)
+PieceComes taken (Err e) text after = IsText taken
 
 -- The next line was sought. Where the input failed meanwhile, all that waited had been written.
 pub record Seeks {E : Type 0} (before : Flow) (result : Result Came E) (text : List ℕ) (after : Flow) : Type 0 where
   pub taken : List ℕ
   pub moved : Moved taken [] before after
   pub tells : Tells result after.stream.state
-  pub comes : Comes taken result text after
+  pub comes : PieceComes taken result text after
   pub written : before.stream.state ≢ state.ReadFault → after.stream.state ≡ state.ReadFault → AllSent [] before after

@@ -15,7 +15,7 @@ use Rattle.qs_replay.specs.Scripts.{ReachesLine, Replays, Scene, lines_of}
 use Rattle.std.specs.FinMap.{empty as no_requests}
 use Rattle.std.specs.FinSet.{empty as no_cookies}
 use Rattle.qs_replay_lines.specs.Tables.{Names}
-use Rattle.qs_replay_words.specs.Words.{Tells}
+use Rattle.qs_replay_words.specs.Words.{TellsWords}
 
 abbrev pub no_names : Names
 no_names = record { sessions = []; used = no_cookies; live = no_requests }
@@ -58,7 +58,7 @@ IsEnough (Some seed) blocks = 8 ≤ blocks
 
 -- the words ask for a script's replay, or for a run that is made up over enough blocks
 abbrev pub AreWords : List (String Global) → Type 0
-AreWords words = (told : ReplayWords) × (Tells words told × IsEnough told.generate told.blocks)
+AreWords words = (told : ReplayWords) × (TellsWords words told × IsEnough told.generate told.blocks)
 
 -- The disks are tested, and the script is replayed over them; memory may be refused before.
 abbrev pub Opening : {D : Type 0} → (D → Seen) → List D → Option (List ℕ) → Option (List ℕ) → Status → List D → Option (List ℕ) → Option (List ℕ) → Type 0
@@ -69,22 +69,22 @@ Opening seen disks left sent status.Memory disks' left' sent' =
 Opening seen disks left sent other disks' left' sent' = IsReplayed seen disks left sent other disks' left' sent'
 
 -- A run was made up from this seed over the disks, and nothing was read; or there was none, and the script was replayed.
-abbrev pub Runs : {D : Type 0} → Option ℕ → ℕ → ℕ → (D → Seen) → List D → Option (List ℕ) → Option (List ℕ) → Status → List D →
+abbrev pub RunsScript : {D : Type 0} → Option ℕ → ℕ → ℕ → (D → Seen) → List D → Option (List ℕ) → Option (List ℕ) → Status → List D →
     Option (List ℕ) → Option (List ℕ) → Type 0
-Runs (Some seed) align blocks seen disks left sent result disks' left' sent' = Generates seen seed align blocks disks sent result disks' sent' × (left' ≡ left)
-Runs None align blocks seen disks left sent result disks' left' sent' = Opening seen disks left sent result disks' left' sent'
+RunsScript (Some seed) align blocks seen disks left sent result disks' left' sent' = Generates seen seed align blocks disks sent result disks' sent' × (left' ≡ left)
+RunsScript None align blocks seen disks left sent result disks' left' sent' = Opening seen disks left sent result disks' left' sent'
 
 -- what the words tell was done, or they ask for a run over too few blocks
 abbrev pub RanBy : {D : Type 0} → ReplayWords → (D → Seen) → List D → Option (List ℕ) → Option (List ℕ) → Status → List D →
     Option (List ℕ) → Option (List ℕ) → Type 0
 RanBy told seen disks left sent status.Usage disks' left' sent' = (IsEnough told.generate told.blocks → ⊥) × Untouched disks left sent disks' left' sent'
 RanBy told seen disks left sent other disks' left' sent' =
-    IsEnough told.generate told.blocks × Runs told.generate told.align told.blocks seen disks left sent other disks' left' sent'
+    IsEnough told.generate told.blocks × RunsScript told.generate told.align told.blocks seen disks left sent other disks' left' sent'
 
 -- One call of `run_replay`: the words are tested first, then the disks.
 abbrev pub Ran : {D : Type 0} → List (String Global) → (D → Seen) → List D → Option (List ℕ) → Option (List ℕ) → Status → List D →
     Option (List ℕ) → Option (List ℕ) → Type 0
 Ran words seen disks left sent status.Usage disks' left' sent' = (AreWords words → ⊥) × Untouched disks left sent disks' left' sent'
 Ran words seen disks left sent other disks' left' sent' =
-    (told : ReplayWords) × (Tells words told × IsEnough told.generate told.blocks ×
-    Runs told.generate told.align told.blocks seen disks left sent other disks' left' sent')
+    (told : ReplayWords) × (TellsWords words told × IsEnough told.generate told.blocks ×
+    RunsScript told.generate told.align told.blocks seen disks left sent other disks' left' sent')

@@ -3,9 +3,9 @@ use Rattle.std.specs.Prelude.{◌≡◌, ◌≢◌, ℕ, ◌+◌, ◌<◌, ◌�
 use Rattle.qs_outside.specs.Blocks.{Seen}
 use Rattle.qs_status.specs.declared.status.Status.{Status}
 use Rattle.qs_status.specs.declared.status.Status.TheVariants as status
-use Rattle.qs_script.specs.Cuts.{longest}
+use Rattle.qs_script.specs.Cuts.{longest_line}
 use Rattle.qs_script.specs.Finds.{HasNo}
-use Rattle.qs_script.specs.Lines.{Reads}
+use Rattle.qs_script.specs.Lines.{ReadsLine}
 use Rattle.qs_script.specs.declared.line.Line.{Line}
 use Rattle.qs_stream.specs.declared.state.State.{State}
 use Rattle.qs_stream.specs.declared.state.State.TheVariants as state
@@ -16,33 +16,33 @@ use Rattle.qs_replay_lines.specs.declared.desk.Desk.{Desk}
 use Rattle.qs_replay_lines.specs.declared.stop.Stop.{Stop}
 use Rattle.qs_replay_lines.specs.declared.told.LineTold.{LineTold}
 use Rattle.qs_replay_lines.specs.declared.stop.Stop.TheVariants as stop
-use Rattle.qs_replay.specs.declared.replay.Turn.{Turn}
-use Rattle.qs_replay.specs.declared.replay.Turn.TheVariants as turn
+use Rattle.qs_replay.specs.declared.replay.LineOutcome.{LineOutcome}
+use Rattle.qs_replay.specs.declared.replay.LineOutcome.TheVariants as line_outcome
 use Rattle.qs_calls.specs.Calls.{Call, Plays}
-use Rattle.qs_replay_lines.specs.Effects.{CannotCome, DrivesNotLive, IsCut, IsPlayed, UsesAgain}
-use Rattle.qs_replay.specs.Readings.{AllSent, IsText, IsUsedUp}
+use Rattle.qs_replay_lines.specs.Effects.{CannotCome, DrivesNotLive, IsCutLine, IsPlayed, UsesAgain}
+use Rattle.qs_replay.specs.Readings.{AllSent, IsText, IsReadUp}
 use Rattle.qs_replay_lines.specs.Tables.{Names}
 
 -- it is too long, or no line is spelled, or one that uses a cookie again
 abbrev pub IsBad : Names → List ℕ → Type 0
-IsBad t text = (longest ≤ length text) ⊎ ((l : Line) → Reads text l → ⊥) ⊎ ((l : Line) × (Reads text l × UsesAgain t l))
+IsBad t text = (longest_line ≤ length text) ⊎ ((l : Line) → ReadsLine text l → ⊥) ⊎ ((l : Line) × (ReadsLine text l × UsesAgain t l))
 
 -- its event can't come, or its actor is no request that was made
 abbrev pub IsUntimely : {D : Type 0} → WorldValue D → Names → List ℕ → Type 0
-IsUntimely w t text = (l : Line) × (Reads text l × (UsesAgain t l → ⊥) × (CannotCome w t l ⊎ DrivesNotLive t l))
+IsUntimely w t text = (l : Line) × (ReadsLine text l × (UsesAgain t l → ⊥) × (CannotCome w t l ⊎ DrivesNotLive t l))
 
 -- why a line wasn't done to its end, and the calls that it made
 abbrev pub Why : {D : Type 0} → WorldValue D → Names → List ℕ → Stop → List Call → Type 0
 Why w t text stop.BadLine calls = (calls ≡ []) × IsBad t text
 Why w t text stop.NotNext calls = (calls ≡ []) × IsUntimely w t text
-Why w t text stop.Memory calls = (l : Line) × (Reads text l × IsCut t l calls)
+Why w t text stop.Memory calls = (l : Line) × (ReadsLine text l × IsCutLine t l calls)
 
 -- The text of one line was done. Of a `write` the bytes are lost where memory was refused for them; then the request has none.
 pub record DoesText {D : Type 0} (seen : D → Seen) (w : WorldValue D) (t : Names) (text : List ℕ) (calls : List Call) (printed : List ℕ)
     (w' : WorldValue D) (t' : Names) : Type 0 where
   pub line : Line
   pub lost : Bool
-  pub reads : Reads text line
+  pub reads : ReadsLine text line
   pub is : IsPlayed seen w t line lost calls printed w' t'
 
 -- it wasn't done to its end; of it nothing was printed
@@ -99,9 +99,9 @@ AllDone seen w t (text ∷ texts) calls printed w' t' =
     DoesFirst seen w t text calls printed (λ mid names later more. AllDone seen mid names texts later more w' t')
 
 -- the texts, each with its LF
-abbrev pub spelled : List (List ℕ) → List ℕ
-spelled [] = []
-spelled (text ∷ texts) = text ++ 10 ∷ spelled texts
+abbrev pub spelled_lines : List (List ℕ) → List ℕ
+spelled_lines [] = []
+spelled_lines (text ∷ texts) = text ++ 10 ∷ spelled_lines texts
 
 -- What is seen of a replay: the stream with its two sides, the core, and what names stand for.
 pub record Scene (D : Type 0) : Type 0 where
@@ -125,41 +125,41 @@ pub record Idles {D : Type 0} (before : Scene D) (printed : List ℕ) (after : S
 
 -- a line's text was taken with its LF, or the last one, which isn't empty, without
 abbrev pub IsLine : List ℕ → List ℕ → Option (List ℕ) → List ℕ → Type 0
-IsLine taken text left waiting = (taken ≡ text ++ 10 ∷ []) ⊎ ((taken ≡ text) × (text ≢ []) × IsUsedUp left waiting)
+IsLine taken text left waiting = (taken ≡ text ++ 10 ∷ []) ⊎ ((taken ≡ text) × (text ≢ []) × IsReadUp left waiting)
 
 -- What was taken of a line that wasn't done: the line, or too many bytes.
 abbrev pub IsTaken : Stop → List ℕ → List ℕ → Option (List ℕ) → List ℕ → Type 0
-IsTaken stop.BadLine taken text left waiting = IsLine taken text left waiting ⊎ ((taken ≡ text) × (length text ≡ longest))
-IsTaken stop.NotNext taken text left waiting = IsLine taken text left waiting × (length text < longest)
-IsTaken stop.Memory taken text left waiting = IsLine taken text left waiting × (length text < longest)
+IsTaken stop.BadLine taken text left waiting = IsLine taken text left waiting ⊎ ((taken ≡ text) × (length text ≡ longest_line))
+IsTaken stop.NotNext taken text left waiting = IsLine taken text left waiting × (length text < longest_line)
+IsTaken stop.Memory taken text left waiting = IsLine taken text left waiting × (length text < longest_line)
 
-abbrev pub TurnDoes : {D : Type 0} → (D → Seen) → Scene D → Turn → List ℕ → List ℕ → List Call → List ℕ → Scene D → Type 0
-TurnDoes seen before turn.Goes text taken calls printed after =
+abbrev pub TurnDoes : {D : Type 0} → (D → Seen) → Scene D → LineOutcome → List ℕ → List ℕ → List Call → List ℕ → Scene D → Type 0
+TurnDoes seen before line_outcome.Goes text taken calls printed after =
     (taken ≡ text ++ 10 ∷ []) × IsText text × DoesText seen before.world before.names text calls printed after.world after.names
-TurnDoes seen before turn.Last text taken calls printed after =
-    (taken ≡ text) × IsText text × (text ≢ []) × IsUsedUp after.flow.input.bytes after.flow.stream.waiting ×
+TurnDoes seen before line_outcome.Last text taken calls printed after =
+    (taken ≡ text) × IsText text × (text ≢ []) × IsReadUp after.flow.input.bytes after.flow.stream.waiting ×
     DoesText seen before.world before.names text calls printed after.world after.names
-TurnDoes seen before turn.End text taken calls printed after =
-    (taken ≡ []) × IsUsedUp after.flow.input.bytes after.flow.stream.waiting × Idles before printed after
-TurnDoes seen before (turn.Stops s) text taken calls printed after =
+TurnDoes seen before line_outcome.End text taken calls printed after =
+    (taken ≡ []) × IsReadUp after.flow.input.bytes after.flow.stream.waiting × Idles before printed after
+TurnDoes seen before (line_outcome.Stops s) text taken calls printed after =
     IsTaken s taken text after.flow.input.bytes after.flow.stream.waiting × (printed ≡ []) × LeavesText seen before.world before.names text s after.world
 TurnDoes seen before other text taken calls printed after = (taken ≡ text) × Idles before printed after
 
 -- The stream behind a line: it goes on, or one of its sides failed; what a line printed may have failed to be written.
-abbrev pub StreamAfter : Turn → State → Type 0
-StreamAfter turn.ReadFault now = now ≡ state.ReadFault
-StreamAfter turn.WriteFault now = now ≡ state.WriteFault
-StreamAfter turn.Goes now = now ≢ state.ReadFault
-StreamAfter turn.Last now = now ≢ state.ReadFault
+abbrev pub StreamAfter : LineOutcome → State → Type 0
+StreamAfter line_outcome.ReadFault now = now ≡ state.ReadFault
+StreamAfter line_outcome.WriteFault now = now ≡ state.WriteFault
+StreamAfter line_outcome.Goes now = now ≢ state.ReadFault
+StreamAfter line_outcome.Last now = now ≢ state.ReadFault
 StreamAfter other now = now ≡ state.Open
 
 -- what a stream that failed makes of a line
-abbrev pub fault_turn : State → Turn
-fault_turn state.ReadFault = turn.ReadFault
-fault_turn other = turn.WriteFault
+abbrev pub fault_turn : State → LineOutcome
+fault_turn state.ReadFault = line_outcome.ReadFault
+fault_turn other = line_outcome.WriteFault
 
 -- One line was read, and what came of it. Where the input failed meanwhile, all that waited had been written.
-pub record Turns {D : Type 0} (seen : D → Seen) (before : Scene D) (r : Turn) (after : Scene D) : Type 0 where
+pub record Turns {D : Type 0} (seen : D → Seen) (before : Scene D) (r : LineOutcome) (after : Scene D) : Type 0 where
   pub text : List ℕ
   pub taken : List ℕ
   pub calls : List Call
@@ -168,7 +168,7 @@ pub record Turns {D : Type 0} (seen : D → Seen) (before : Scene D) (r : Turn) 
   pub moved : Moved taken printed before.flow after.flow
   pub does : TurnDoes seen before r text taken calls printed after
   pub stream_is : StreamAfter r after.flow.stream.state
-  pub written : r ≡ turn.ReadFault → before.flow.stream.state ≢ state.ReadFault → AllSent [] before.flow after.flow
+  pub written : r ≡ line_outcome.ReadFault → before.flow.stream.state ≢ state.ReadFault → AllSent [] before.flow after.flow
 
 -- so many lines were done
 pub record SoFar {D : Type 0} (seen : D → Seen) (before : Scene D) (n : ℕ) (after : Scene D) : Type 0 where
@@ -177,7 +177,7 @@ pub record SoFar {D : Type 0} (seen : D → Seen) (before : Scene D) (n : ℕ) (
   pub printed : List ℕ
   pub count : length texts ≡ n
   pub done : AllDone seen before.world before.names texts calls printed after.world after.names
-  pub moved : Moved (spelled texts) printed before.flow after.flow
+  pub moved : Moved (spelled_lines texts) printed before.flow after.flow
   pub reads : after.flow.stream.state ≢ state.ReadFault
 
 -- the side that failed, by the status of the run
@@ -206,20 +206,20 @@ pub record Finishes (output : Side) (old : Buffers) (before result : Status) (ou
       (((result ≡ before) × (new.state ≡ state.Open) × (new.held ≡ [])) ⊎ ((result ≡ status.WriteFault) × (new.state ≢ state.Open))))
 
 -- the status of a script that ends with this line
-abbrev pub status_of : Turn → ℕ → Status
-status_of turn.Goes n = status.Spent
-status_of turn.Last n = status.Done
-status_of turn.End n = status.Done
-status_of (turn.Stops stop.BadLine) n = status.BadLine n
-status_of (turn.Stops stop.NotNext) n = status.NotNext n
-status_of (turn.Stops stop.Memory) n = status.Memory
-status_of turn.ReadFault n = status.ReadFault
-status_of turn.WriteFault n = status.WriteFault
+abbrev pub status_of : LineOutcome → ℕ → Status
+status_of line_outcome.Goes n = status.Spent
+status_of line_outcome.Last n = status.Done
+status_of line_outcome.End n = status.Done
+status_of (line_outcome.Stops stop.BadLine) n = status.BadLine n
+status_of (line_outcome.Stops stop.NotNext) n = status.NotNext n
+status_of (line_outcome.Stops stop.Memory) n = status.Memory
+status_of line_outcome.ReadFault n = status.ReadFault
+status_of line_outcome.WriteFault n = status.WriteFault
 
 -- the texts of the lines, each with its LF, which a last one that isn't empty may lack
 abbrev pub IsScript : List ℕ → List (List ℕ) → Type 0
-IsScript taken texts = (taken ≡ spelled texts) ⊎
-    ((front : List (List ℕ)) × (text : List ℕ) × ((texts ≡ front ++ text ∷ []) × (text ≢ []) × (taken ≡ spelled front ++ text)))
+IsScript taken texts = (taken ≡ spelled_lines texts) ⊎
+    ((front : List (List ℕ)) × (text : List ℕ) × ((texts ≡ front ++ text ∷ []) × (text ≢ []) × (taken ≡ spelled_lines front ++ text)))
 
 -- the line behind the texts wasn't done to its end; its calls were these
 pub record BreaksOff {D : Type 0} (s : Stop) (texts : List (List ℕ)) (taken : List ℕ) (cut : List Call) (w : WorldValue D) (t : Names)
@@ -227,29 +227,29 @@ pub record BreaksOff {D : Type 0} (s : Stop) (texts : List (List ℕ)) (taken : 
   pub text : List ℕ
   pub bytes : List ℕ
   pub no_end : HasNo 10 text
-  pub taken_is : taken ≡ spelled texts ++ bytes
+  pub taken_is : taken ≡ spelled_lines texts ++ bytes
   pub is_taken : IsTaken s bytes text left waiting
   pub why : Why w t text s cut
 
 -- a front of a line was taken
 abbrev pub IsBegun : List (List ℕ) → List ℕ → Type 0
-IsBegun texts taken = (text : List ℕ) × (HasNo 10 text × (taken ≡ spelled texts ++ text))
+IsBegun texts taken = (text : List ℕ) × (HasNo 10 text × (taken ≡ spelled_lines texts ++ text))
 
 -- Where the output failed: the texts were taken, each with its LF, and perhaps bytes behind them; or the whole script was.
-abbrev pub IsFront : List (List ℕ) → List ℕ → Option (List ℕ) → List ℕ → Type 0
-IsFront texts taken left waiting = ((more : List ℕ) × (taken ≡ spelled texts ++ more)) ⊎ (IsScript taken texts × IsUsedUp left waiting)
+abbrev pub IsReadFront : List (List ℕ) → List ℕ → Option (List ℕ) → List ℕ → Type 0
+IsReadFront texts taken left waiting = ((more : List ℕ) × (taken ≡ spelled_lines texts ++ more)) ⊎ (IsScript taken texts × IsReadUp left waiting)
 
 -- How a script ends behind the texts of the lines that were done: what was taken, the calls of a line that was cut off, the names and the core
 -- before these, and the input. A script whose last line has its LF is done only within the budget.
-abbrev pub Ends : {D : Type 0} → Status → ℕ → List (List ℕ) → List ℕ → List Call → WorldValue D → Names → Option (List ℕ) → List ℕ → Type 0
-Ends status.Done budget texts taken cut w t left waiting = IsScript taken texts × IsUsedUp left waiting × (cut ≡ []) × (taken ≡ spelled texts → length texts < budget)
-Ends (status.BadLine n) budget texts taken cut w t left waiting = (n ≡ length texts + 1) × BreaksOff stop.BadLine texts taken cut w t left waiting × (n ≤ budget)
-Ends (status.NotNext n) budget texts taken cut w t left waiting = (n ≡ length texts + 1) × BreaksOff stop.NotNext texts taken cut w t left waiting × (n ≤ budget)
-Ends status.Memory budget texts taken cut w t left waiting = BreaksOff stop.Memory texts taken cut w t left waiting
-Ends status.ReadFault budget texts taken cut w t left waiting = (cut ≡ []) × IsBegun texts taken
-Ends status.WriteFault budget texts taken cut w t left waiting = (cut ≡ []) × IsFront texts taken left waiting
-Ends status.Spent budget texts taken cut w t left waiting = (length texts ≡ budget) × (taken ≡ spelled texts) × (cut ≡ [])
-Ends other budget texts taken cut w t left waiting = ⊥
+abbrev pub EndsScript : {D : Type 0} → Status → ℕ → List (List ℕ) → List ℕ → List Call → WorldValue D → Names → Option (List ℕ) → List ℕ → Type 0
+EndsScript status.Done budget texts taken cut w t left waiting = IsScript taken texts × IsReadUp left waiting × (cut ≡ []) × (taken ≡ spelled_lines texts → length texts < budget)
+EndsScript (status.BadLine n) budget texts taken cut w t left waiting = (n ≡ length texts + 1) × BreaksOff stop.BadLine texts taken cut w t left waiting × (n ≤ budget)
+EndsScript (status.NotNext n) budget texts taken cut w t left waiting = (n ≡ length texts + 1) × BreaksOff stop.NotNext texts taken cut w t left waiting × (n ≤ budget)
+EndsScript status.Memory budget texts taken cut w t left waiting = BreaksOff stop.Memory texts taken cut w t left waiting
+EndsScript status.ReadFault budget texts taken cut w t left waiting = (cut ≡ []) × IsBegun texts taken
+EndsScript status.WriteFault budget texts taken cut w t left waiting = (cut ≡ []) × IsReadFront texts taken left waiting
+EndsScript status.Spent budget texts taken cut w t left waiting = (length texts ≡ budget) × (taken ≡ spelled_lines texts) × (cut ≡ [])
+EndsScript other budget texts taken cut w t left waiting = ⊥
 
 -- A script was replayed: its lines were done in order up to its end, and what they print was written, a front
 -- of it where the output failed or memory was refused. A side of the stream failed exactly where the status says so.
@@ -267,7 +267,7 @@ pub record Replays {D : Type 0} (seen : D → Seen) (before : Scene D) (budget :
   pub whole : is_whole result ≡ true → AllSent printed before.flow after.flow
   pub cut : List Call
   pub cut_plays : Plays seen world cut after.world
-  pub ends : Ends result budget texts taken cut world names after.flow.input.bytes after.flow.stream.waiting
+  pub ends : EndsScript result budget texts taken cut world names after.flow.input.bytes after.flow.stream.waiting
 
 -- The lines of a script: each ends in LF, which the last may lack where it isn't empty.
 abbrev pub lines_from : List ℕ → List ℕ → List (List ℕ)

@@ -7,7 +7,7 @@ use Rattle.qs_outside.specs.Journal.{Journal, journal_seen}
 use Rattle.qs_outside.specs.Rigged.{no_plans}
 use Rattle.qs_image.specs.Image.{AllTell, align_of, block_now, disk, size_of}
 use Rattle.qs_image.specs.Opening.{IsImage}
-use Rattle.qs_replay_words.specs.Words.{Tells}
+use Rattle.qs_replay_words.specs.Words.{TellsWords}
 use Rattle.qs_replay_words.specs.declared.words.ReplayWords.{ReplayWords}
 
 -- how many stores each disk keeps
@@ -40,5 +40,5 @@ pub record AreZeroDisks (align size : ℕ) (disks : List Journal) : Type 0 where
 -- The disks that the words of the command name, or none where they aren't of its form.
 abbrev pub AreDisksOf : List (String Global) → List Journal → Type 0
 AreDisksOf words disks =
-    ((told : ReplayWords) × Tells words told × AreZeroDisks told.align (told.blocks * told.align) disks) ⊎
-    (((told : ReplayWords) → Tells words told → ⊥) × (disks ≡ []))
+    ((told : ReplayWords) × TellsWords words told × AreZeroDisks told.align (told.blocks * told.align) disks) ⊎
+    (((told : ReplayWords) → TellsWords words told → ⊥) × (disks ≡ []))

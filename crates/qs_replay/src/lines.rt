@@ -1,5 +1,5 @@
 ghost use Rattle.std.specs.Prelude.{◌≡◌, ◌<◌, [], length};
-ghost use Rattle.qs_script.specs.Cuts.{longest};
+ghost use Rattle.qs_script.specs.Cuts.{longest_line};
 ghost use Rattle.qs_stream.specs.declared.state.State.TheVariants.{Open, ReadFault};
 ghost use Rattle.qs_stream.specs.Flows.{Fills, flow};
 ghost use Rattle.qs_replay.specs.Readings.{AllSent, Feeds, Seeks, came_of as the_came, end_of};
@@ -43,7 +43,7 @@ fn ending(cutter: &LineCutter) -> Came
 
 /// Takes what waits into the line, up to its end.
 fn feed(cutter: &mut LineCutter, stream: &mut Stream) -> Option<Cut>
-    requires { length cutter.old < longest }
+    requires { length cutter.old < longest_line }
     ensures feeds { Feeds cutter.old stream.old.waiting result cutter.new stream.new.waiting }
     ensures others { stream.new ≡ record stream.old { waiting = stream.new.waiting } }
 {

@@ -1,5 +1,5 @@
 ghost use Rattle.std.specs.Prelude.{◌≡◌, ◌<◌, ◌-◌, ◌^◌, [], List, ℕ};
-ghost use Rattle.qs_script.specs.Lines.{IsLineFault, Reads};
+ghost use Rattle.qs_script.specs.Lines.{IsLineFault, ReadsLine};
 ghost use Rattle.qs_stream.specs.declared.state.State.TheVariants.{Open};
 ghost use Rattle.qs_stream.specs.Flows.{Puts, side};
 ghost use Rattle.qs_replay.specs.Scripts.{Finishes, PlaysText, PutsText, Replays, Turns, done_of, fault_turn, is_silent as the_silent, scene, status_of};
@@ -16,7 +16,7 @@ use std::mem;
 
 /// What came of one line of a script.
 #[derive(Clone, Copy, Debug, PartialEq, Eq)]
-pub enum Turn {
+pub enum LineOutcome {
     /// It was done.
     Goes,
     /// The last line, which has no end, was done.
@@ -41,7 +41,7 @@ fn done(played: Result<LineTold, Stop>) -> Result<(), Stop>
 
 /// A text that isn't read as a line: it spells none, or a WRITE or a crash for which memory was refused.
 fn play_fault<D: RiggedDisk + Drop>(desk: &mut Desk<D>, fault: &LineFault) -> Result<(), Stop>
-    ensures { (text : List ℕ) → IsLineFault (Reads text) fault.now → PlaysText D.Disk.seen desk.old text result desk.new }
+    ensures { (text : List ℕ) → IsLineFault (ReadsLine text) fault.now → PlaysText D.Disk.seen desk.old text result desk.new }
 {
     match fault {
         LineFault::OutOfForm => Err(Stop::BadLine),
@@ -102,12 +102,12 @@ fn do_line<O: Sink, D: RiggedDisk + Drop>(
 }
 
 /// What a stream that failed makes of a line.
-fn fault(stream: &Stream) -> Turn
+fn fault(stream: &Stream) -> LineOutcome
     ensures { result ≡ fault_turn stream.now.state }
 {
     match stream.state() {
-        State::ReadFault => Turn::ReadFault,
-        _ => Turn::WriteFault,
+        State::ReadFault => LineOutcome::ReadFault,
+        _ => LineOutcome::WriteFault,
     }
 }
 
@@ -119,7 +119,7 @@ fn take_turn<I: Source, O: Sink, D: RiggedDisk + Drop>(
     stream: &mut Stream,
     input: &mut I,
     output: &mut O,
-) -> Turn
+) -> LineOutcome
     requires { desk.old.out ≡ [] }
     ensures turns { Turns D.Disk.seen
         (scene I.left I.read_faults O.sent O.write_faults input.old output.old stream.old desk.old.world desk.old.table)
@@ -129,15 +129,15 @@ fn take_turn<I: Source, O: Sink, D: RiggedDisk + Drop>(
 {
     match next_line(cutter, stream, input, output) {
         Ok(Came::Line) => match do_line(desk, stream, output, cutter.line()) {
-            Ok(()) => Turn::Goes,
-            Err(stop) => Turn::Stops(stop),
+            Ok(()) => LineOutcome::Goes,
+            Err(stop) => LineOutcome::Stops(stop),
         },
         Ok(Came::Last) => match do_line(desk, stream, output, cutter.line()) {
-            Ok(()) => Turn::Last,
-            Err(stop) => Turn::Stops(stop),
+            Ok(()) => LineOutcome::Last,
+            Err(stop) => LineOutcome::Stops(stop),
         },
-        Ok(Came::End) => Turn::End,
-        Ok(Came::TooLong) => Turn::Stops(Stop::BadLine),
+        Ok(Came::End) => LineOutcome::End,
+        Ok(Came::TooLong) => LineOutcome::Stops(Stop::BadLine),
         Err(_) => fault(stream),
     }
 }
@@ -166,17 +166,17 @@ fn finish<O: Sink>(stream: &mut Stream, output: &mut O, status: Status) -> Statu
 }
 
 /// The status of a script that ends with this line, by its number from 1.
-fn ending(last: Turn, line: u64) -> Status
+fn ending(last: LineOutcome, line: u64) -> Status
     ensures { result ≡ status_of last line }
 {
     match last {
-        Turn::Goes => Status::Spent,
-        Turn::Last | Turn::End => Status::Done,
-        Turn::Stops(Stop::BadLine) => Status::BadLine(line),
-        Turn::Stops(Stop::NotNext) => Status::NotNext(line),
-        Turn::Stops(Stop::Memory) => Status::Memory,
-        Turn::ReadFault => Status::ReadFault,
-        Turn::WriteFault => Status::WriteFault,
+        LineOutcome::Goes => Status::Spent,
+        LineOutcome::Last | LineOutcome::End => Status::Done,
+        LineOutcome::Stops(Stop::BadLine) => Status::BadLine(line),
+        LineOutcome::Stops(Stop::NotNext) => Status::NotNext(line),
+        LineOutcome::Stops(Stop::Memory) => Status::Memory,
+        LineOutcome::ReadFault => Status::ReadFault,
+        LineOutcome::WriteFault => Status::WriteFault,
     }
 }
 
@@ -199,7 +199,7 @@ pub fn replay<I: Source, O: Sink, D: RiggedDisk + Drop>(
 {
     for n in 0..budget {
         match take_turn(desk, cutter, stream, input, output) {
-            Turn::Goes => {}
+            LineOutcome::Goes => {}
             other => return finish(stream, output, ending(other, n + 1)),
         }
     }

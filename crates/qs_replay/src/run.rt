@@ -2,7 +2,7 @@ ghost use Rattle.std.specs.Prelude.{◌≡◌, ◌≢◌, ◌*◌, map, None};
 ghost use Rattle.qs_image.specs.Image.{align_of, size_of};
 ghost use Rattle.qs_image.specs.Opening.{IsImage};
 ghost use Rattle.qs_stream.specs.Flows.{Rises};
-ghost use Rattle.qs_replay_words.specs.Words.{IsImageOf, Tells};
+ghost use Rattle.qs_replay_words.specs.Words.{IsImageOf, TellsWords};
 ghost use Rattle.qs_replay_words.specs.declared.words.ReplayWords.{ReplayWords as Told};
 ghost use Rattle.qs_replay.specs.Runs.{Opening, Ran, RanBy};
 ghost use Rattle.qs_replay.specs.Scripts.{side_of};
@@ -114,7 +114,7 @@ pub fn run_replay<I: Source, O: Sink, D: RiggedDisk + Drop>(
     output: &mut O,
     disks: &mut Vec<D>,
 ) -> Status
-    requires { (told : Told) → Tells words.now told → told.generate ≢ None → IsImage (map D.Disk.seen disks.old.items) →
+    requires { (told : Told) → TellsWords words.now told → told.generate ≢ None → IsImage (map D.Disk.seen disks.old.items) →
         (align_of (map D.Disk.seen disks.old.items) ≡ told.align) × (size_of (map D.Disk.seen disks.old.items) ≡ told.blocks * told.align) }
     ensures ran { Ran words.now D.Disk.seen disks.old.items (I.left input.old) (O.sent output.old) result disks.new.items (I.left input.new) (O.sent output.new) }
     // A fault is told only where its count rose, and every other end leaves the count.

@@ -4,9 +4,9 @@ use Rattle.std.specs.Prelude.{Option, Some, None, IfSome, Result, Ok, Err}
 use Rattle.std.specs.Result.{IsErrAnd}
 use Rattle.qs_outside.specs.Blocks.{Seen}
 use Rattle.qs_calls.specs.Calls.{Call}
-use Rattle.qs_generate.specs.Generated.{ComesIf, Made, Makes, made}
+use Rattle.qs_generate.specs.Generated.{ComesIf, Made, Makes, made_next}
 use Rattle.qs_generate.specs.Lives.{Generated}
-use Rattle.qs_generate.specs.Rounds.{Comes}
+use Rattle.qs_generate.specs.Rounds.{LineComes}
 use Rattle.qs_generate.specs.declared.live.LiveRequest.{LiveRequest}
 use Rattle.qs_script.specs.declared.line.Line.{Line}
 use Rattle.qs_script.specs.declared.line.LineFault.{LineFault}
@@ -35,7 +35,7 @@ lines_more seen a b c (l ∷ lines) calls done one = (done.0, (done.1.0, lines_m
 pub so_far_none : {D : Type 0} (seen : D → Seen) (a : Place D) → SoFar seen a a (record { errors = 0; steps = 0; lines = 0 })
 so_far_none seen a = record {
   lines = [];
-  made = refl;
+  made_next = refl;
   errors = refl;
   steps = refl;
   count = refl;
@@ -47,7 +47,7 @@ so_far_more seen a b c old new calls so one counted =
     let whole = calls_more so.lines calls in
     record {
       lines = so.lines ++ calls ∷ [];
-      made = lines_more seen a b c so.lines calls so.made one;
+      made_next = lines_more seen a b c so.lines calls so.made one;
       errors = one_line_more _ (errors_in (calls_of so.lines)) (errors_in calls) old.errors new.errors so.errors counted.errors
           (ap errors_in whole ∙ errors_more (calls_of so.lines) calls);
       steps = one_line_more _ (steps_in (calls_of so.lines)) (steps_in calls) old.steps new.steps so.steps counted.steps
@@ -59,9 +59,9 @@ so_far_more seen a b c old new calls so one counted =
 pub record Next (m : Made) (result : Result Line LineFault) : Type 0 where
   pub line : Line
   pub is : m.0 ≡ Some line
-  pub comes : Comes line result
+  pub comes : LineComes line result
 
-next_of : (o : Option Line) (result : Result Line LineFault) → ComesIf o (Some result) → (l : Line) × ((o ≡ Some l) × Comes l result)
+next_of : (o : Option Line) (result : Result Line LineFault) → ComesIf o (Some result) → (l : Line) × ((o ≡ Some l) × LineComes l result)
 next_of None result comes = absurd (cc)
 next_of (Some l) result comes = (l, (refl, comes))
 
@@ -79,8 +79,8 @@ ended None comes = refl
 ended (Some l) comes = absurd comes
 
 -- what comes, by the same live requests
-pub by_live : (g new : Generated) (live same : List LiveRequest) (r : Option (Result Line LineFault)) → live ≡ same → Makes (made g live) r new → Makes (made g same) r new
-by_live g new live same r is makes = subst (λ (l : List LiveRequest). Makes (made g l) r new) is makes
+pub by_live : (g new : Generated) (live same : List LiveRequest) (r : Option (Result Line LineFault)) → live ≡ same → Makes (made_next g live) r new → Makes (made_next g same) r new
+by_live g new live same r is makes = subst (λ (l : List LiveRequest). Makes (made_next g l) r new) is makes
 
 -- a run that ended sooner
 pub breaks : {D : Type 0} (seen : D → Seen) (a mid b : Place D) (before counts : Counts) (s : Stop) (r : Result Unit Stop) → IsErrAnd r (λ e. e ≡ s) →

@@ -15,7 +15,7 @@ use Rattle.qs_world.proofs.SameDisks.{same_disks}
 use Rattle.qs_calls.specs.Calls.{Call, Happened, Rigged, PowerFailed, ExportMade, Plays}
 use Rattle.qs_calls.specs.Goings.{GoesOn, RunsOut}
 use Rattle.qs_calls.specs.Runs.{Begins}
-use Rattle.qs_replay_lines.specs.Effects.{Does}
+use Rattle.qs_replay_lines.specs.Effects.{DoesLine}
 use Rattle.qs_replay_lines.specs.Tables.{Names}
 use Rattle.qs_replay_generated.specs.Making.{LinesMade, MakesLine, Place}
 use Rattle.qs_replay_generated.proofs.Lines.{IsOfRun, of_run}
@@ -36,7 +36,7 @@ out_unplanned : (made : Event) (calls : List Call) (last_one : Outcome) → Runs
 out_unplanned made calls last_one out = subst AreUnplanned (sym out.whole) (run_unplanned made out.front last_one out.on)
 
 -- so are those of a line
-line_unplanned : (t t' : Names) (l : Line) (lost : Bool) (calls : List Call) (text : List ℕ) → IsOfRun l → Does t l lost calls text t' → AreUnplanned calls
+line_unplanned : (t t' : Names) (l : Line) (lost : Bool) (calls : List Call) (text : List ℕ) → IsOfRun l → DoesLine t l lost calls text t' → AreUnplanned calls
 line_unplanned t t' (line.Session s e) lost calls text is does = subst AreUnplanned (sym does.calls_are) tt
 line_unplanned t t' (line.Write s c offset bytes fua) lost calls text is does = subst AreUnplanned (sym does.calls_are) tt
 line_unplanned t t' (line.Read s c offset long) lost calls text is does = subst AreUnplanned (sym does.calls_are) tt

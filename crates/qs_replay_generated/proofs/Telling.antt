@@ -25,8 +25,8 @@ use Rattle.qs_replay_lines.specs.declared.stop.Stop.TheVariants as stop
 use Rattle.qs_generate.specs.Lives.{Generated}
 use Rattle.qs_generate.specs.Sums.{totals_line}
 use Rattle.qs_generate.specs.declared.live.LiveRequest.{LiveRequest}
-use Rattle.qs_generate.specs.declared.live.Turn.TheVariants.{Attach}
-use Rattle.qs_replay_generated.specs.Generating.{BreaksOff, CountsFault, Ends, EndsWhole, Generates, IsGenerated, IsWhole, Prints, RunsCore, TellsTotals, first_place, no_names, status_of, totals}
+use Rattle.qs_generate.specs.declared.live.NextMove.TheVariants.{Attach}
+use Rattle.qs_replay_generated.specs.Generating.{BreaksOff, CountsFault, EndsGenerating, EndsWhole, Generates, IsGenerated, IsWhole, Prints, RunsCore, TellsTotals, first_place, no_names, status_of, totals}
 use Rattle.qs_replay_generated.specs.Making.{BreaksAt, LinesMade, Place, RunMade, SoFar, calls_of}
 use Rattle.qs_replay_generated.specs.Summing.{SumsUp}
 use Rattle.qs_replay_generated.specs.declared.counts.Counts.{Counts}
@@ -154,7 +154,7 @@ all_plays {D} seen disks start w a here counts cut so is begins plays =
 
 ends_whole : {D : Type 0} (seen : D → Seen) (align blocks : ℕ) (here : Place D) (counts : Counts) (cut : List Call) (w : WorldValue D) (sent : Option (List ℕ))
     (result : Status) (disks' : List D) (sent' : Option (List ℕ)) → EndsWhole seen align blocks here counts cut w sent result disks' sent' →
-    Ends seen align blocks here counts cut w sent result disks' sent'
+    EndsGenerating seen align blocks here counts cut w sent result disks' sent'
 ends_whole seen align blocks here counts cut w sent status.Done disks' sent' is = is
 ends_whole seen align blocks here counts cut w sent status.WriteFault disks' sent' is = is
 ends_whole seen align blocks here counts cut w sent status.Memory disks' sent' is = inl is
@@ -162,7 +162,7 @@ ends_whole seen align blocks here counts cut w sent _ disks' sent' is = absurd i
 
 ends_sooner : {D : Type 0} (seen : D → Seen) (align blocks : ℕ) (here : Place D) (counts : Counts) (cut : List Call) (w : WorldValue D) (sent : Option (List ℕ))
     (s : Stop) (disks' : List D) (sent' : Option (List ℕ)) → BreaksOff seen here s cut w sent disks' sent' →
-    Ends seen align blocks here counts cut w sent (status_of s counts.lines) disks' sent'
+    EndsGenerating seen align blocks here counts cut w sent (status_of s counts.lines) disks' sent'
 ends_sooner seen align blocks here counts cut w sent stop.BadLine disks' sent' breaks = (refl, breaks)
 ends_sooner seen align blocks here counts cut w sent stop.NotNext disks' sent' breaks = (refl, breaks)
 ends_sooner seen align blocks here counts cut w sent stop.Memory disks' sent' breaks = inr breaks
@@ -209,7 +209,7 @@ ended_sooner {D} seen seed align blocks disks start w counts left sent result ma
       so_far = so;
       cut = breaks.cut;
       after_all = w;
-      ends = subst (λ (r : Status). Ends seen align blocks mid counts breaks.cut w sent r left sent) (sym result_is)
+      ends = subst (λ (r : Status). EndsGenerating seen align blocks mid counts breaks.cut w sent r left sent) (sym result_is)
           (ends_sooner seen align blocks mid counts breaks.cut w sent s left sent
           (record { breaks = breaks; cut_is = refl; disks_are = left_are; nothing = refl }));
       run = all_plays seen disks start w (first_place seed (blocks * align) start) mid counts breaks.cut so refl begins breaks.plays;

@@ -8,9 +8,9 @@ use Rattle.qs_status.specs.declared.status.Status.TheVariants as status
 use Rattle.qs_outside.specs.Blocks.{Seen}
 use Rattle.qs_outside.specs.Faults.{Rose}
 use Rattle.qs_image.specs.Opening.{Opens}
-use Rattle.qs_generate.specs.Generated.{made}
+use Rattle.qs_generate.specs.Generated.{made_next}
 use Rattle.qs_generate.specs.Sums.{totals_line}
-use Rattle.qs_generate.specs.declared.live.Turn.TheVariants.{Attach}
+use Rattle.qs_generate.specs.declared.live.NextMove.TheVariants.{Attach}
 use Rattle.qs_generate.specs.declared.totals.RunTotals.{RunTotals}
 use Rattle.qs_stream.specs.Faults.{Stays}
 use Rattle.qs_world.specs.Values.{WorldValue}
@@ -54,7 +54,7 @@ TellsTotals seen align blocks counts disks sent result disks' sent' =
 
 -- all rounds were done
 pub record IsWhole {D : Type 0} (here : Place D) (cut : List Call) (w : WorldValue D) : Type 0 where
-  pub no_more : (made here.run here.live).0 ≡ None
+  pub no_more : (made_next here.run here.live).0 ≡ None
   pub cut_is : cut ≡ []
   pub world_is : w ≡ here.world
 
@@ -72,16 +72,16 @@ EndsWhole seen align blocks here counts cut w sent result disks' sent' =
     IsWhole here cut w × TellsTotals seen align blocks counts (map (λ s. s.disk) w.stripes) sent result disks' sent'
 
 -- How a run ends, behind the lines that were done. A line that can't come is told by its number from 1, modulo 2^64.
-abbrev pub Ends : {D : Type 0} → (D → Seen) → ℕ → ℕ → Place D → Counts → List Call → WorldValue D → Option (List ℕ) → Status → List D → Option (List ℕ) → Type 0
-Ends seen align blocks here counts cut w sent status.Done disks' sent' = EndsWhole seen align blocks here counts cut w sent status.Done disks' sent'
-Ends seen align blocks here counts cut w sent status.WriteFault disks' sent' = EndsWhole seen align blocks here counts cut w sent status.WriteFault disks' sent'
-Ends seen align blocks here counts cut w sent status.Memory disks' sent' =
+abbrev pub EndsGenerating : {D : Type 0} → (D → Seen) → ℕ → ℕ → Place D → Counts → List Call → WorldValue D → Option (List ℕ) → Status → List D → Option (List ℕ) → Type 0
+EndsGenerating seen align blocks here counts cut w sent status.Done disks' sent' = EndsWhole seen align blocks here counts cut w sent status.Done disks' sent'
+EndsGenerating seen align blocks here counts cut w sent status.WriteFault disks' sent' = EndsWhole seen align blocks here counts cut w sent status.WriteFault disks' sent'
+EndsGenerating seen align blocks here counts cut w sent status.Memory disks' sent' =
     EndsWhole seen align blocks here counts cut w sent status.Memory disks' sent' ⊎ BreaksOff seen here stop.Memory cut w sent disks' sent'
-Ends seen align blocks here counts cut w sent (status.BadLine n) disks' sent' =
+EndsGenerating seen align blocks here counts cut w sent (status.BadLine n) disks' sent' =
     (n ≡ (counts.lines + 1) % 2 ^ 64) × BreaksOff seen here stop.BadLine cut w sent disks' sent'
-Ends seen align blocks here counts cut w sent (status.NotNext n) disks' sent' =
+EndsGenerating seen align blocks here counts cut w sent (status.NotNext n) disks' sent' =
     (n ≡ (counts.lines + 1) % 2 ^ 64) × BreaksOff seen here stop.NotNext cut w sent disks' sent'
-Ends seen align blocks here counts cut w sent other disks' sent' = ⊥
+EndsGenerating seen align blocks here counts cut w sent other disks' sent' = ⊥
 
 -- A run was made up from a seed over the disks: its lines were done in order, up to its end, and what they came to is told in one line.
 -- All calls, also of a line that was cut off, are a run from the opening, with all laws.
@@ -94,7 +94,7 @@ pub record IsGenerated {D : Type 0} (seen : D → Seen) (seed align blocks : ℕ
   pub so_far : SoFar seen (first_place seed (blocks * align) start) here counts
   pub cut : List Call
   pub after_all : WorldValue D
-  pub ends : Ends seen align blocks here counts cut after_all sent result disks' sent'
+  pub ends : EndsGenerating seen align blocks here counts cut after_all sent result disks' sent'
   pub run : HasRun seen (map seen disks) false start (calls_of so_far.lines ++ cut) after_all
 
 -- The disks are tested, and the run is made over them; memory may be refused before.

@@ -3,13 +3,13 @@ use Rattle.std.specs.Prelude.{◌≡◌, ℕ, ◌+◌, ◌%◌, ◌^◌, ◌⊎�
 use Rattle.qs_outside.specs.Blocks.{Seen}
 use Rattle.qs_script.specs.declared.line.Line.{Line}
 use Rattle.qs_script.specs.declared.line.LineFault.{LineFault}
-use Rattle.qs_generate.specs.Generated.{made}
+use Rattle.qs_generate.specs.Generated.{made_next}
 use Rattle.qs_generate.specs.Lives.{Generated}
-use Rattle.qs_generate.specs.Rounds.{Comes}
+use Rattle.qs_generate.specs.Rounds.{LineComes}
 use Rattle.qs_generate.specs.declared.live.LiveRequest.{LiveRequest}
 use Rattle.qs_world.specs.Values.{WorldValue}
 use Rattle.qs_calls.specs.Calls.{Call, Plays}
-use Rattle.qs_replay_lines.specs.Effects.{CannotCome, Does, DrivesNotLive, IsCut, IsPlanned, IsPlayed, PlaysLine, UsesAgain}
+use Rattle.qs_replay_lines.specs.Effects.{CannotCome, DoesLine, DrivesNotLive, IsCutLine, IsPlanned, IsPlayed, PlaysLine, UsesAgain}
 use Rattle.qs_replay_lines.specs.Numbers.{answers_in, errors_in, steps_in}
 use Rattle.qs_replay_lines.specs.Tables.{Names}
 use Rattle.qs_replay_lines.specs.declared.desk.Desk.{Desk}
@@ -32,11 +32,11 @@ place run live desk = record { run = run; live = live; world = desk.world; names
 -- the next line was done, with these calls
 pub record MakesLine {D : Type 0} (seen : D → Seen) (a : Place D) (calls : List Call) (b : Place D) : Type 0 where
   pub line : Line
-  pub is_next : (made a.run a.live).0 ≡ Some line
+  pub is_next : (made_next a.run a.live).0 ≡ Some line
   pub lost : Bool
   pub text : List ℕ
   pub is : IsPlayed seen a.world a.names line lost calls text b.world b.names
-  pub run_is : b.run ≡ (made a.run a.live).1
+  pub run_is : b.run ≡ (made_next a.run a.live).1
   pub live_is : b.live ≡ lives_after a.live (change_by line) (answers_in calls)
 
 -- lines were done one after the other, each with its calls
@@ -54,19 +54,19 @@ pub record Counted (old : Counts) (calls : List Call) (new : Counts) : Type 0 wh
 abbrev pub WhyNot : {D : Type 0} → WorldValue D → Names → Line → Stop → List Call → Type 0
 WhyNot w t l stop.BadLine cut = (cut ≡ []) × UsesAgain t l
 WhyNot w t l stop.NotNext cut = (cut ≡ []) × (CannotCome w t l ⊎ DrivesNotLive t l)
-WhyNot w t l stop.Memory cut = IsCut t l cut ⊎ ((lost : Bool) × (text : List ℕ) × (t' : Names) × Does t l lost cut text t')
+WhyNot w t l stop.Memory cut = IsCutLine t l cut ⊎ ((lost : Bool) × (text : List ℕ) × (t' : Names) × DoesLine t l lost cut text t')
 
 -- behind a place the next line wasn't done to its end
 pub record BreaksAt {D : Type 0} (seen : D → Seen) (a : Place D) (s : Stop) (w : WorldValue D) : Type 0 where
   pub line : Line
-  pub is_next : (made a.run a.live).0 ≡ Some line
+  pub is_next : (made_next a.run a.live).0 ≡ Some line
   pub cut : List Call
   pub plays : Plays seen a.world cut w
   pub why : WhyNot a.world a.names line s cut
 
 -- a line that was made: no failure of a stripe that isn't there is planned
 abbrev pub IsMade : Result Line LineFault → Type 0
-IsMade result = (wanted : Line) × (IsPlanned wanted × Comes wanted result)
+IsMade result = (wanted : Line) × (IsPlanned wanted × LineComes wanted result)
 
 -- a line was done, or why not; bytes of a WRITE may have been lost
 abbrev pub PlaysSome : {D : Type 0} → (D → Seen) → Desk D → Line → Result LineTold Stop → Desk D → Type 0
@@ -96,5 +96,5 @@ pub record SoFar {D : Type 0} (seen : D → Seen) (a : Place D) (b : Place D) (c
 
 -- A whole run, to the end of its rounds, where no line comes; or one up to a line that wasn't done.
 abbrev pub RunMade : {D : Type 0} → (D → Seen) → Place D → Result Unit Stop → Place D → Counts → Type 0
-RunMade seen a (Ok u) b counts = (run : Generated) × (SoFar seen a (record b { run = run }) counts × ((made run b.live).0 ≡ None))
+RunMade seen a (Ok u) b counts = (run : Generated) × (SoFar seen a (record b { run = run }) counts × ((made_next run b.live).0 ≡ None))
 RunMade seen a (Err s) b counts = (mid : Place _) × (SoFar seen a mid counts × BreaksAt seen mid s b.world)

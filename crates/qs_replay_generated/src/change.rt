@@ -1,5 +1,5 @@
 ghost use Rattle.std.specs.Prelude.{◌≡◌};
-ghost use Rattle.qs_generate.specs.Rounds.{Comes};
+ghost use Rattle.qs_generate.specs.Rounds.{LineComes};
 ghost use Rattle.qs_replay_generated.specs.Changes.{change_by, driven as the_driven};
 ghost use Rattle.qs_script.specs.declared.line.Line.{Line as ALine};
 
@@ -63,7 +63,7 @@ fn change_of_line(line: &Line) -> Change
 
 /// What a line does to the requests that are live, also a WRITE whose bytes found no memory.
 pub fn change_of(made: &Result<Line, LineFault>) -> Change
-    ensures { (wanted : ALine) → Comes wanted made.now → result ≡ change_by wanted }
+    ensures { (wanted : ALine) → LineComes wanted made.now → result ≡ change_by wanted }
 {
     match made {
         Ok(line) => change_of_line(line),

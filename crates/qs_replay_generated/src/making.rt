@@ -1,7 +1,7 @@
 ghost use Rattle.std.specs.Prelude.{◌≡◌, [], OnOk};
-ghost use Rattle.qs_generate.specs.Rounds.{Comes};
+ghost use Rattle.qs_generate.specs.Rounds.{LineComes};
 ghost use Rattle.qs_replay_lines.specs.Numbers.{each};
-ghost use Rattle.qs_replay_generated.specs.Changes.{lives_after, without};
+ghost use Rattle.qs_replay_generated.specs.Changes.{lives_after, live_without};
 ghost use Rattle.qs_script.specs.Lines.{IsLineFault};
 ghost use Rattle.qs_replay_generated.specs.Making.{IsMade, LineDone, PlaysSome, RunMade, place};
 ghost use Rattle.qs_script.specs.declared.line.Line.{Line as ALine};
@@ -27,7 +27,7 @@ fn clear(alloc: Global, out: &mut Bytes)
 
 /// The request with this cookie isn't live any more.
 fn forget(live: &mut Vec<LiveRequest>, cookie: u64)
-    ensures { live.new.items ≡ without live.old.items cookie }
+    ensures { live.new.items ≡ live_without live.old.items cookie }
 {
     live.retain(|r| r.cookie != cookie);
 }
@@ -66,7 +66,7 @@ fn play_made<D: RiggedDisk + Drop>(
     made: Result<Line, LineFault>,
 ) -> Result<LineTold, Stop>
     requires { IsMade made }
-    ensures { (wanted : ALine) → Comes wanted made → PlaysSome D.Disk.seen desk.old wanted result desk.new }
+    ensures { (wanted : ALine) → LineComes wanted made → PlaysSome D.Disk.seen desk.old wanted result desk.new }
 {
     match made {
         Ok(line) => desk.play(line),
@@ -82,7 +82,7 @@ fn do_made<D: RiggedDisk + Drop>(
     made: Result<Line, LineFault>,
 ) -> Result<(), Stop>
     requires { IsMade made }
-    ensures { (wanted : ALine) → Comes wanted made →
+    ensures { (wanted : ALine) → LineComes wanted made →
         LineDone D.Disk.seen desk.old live.old.items counts.old wanted result desk.new live.new.items counts.new }
 {
     let change = change_of(&made);

@@ -13,13 +13,13 @@ use Rattle.qs_replay_lines.specs.declared.stop.Stop.TheVariants as stop
 use Rattle.qs_calls.specs.Calls.{Call, Happened, Plays}
 use Rattle.qs_replay_lines.specs.Effects.{IsActor, Played, Settles, Stopped, news_of, run_text, step_text}
 use Rattle.qs_calls.specs.Goings.{RunsOut}
-use Rattle.qs_replay_lines.specs.Tables.{Gives, Names}
+use Rattle.qs_replay_lines.specs.Tables.{GivesName, Names}
 use Rattle.qs_replay_lines.specs.Numbers.{ended_by, quiet}
 use Rattle.qs_replay_lines.specs.declared.told.LineTold.{LineTold}
 use Rattle.qs_replay_lines.proofs.Numbers.{quiet_tells, run_tells, step_tells}
 use Rattle.qs_replay_lines.proofs.Playing.{stopped_cut}
 
-pub attach_played : {D : Type 0} (seen : D → Seen) (old : Desk D) (s e : List ℕ) (new : Desk D) (n : ℕ) (o : Outcome) (mid : Names) → Gives old.table s n mid →
+pub attach_played : {D : Type 0} (seen : D → Seen) (old : Desk D) (s e : List ℕ) (new : Desk D) (n : ℕ) (o : Outcome) (mid : Names) → GivesName old.table s n mid →
     Plays seen old.world (Happened (event.Attach n e) o ∷ []) new.world → new.table ≡ mid → new.out ≡ old.out ++ session_line s (news_of o) →
     (told : LineTold) → told ≡ quiet → Played seen old (line.Session s e) false told new
 attach_played seen old s e new n o mid gives plays table out told told_is = record {
@@ -41,7 +41,7 @@ attach_played seen old s e new n o mid gives plays table out told told_is = reco
   tells = quiet_tells (Happened (event.Attach n e) o ∷ []) told told_is refl refl;
 }
 
-pub end_played : {D : Type 0} (seen : D → Seen) (old : Desk D) (s : List ℕ) (new : Desk D) (n : ℕ) (o : Outcome) (mid : Names) → Gives old.table s n mid →
+pub end_played : {D : Type 0} (seen : D → Seen) (old : Desk D) (s : List ℕ) (new : Desk D) (n : ℕ) (o : Outcome) (mid : Names) → GivesName old.table s n mid →
     Plays seen old.world (Happened (event.Leave n) o ∷ []) new.world → new.table ≡ mid → new.out ≡ old.out ++ session_line s news.Left →
     (told : LineTold) → told ≡ quiet → Played seen old (line.End s) false told new
 end_played seen old s new n o mid gives plays table out told told_is = record {
@@ -109,12 +109,12 @@ run_played seen old who now new a o mid calls is plays out table printed told co
   tells = run_tells a now o calls told count out counted told_is;
 }
 
-pub attach_cut : {D : Type 0} (seen : D → Seen) (old : Desk D) (s e : List ℕ) (new : Desk D) (n : ℕ) (o : Outcome) (mid : Names) → Gives old.table s n mid →
+pub attach_cut : {D : Type 0} (seen : D → Seen) (old : Desk D) (s e : List ℕ) (new : Desk D) (n : ℕ) (o : Outcome) (mid : Names) → GivesName old.table s n mid →
     Plays seen old.world (Happened (event.Attach n e) o ∷ []) new.world → new.out ≡ old.out → Stopped seen old (line.Session s e) stop.Memory new
 attach_cut seen old s e new n o mid gives plays out =
     stopped_cut seen old (line.Session s e) new (Happened (event.Attach n e) o ∷ []) (event.Attach n e) mid false (n, (gives, refl)) (o, refl) plays out
 
-pub end_cut : {D : Type 0} (seen : D → Seen) (old : Desk D) (s : List ℕ) (new : Desk D) (n : ℕ) (o : Outcome) (mid : Names) → Gives old.table s n mid →
+pub end_cut : {D : Type 0} (seen : D → Seen) (old : Desk D) (s : List ℕ) (new : Desk D) (n : ℕ) (o : Outcome) (mid : Names) → GivesName old.table s n mid →
     Plays seen old.world (Happened (event.Leave n) o ∷ []) new.world → new.out ≡ old.out → Stopped seen old (line.End s) stop.Memory new
 end_cut seen old s new n o mid gives plays out =
     stopped_cut seen old (line.End s) new (Happened (event.Leave n) o ∷ []) (event.Leave n) mid false (n, (gives, refl)) (o, refl) plays out

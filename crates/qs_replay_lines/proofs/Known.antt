@@ -10,7 +10,7 @@ use Rattle.std.specs.Cmp.Lexicographic.{pointwise}
 use Rattle.std.specs.List.{list_any, position}
 use Rattle.std.specs.Prelude.{◌&&◌, replicate, Result, IfOk, slice_index_or, take}
 use Rattle.qs_bytes.specs.declared.memory.Memory.{Memory}
-use Rattle.qs_replay_lines.specs.Tables.{Gives, IsKnown, Lacks, Names}
+use Rattle.qs_replay_lines.specs.Tables.{GivesName, IsKnown, Lacks, Names}
 
 -- a name in its room, as it is kept
 abbrev roomed : List ℕ → List ℕ
@@ -40,6 +40,6 @@ module _ (eq : List ℕ → List ℕ → Bool) (decides : (x y : List ℕ) → D
 
 -- the place of a name that came is its number
 pub gives_known : (t : Names) (name : List ℕ) (place : ℕ) → IsKnown t.sessions name place →
-    (r : Result ℕ Memory) → IfOk r (λ n. n ≡ place) → IfOk r (λ n. Gives t name n t)
+    (r : Result ℕ Memory) → IfOk r (λ n. n ≡ place) → IfOk r (λ n. GivesName t name n t)
 gives_known t name place is (Ok n) e = inl (subst (IsKnown t.sessions name) (sym e) is, refl)
 gives_known t name place is (Err _) e = tt

@@ -17,7 +17,7 @@ use Rattle.qs_replay_lines.specs.declared.stop.Stop.{Stop}
 use Rattle.qs_replay_lines.specs.declared.stop.Stop.TheVariants as stop
 use Rattle.qs_replay_lines.specs.declared.desk.Desk.{Desk}
 use Rattle.qs_calls.specs.Calls.{Call, Happened, Plays}
-use Rattle.qs_replay_lines.specs.Tables.{Gives, IsKnown, IsUsed, Names, adds}
+use Rattle.qs_replay_lines.specs.Tables.{GivesName, IsKnown, IsUsed, Names, adds}
 use Rattle.qs_replay_lines.specs.Effects.{IsActor, AreFirst, AskedBy, IsAsked, IsEventOf, Played, PlaysLine, Stopped, UsesAgain, WasUsed}
 use Rattle.qs_replay_lines.specs.Numbers.{quiet}
 use Rattle.qs_replay_lines.specs.declared.told.LineTold.{LineTold}
@@ -53,20 +53,20 @@ stops seen old l lost s (Err e) new is stopped = subst (λ (x : Stop). Stopped s
 
 -- a session asks so
 by_ask : (t t' : Names) (n : ℕ) (s session : List ℕ) (asks ask : Ask) (brings body : Option (List ℕ)) → (s ≡ session) × (ask ≡ asks) × (body ≡ brings) →
-    Gives t session n t' → AskedBy t s asks brings (event.Ask n ask body) t'
+    GivesName t session n t' → AskedBy t s asks brings (event.Ask n ask body) t'
 by_ask t t' n s session asks ask brings body is gives = (
   n,
   (
-    subst (λ (x : List ℕ). Gives t x n t') (sym is.0) gives,
+    subst (λ (x : List ℕ). GivesName t x n t') (sym is.0) gives,
     ap (λ (a : Ask). event.Ask n a body) is.1 ∙ ap (λ (b : Option (List ℕ)). event.Ask n asks b) is.2,
   ),
 )
 
 -- a line that asks has this event
 pub asks_event : (t t' : Names) (l : Line) (lost : Bool) (n : ℕ) (session : List ℕ) (ask : Ask) (body : Option (List ℕ)) → IsAsked l lost session ask body →
-    Gives t session n t' → IsEventOf t l lost (event.Ask n ask body) t'
+    GivesName t session n t' → IsEventOf t l lost (event.Ask n ask body) t'
 asks_event t t' (line.Read s c offset long) lost n session ask body is gives =
-    (n, body, (subst (λ (x : List ℕ). Gives t x n t') (sym is.0) gives, is.2, ap (λ (a : Ask). event.Ask n a body) is.1))
+    (n, body, (subst (λ (x : List ℕ). GivesName t x n t') (sym is.0) gives, is.2, ap (λ (a : Ask). event.Ask n a body) is.1))
 asks_event t t' (line.Write s c offset bytes fua) lost n session ask body is gives =
     by_ask t t' n s session (write_ask c offset bytes fua) ask (bytes_or lost bytes) body is gives
 asks_event t t' (line.Zero s c offset long fua) lost n session ask body is gives = by_ask t t' n s session (zero_ask c offset long fua) ask None body is gives
@@ -81,13 +81,13 @@ asks_event t t' (line.Fail j k) lost n session ask body is gives = absurd is
 asks_event t t' (line.Crash choice) lost n session ask body is gives = absurd is
 
 -- the cookie that a session asks with was used
-by_used : (t a : Names) (n cookie : ℕ) (s session : List ℕ) (ask : Ask) → s ≡ session → ask.cookie ≡ cookie → Gives t session n a → IsUsed a n ask.cookie → WasUsed t s cookie
+by_used : (t a : Names) (n cookie : ℕ) (s session : List ℕ) (ask : Ask) → s ≡ session → ask.cookie ≡ cookie → GivesName t session n a → IsUsed a n ask.cookie → WasUsed t s cookie
 by_used t a n cookie s session ask name_is cookie_is gives used =
-    (n, a, (subst (λ (x : List ℕ). Gives t x n a) (sym name_is) gives, subst (λ (c : ℕ). IsUsed a n c) cookie_is used))
+    (n, a, (subst (λ (x : List ℕ). GivesName t x n a) (sym name_is) gives, subst (λ (c : ℕ). IsUsed a n c) cookie_is used))
 
 -- a line that asks with a used cookie uses it again
 pub asks_again : (t a : Names) (l : Line) (lost : Bool) (n : ℕ) (session : List ℕ) (ask : Ask) (body : Option (List ℕ)) → IsAsked l lost session ask body →
-    Gives t session n a → IsUsed a n ask.cookie → UsesAgain t l
+    GivesName t session n a → IsUsed a n ask.cookie → UsesAgain t l
 asks_again t a (line.Read s c offset long) lost n session ask body is gives used = by_used t a n c s session ask is.0 (ap (λ (k : Ask). k.cookie) is.1) gives used
 asks_again t a (line.Write s c offset bytes fua) lost n session ask body is gives used = by_used t a n c s session ask is.0 (ap (λ (k : Ask). k.cookie) is.1) gives used
 asks_again t a (line.Zero s c offset long fua) lost n session ask body is gives used = by_used t a n c s session ask is.0 (ap (λ (k : Ask). k.cookie) is.1) gives used
@@ -133,30 +133,30 @@ known_one names s n m one two =
           elim rest [ inl same ↦ same | inr above ↦ absurd (one.before m above two.here) ]
     ]
 
-pub gives_number : (t a b : Names) (s : List ℕ) (n m : ℕ) → Gives t s n a → Gives t s m b → n ≡ m
+pub gives_number : (t a b : Names) (s : List ℕ) (n m : ℕ) → GivesName t s n a → GivesName t s m b → n ≡ m
 gives_number t a b s n m (inl p) (inl q) = known_one t.sessions s n m p.0 q.0
 gives_number t a b s n m (inl p) (inr q) = absurd (q.0 n p.0.inside p.0.here)
 gives_number t a b s n m (inr p) (inl q) = absurd (p.0 m q.0.inside q.0.here)
 gives_number t a b s n m (inr p) (inr q) = p.1 ∙ sym q.1
 
-gives_used : (t a : Names) (s : List ℕ) (n m cookie : ℕ) → Gives t s n a → IsUsed a m cookie ≡ IsUsed t m cookie
+gives_used : (t a : Names) (s : List ℕ) (n m cookie : ℕ) → GivesName t s n a → IsUsed a m cookie ≡ IsUsed t m cookie
 gives_used t a s n m cookie (inl p) = ap (λ (x : Names). IsUsed x m cookie) p.1
 gives_used t a s n m cookie (inr p) = ap (λ (x : Names). IsUsed x m cookie) p.2
 
 -- a cookie that wasn't used isn't used again
-fresh_once : (t a b : Names) (s : List ℕ) (n m cookie : ℕ) → Gives t s n a → (IsUsed a n cookie → ⊥) → Gives t s m b → IsUsed b m cookie → ⊥
+fresh_once : (t a b : Names) (s : List ℕ) (n m cookie : ℕ) → GivesName t s n a → (IsUsed a n cookie → ⊥) → GivesName t s m b → IsUsed b m cookie → ⊥
 fresh_once t a b s n m cookie one fresh two used =
     fresh (subst (λ (k : ℕ). IsUsed a k cookie) (gives_number t b a s m n two one)
     (subst (λ (u : Type 0). u) (gives_used t b s m m cookie two ∙ sym (gives_used t a s n m cookie one)) used))
 
-once_used : (t a : Names) (n cookie : ℕ) (s session : List ℕ) (ask : Ask) → s ≡ session → ask.cookie ≡ cookie → Gives t session n a → (IsUsed a n ask.cookie → ⊥) →
+once_used : (t a : Names) (n cookie : ℕ) (s session : List ℕ) (ask : Ask) → s ≡ session → ask.cookie ≡ cookie → GivesName t session n a → (IsUsed a n ask.cookie → ⊥) →
     WasUsed t s cookie → ⊥
 once_used t a n cookie s session ask name_is cookie_is gives fresh again =
     fresh_once t a again.1 session n again.0 cookie gives (λ used. fresh (subst (λ (c : ℕ). IsUsed a n c) (sym cookie_is) used))
-    (subst (λ (x : List ℕ). Gives t x again.0 again.1) name_is again.2.0) again.2.1
+    (subst (λ (x : List ℕ). GivesName t x again.0 again.1) name_is again.2.0) again.2.1
 
 pub asks_once : (t a : Names) (l : Line) (lost : Bool) (n : ℕ) (session : List ℕ) (ask : Ask) (body : Option (List ℕ)) → IsAsked l lost session ask body →
-    Gives t session n a → (IsUsed a n ask.cookie → ⊥) → UsesAgain t l → ⊥
+    GivesName t session n a → (IsUsed a n ask.cookie → ⊥) → UsesAgain t l → ⊥
 asks_once t a (line.Read s c offset long) lost n session ask body is gives fresh again = once_used t a n c s session ask is.0 (ap (λ (k : Ask). k.cookie) is.1) gives fresh again
 asks_once t a (line.Write s c offset bytes fua) lost n session ask body is gives fresh again = once_used t a n c s session ask is.0 (ap (λ (k : Ask). k.cookie) is.1) gives fresh again
 asks_once t a (line.Zero s c offset long fua) lost n session ask body is gives fresh again = once_used t a n c s session ask is.0 (ap (λ (k : Ask). k.cookie) is.1) gives fresh again
@@ -172,7 +172,7 @@ asks_once t a (line.Crash choice) lost n session ask body is gives fresh again =
 
 -- a line that asks was done
 pub asks_played : {D : Type 0} (seen : D → Seen) (old : Desk D) (l : Line) (lost : Bool) (new : Desk D) (n r : ℕ) (mid : Names) (session : List ℕ) (ask : Ask)
-    (body : Option (List ℕ)) → IsAsked l lost session ask body → Gives old.table session n mid → (IsUsed mid n ask.cookie → ⊥) →
+    (body : Option (List ℕ)) → IsAsked l lost session ask body → GivesName old.table session n mid → (IsUsed mid n ask.cookie → ⊥) →
     Plays seen old.world (Happened (event.Ask n ask body) (Made r) ∷ []) new.world →
     new.table ≡ adds mid n ask.cookie r →
     new.out ≡ old.out → (told : LineTold) → told ≡ quiet → Played seen old l lost told new

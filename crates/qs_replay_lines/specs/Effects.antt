@@ -30,7 +30,7 @@ use Rattle.qs_part.specs.declared.graph.GraphOp.{GraphOp}
 use Rattle.qs_calls.specs.Calls.{Call, Happened, Rigged, PowerFailed, ExportMade, Plays}
 use Rattle.qs_calls.specs.Goings.{GoesOn, RunsOut}
 use Rattle.qs_replay_lines.specs.Numbers.{Tells}
-use Rattle.qs_replay_lines.specs.Tables.{Gives, IsKnown, IsUsed, Names, adds, settled}
+use Rattle.qs_replay_lines.specs.Tables.{GivesName, IsKnown, IsUsed, Names, adds, names_settled}
 use Rattle.qs_replay_lines.specs.declared.told.LineTold.{LineTold}
 
 abbrev pub read_ask : ℕ → ℕ → ℕ → Ask
@@ -51,9 +51,9 @@ flush_ask cookie = record { kind = kind.Flush; fua = false; flags_fit = true; co
 
 -- the actor that a script names; a request is one that isn't answered yet
 abbrev pub IsActor : Names → ScriptActor → Actor → Names → Type 0
-IsActor t (who.Session s) actor t' = (n : ℕ) × (Gives t s n t' × (actor ≡ ASession n))
+IsActor t (who.Session s) actor t' = (n : ℕ) × (GivesName t s n t' × (actor ≡ ASession n))
 IsActor t (who.Request s c) actor t' =
-    (n : ℕ) × (r : ℕ) × (Gives t s n t' × (map.get t'.live (n, c) ≡ Some r) × (actor ≡ ARequest r))
+    (n : ℕ) × (r : ℕ) × (GivesName t s n t' × (map.get t'.live (n, c) ≡ Some r) × (actor ≡ ARequest r))
 
 -- what a request that a script names is kept under
 abbrev pub IsKey : Names → ScriptActor → Option (ℕ × ℕ) → Type 0
@@ -72,14 +72,14 @@ bytes_or lost bytes = Some bytes
 
 -- the session of this name asks so, with this body
 abbrev pub AskedBy : Names → List ℕ → Ask → Option (List ℕ) → Event → Names → Type 0
-AskedBy t s ask body made t' = (n : ℕ) × (Gives t s n t' × (made ≡ event.Ask n ask body))
+AskedBy t s ask body made t' = (n : ℕ) × (GivesName t s n t' × (made ≡ event.Ask n ask body))
 
 -- The event that a line makes. A WRITE_ZEROES, a TRIM and a FLUSH bring no body.
 abbrev pub IsEventOf : Names → Line → Bool → Event → Names → Type 0
-IsEventOf t (line.Session s e) lost made t' = (n : ℕ) × (Gives t s n t' × (made ≡ event.Attach n e))
-IsEventOf t (line.End s) lost made t' = (n : ℕ) × (Gives t s n t' × (made ≡ event.Leave n))
+IsEventOf t (line.Session s e) lost made t' = (n : ℕ) × (GivesName t s n t' × (made ≡ event.Attach n e))
+IsEventOf t (line.End s) lost made t' = (n : ℕ) × (GivesName t s n t' × (made ≡ event.Leave n))
 IsEventOf t (line.Read s c offset long) lost made t' =
-    (n : ℕ) × (body : Option (List ℕ)) × (Gives t s n t' × IsRoom body long × (made ≡ event.Ask n (read_ask c offset long) body))
+    (n : ℕ) × (body : Option (List ℕ)) × (GivesName t s n t' × IsRoom body long × (made ≡ event.Ask n (read_ask c offset long) body))
 IsEventOf t (line.Write s c offset bytes fua) lost made t' = AskedBy t s (write_ask c offset bytes fua) (bytes_or lost bytes) made t'
 IsEventOf t (line.Zero s c offset long fua) lost made t' = AskedBy t s (zero_ask c offset long fua) None made t'
 IsEventOf t (line.Trim s c offset long) lost made t' = AskedBy t s (trim_ask c offset long) None made t'
@@ -119,12 +119,12 @@ run_text actor (outcome.Answered verdict _) = answer_text actor verdict
 run_text actor other = []
 
 -- what a line prints, by the outcome of its last event
-abbrev pub text_of : Line → Outcome → List ℕ
-text_of (line.Session s e) o = session_line s (news_of o)
-text_of (line.End s) o = session_line s news.Left
-text_of (line.Step actor now) o = step_text actor o
-text_of (line.Run actor now) o = run_text actor o
-text_of other o = []
+abbrev pub line_text_of : Line → Outcome → List ℕ
+line_text_of (line.Session s e) o = session_line s (news_of o)
+line_text_of (line.End s) o = session_line s news.Left
+line_text_of (line.Step actor now) o = step_text actor o
+line_text_of (line.Run actor now) o = run_text actor o
+line_text_of other o = []
 
 -- A request that was made is noted by its cookie, which wasn't used before with this session's name.
 abbrev pub Adds : Event → Outcome → Names → Names → Type 0
@@ -134,7 +134,7 @@ Adds made other t t' = t' ≡ t
 
 -- A request that was answered isn't kept.
 abbrev pub Settles : ScriptActor → Outcome → Names → Names → Type 0
-Settles actor o t t' = (key : Option (ℕ × ℕ)) × (IsKey t actor key × (t' ≡ settled t key o))
+Settles actor o t t' = (key : Option (ℕ × ℕ)) × (IsKey t actor key × (t' ≡ names_settled t key o))
 
 -- the names behind the last event of a line
 abbrev pub Notes : Line → Event → Outcome → Names → Names → Type 0
@@ -155,7 +155,7 @@ pub record Acts (t : Names) (l : Line) (lost : Bool) (calls : List Call) (text :
   pub event_is : IsEventOf t l lost made mid
   pub calls_are : CallsOf l made outcome calls
   pub notes : Notes l made outcome mid t'
-  pub text_is : text ≡ text_of l outcome
+  pub text_is : text ≡ line_text_of l outcome
 
 -- nothing happens but these calls, and nothing is printed
 pub record Rests (t : Names) (given calls : List Call) (text : List ℕ) (t' : Names) : Type 0 where
@@ -172,17 +172,17 @@ pub record Crashes (t : Names) (choice : CrashChoice) (calls : List Call) (text 
 
 -- what a line does: one that says nothing does nothing, one that plans a failure plans it, one that crashes makes the export anew,
 -- and the others make events
-abbrev pub Does : Names → Line → Bool → List Call → List ℕ → Names → Type 0
-Does t line.Nothing lost calls text t' = Rests t [] calls text t'
-Does t (line.Fail j fail) lost calls text t' = Rests t (Rigged j fail ∷ []) calls text t'
-Does t (line.Crash choice) lost calls text t' = Crashes t choice calls text t'
-Does t other lost calls text t' = Acts t other lost calls text t'
+abbrev pub DoesLine : Names → Line → Bool → List Call → List ℕ → Names → Type 0
+DoesLine t line.Nothing lost calls text t' = Rests t [] calls text t'
+DoesLine t (line.Fail j fail) lost calls text t' = Rests t (Rigged j fail ∷ []) calls text t'
+DoesLine t (line.Crash choice) lost calls text t' = Crashes t choice calls text t'
+DoesLine t other lost calls text t' = Acts t other lost calls text t'
 
 -- a whole line was done: its calls, and what it prints
 pub record IsPlayed {D : Type 0} (seen : D → Seen) (w : WorldValue D) (t : Names) (l : Line) (lost : Bool) (calls : List Call) (text : List ℕ)
     (w' : WorldValue D) (t' : Names) : Type 0 where
   pub plays : Plays seen w calls w'
-  pub does : Does t l lost calls text t'
+  pub does : DoesLine t l lost calls text t'
 
 -- at a desk, and told in numbers
 pub record Played {D : Type 0} (seen : D → Seen) (old : Desk D) (l : Line) (lost : Bool) (told : LineTold) (new : Desk D) : Type 0 where
@@ -194,7 +194,7 @@ pub record Played {D : Type 0} (seen : D → Seen) (old : Desk D) (l : Line) (lo
 
 -- the cookie was used with the name of a session
 abbrev pub WasUsed : Names → List ℕ → ℕ → Type 0
-WasUsed t s c = (n : ℕ) × (t' : Names) × (Gives t s n t' × IsUsed t' n c)
+WasUsed t s c = (n : ℕ) × (t' : Names) × (GivesName t s n t' × IsUsed t' n c)
 
 -- the line uses a cookie that was used with the name of its session
 abbrev pub UsesAgain : Names → Line → Type 0
@@ -208,7 +208,7 @@ UsesAgain t other = ⊥
 -- an actor of a script that is no request, or one that was answered
 abbrev pub IsNotLive : Names → ScriptActor → Type 0
 IsNotLive t (who.Session s) = ⊥
-IsNotLive t (who.Request s c) = (n : ℕ) × (t' : Names) × (Gives t s n t' × (map.get t'.live (n, c) ≡ None))
+IsNotLive t (who.Request s c) = (n : ℕ) × (t' : Names) × (GivesName t s n t' × (map.get t'.live (n, c) ≡ None))
 
 abbrev pub DrivesNotLive : Names → Line → Type 0
 DrivesNotLive t (line.Step actor now) = IsNotLive t actor
@@ -234,8 +234,8 @@ IsCrash (line.Crash choice) calls = (left : ℕ → List ℕ) × (calls ≡ Powe
 IsCrash other calls = ⊥
 
 -- none, or these
-abbrev pub IsCut : Names → Line → List Call → Type 0
-IsCut t l calls = (calls ≡ []) ⊎ ((made : Event) × (mid : Names) × (lost : Bool) × (IsEventOf t l lost made mid × AreFirst l made calls)) ⊎ IsCrash l calls
+abbrev pub IsCutLine : Names → Line → List Call → Type 0
+IsCutLine t l calls = (calls ≡ []) ⊎ ((made : Event) × (mid : Names) × (lost : Bool) × (IsEventOf t l lost made mid × AreFirst l made calls)) ⊎ IsCrash l calls
 
 -- Why a line wasn't done, or not to its end: then nothing of it was printed, and but for refused memory nothing happened.
 abbrev pub Stopped : {D : Type 0} → (D → Seen) → Desk D → Line → Stop → Desk D → Type 0
@@ -243,7 +243,7 @@ Stopped seen old l stop.BadLine new = UsesAgain old.table l × (new.world ≡ ol
 Stopped seen old l stop.NotNext new =
     (CannotCome old.world old.table l ⊎ DrivesNotLive old.table l) × (UsesAgain old.table l → ⊥) × (new.world ≡ old.world) × (new.out ≡ old.out)
 Stopped seen old l stop.Memory new =
-    (calls : List Call) × (IsCut old.table l calls × Plays seen old.world calls new.world × (new.out ≡ old.out))
+    (calls : List Call) × (IsCutLine old.table l calls × Plays seen old.world calls new.world × (new.out ≡ old.out))
 
 abbrev pub PlaysLine : {D : Type 0} → (D → Seen) → Desk D → Line → Bool → Result LineTold Stop → Desk D → Type 0
 PlaysLine seen old l lost (Ok told) new = Played seen old l lost told new

@@ -35,8 +35,8 @@ abbrev pub Lacks : List (List ℕ) → List ℕ → Type 0
 Lacks names name = EachIndex names (λ k. slice_index_or names k [] ≢ name)
 
 -- A name's number is the place where it came first; a name that didn't come is put behind the others.
-abbrev pub Gives : Names → List ℕ → ℕ → Names → Type 0
-Gives t name n t' = (IsKnown t.sessions name n × (t' ≡ t)) ⊎
+abbrev pub GivesName : Names → List ℕ → ℕ → Names → Type 0
+GivesName t name n t' = (IsKnown t.sessions name n × (t' ≡ t)) ⊎
     (Lacks t.sessions name × (n ≡ length t.sessions) × (t' ≡ record t { sessions = t.sessions ++ name ∷ [] }))
 
 -- the cookie was used with the name of this session
@@ -48,6 +48,6 @@ abbrev pub adds : Names → ℕ → ℕ → ℕ → Names
 adds t session cookie number = record t { used = set.insert t.used (session, cookie); live = map.insert t.live (session, cookie) number }
 
 -- a request that was answered isn't kept
-abbrev pub settled : Names → Option (ℕ × ℕ) → Outcome → Names
-settled t (Some key) (Answered _ _) = record t { live = map.remove t.live key }
-settled t key outcome = t
+abbrev pub names_settled : Names → Option (ℕ × ℕ) → Outcome → Names
+names_settled t (Some key) (Answered _ _) = record t { live = map.remove t.live key }
+names_settled t key outcome = t

@@ -1,7 +1,7 @@
 ghost use Rattle.std.specs.Prelude.{◌≡◌, ◌↔◌, [], false, IsTrue, OnErr, OnOk, IfOk};
 ghost use Rattle.std.specs.FinMap as map;
 ghost use Rattle.std.specs.FinSet as set;
-ghost use Rattle.qs_replay_lines.specs.Tables.{Gives, IsUsed, adds, settled};
+ghost use Rattle.qs_replay_lines.specs.Tables.{GivesName, IsUsed, adds, names_settled};
 
 use indexmap::IndexSet;
 use qs_bytes::Memory;
@@ -50,7 +50,7 @@ impl Table {
     /// The number of a session's name, which is a new one where the name hadn't come. Refused memory
     /// leaves the table as it was.
     pub fn number(&mut self, name: SessionName) -> Result<u32, Memory>
-        ensures ok { IfOk result (λ n. Gives self.old name n self.new) }
+        ensures ok { IfOk result (λ n. GivesName self.old name n self.new) }
         ensures err { OnErr result (self.new ≡ self.old) }
     {
         if let Some(place) = self.sessions.get_index_of(&name) {
@@ -93,7 +93,7 @@ impl Table {
 
     /// Forgets the number of a request that was answered.
     pub fn settle(&mut self, key: Option<(u32, u64)>, outcome: &Outcome)
-        ensures { self.new ≡ settled self.old key outcome.now }
+        ensures { self.new ≡ names_settled self.old key outcome.now }
     {
         match (key, outcome) {
             (Some(key), Outcome::Answered(..)) => {

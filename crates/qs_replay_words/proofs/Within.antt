@@ -8,7 +8,7 @@ use Rattle.qs_replay_words.specs.declared.words.Expected.{Expected}
 use Rattle.qs_replay_words.specs.declared.words.Expected.TheVariants.{OptionWord, Blocks, BlockSize, Seed}
 use Rattle.qs_replay_words.specs.declared.words.Reading.{Reading}
 use Rattle.qs_replay_words.specs.declared.words.ReplayWords.{ReplayWords}
-use Rattle.qs_replay_words.specs.Words.{AreRead, IsImageOf, ReadsAt, Tells, nothing_read, unless, whole, whole_by, with_align, with_option}
+use Rattle.qs_replay_words.specs.Words.{AreRead, IsImageOf, ReadsAt, TellsWords, nothing_read, unless, words_of_reading, whole_by, with_align, with_option}
 
 -- the numbers that were read are within their bounds
 record IsWithin (r : Reading) : Type 0 where
@@ -61,6 +61,6 @@ whole_within Blocks r told within is = absurd (none-some told is)
 whole_within BlockSize r told within is = absurd (none-some told is)
 whole_within Seed r told within is = absurd (none-some told is)
 
-pub image_of : (words : List (String Global)) (told : ReplayWords) → Tells words told → IsImageOf told
+pub image_of : (words : List (String Global)) (told : ReplayWords) → TellsWords words told → IsImageOf told
 image_of words told tells =
     whole_within tells.0.next tells.0 told (are_within words nothing_read tells.0 tells.1.0 (record { blocks = tt; align = tt })) tells.1.1

@@ -51,13 +51,13 @@ ReadsAt BlockSize r word r' = with_align r word ≡ Some r'
 ReadsAt Seed r word r' = ReadsSeed r word r'
 
 -- one more word
-abbrev pub Reads : Reading → String Global → Reading → Type 0
-Reads r word r' = ReadsAt r.next r (string_bytes word) r'
+abbrev pub ReadsWord : Reading → String Global → Reading → Type 0
+ReadsWord r word r' = ReadsAt r.next r (string_bytes word) r'
 
 -- words, one after the other, each of which may stand where it stands
 unfoldable pub AreRead : Reading → List (String Global) → Reading → Type 0
 AreRead r [] r' = r' ≡ r
-AreRead r (word ∷ words) r' = (mid : Reading) × (Reads r word mid × AreRead mid words r')
+AreRead r (word ∷ words) r' = (mid : Reading) × (ReadsWord r word mid × AreRead mid words r')
 
 -- these words may begin the command
 abbrev pub IsFront : List (String Global) → Type 0
@@ -68,12 +68,12 @@ abbrev pub whole_by : Expected → Reading → Option ReplayWords
 whole_by OptionWord r = Some (record { blocks = unwrap_or r.blocks 64; align = unwrap_or r.align 512; generate = r.generate })
 whole_by other r = None
 
-abbrev pub whole : Reading → Option ReplayWords
-whole r = whole_by r.next r
+abbrev pub words_of_reading : Reading → Option ReplayWords
+words_of_reading r = whole_by r.next r
 
 -- what the words tell, where they are the command's
-abbrev pub Tells : List (String Global) → ReplayWords → Type 0
-Tells words told = (r : Reading) × (AreRead nothing_read words r × (whole r ≡ Some told))
+abbrev pub TellsWords : List (String Global) → ReplayWords → Type 0
+TellsWords words told = (r : Reading) × (AreRead nothing_read words r × (words_of_reading r ≡ Some told))
 
 -- from 1 to 65,536 blocks of 512 or 4096 bytes
 pub record IsImageOf (told : ReplayWords) : Type 0 where

@@ -1,5 +1,5 @@
 ghost use Rattle.std.specs.Prelude.{◌≡◌, IfSome, IsNone};
-ghost use Rattle.qs_replay_words.specs.Words.{ReadsBlocks, ReadsSeed, Reads, Tells, nothing_read, whole, with_align, with_option};
+ghost use Rattle.qs_replay_words.specs.Words.{ReadsBlocks, ReadsSeed, ReadsWord, TellsWords, nothing_read, words_of_reading, with_align, with_option};
 ghost use Rattle.qs_replay_words.specs.declared.words.Reading.{Reading as Read};
 ghost use Rattle.qs_replay_words.specs.declared.words.ReplayWords.{ReplayWords as Told};
 
@@ -124,8 +124,8 @@ impl Reading {
 
     /// With one more word; `None` where it may not stand there.
     pub fn and_then(self, word: &String) -> Option<Self>
-        ensures some { IfSome result (Reads self word.now) }
-        ensures none { IsNone result → (r : Read) → ¬ Reads self word.now r }
+        ensures some { IfSome result (ReadsWord self word.now) }
+        ensures none { IsNone result → (r : Read) → ¬ ReadsWord self word.now r }
     {
         match self.next {
             Expected::OptionWord => self.with_option(word.as_str()),
@@ -137,7 +137,7 @@ impl Reading {
 
     /// What the words tell, where they are the whole command.
     pub fn whole(self) -> Option<ReplayWords>
-        ensures { result ≡ whole self }
+        ensures { result ≡ words_of_reading self }
     {
         match self.next {
             Expected::OptionWord => Some(ReplayWords {
@@ -155,8 +155,8 @@ impl Reading {
 /// 1 to 65,536 and 64 without it, that of `--align` is 512 or 4096 and 512 without it, that of
 /// `--generate` is below 2^64. Numbers are decimal without leading zeros.
 pub fn replay_words(words: &[String]) -> Option<ReplayWords>
-    ensures some { IfSome result (λ told. Tells words.now told) }
-    ensures none { IsNone result → (told : Told) → ¬ Tells words.now told }
+    ensures some { IfSome result (λ told. TellsWords words.now told) }
+    ensures none { IsNone result → (told : Told) → ¬ TellsWords words.now told }
 {
     let mut reading = Reading::new();
     for word in words {

@@ -6,7 +6,7 @@ use Rattle.qs_bytes.specs.declared.ask.Errno.TheVariants.{Inval, NoMem}
 use Rattle.qs_bytes.specs.declared.ask.Verdict.TheVariants.{Refused}
 use Rattle.qs_bytes.specs.declared.ask.Kind.{Kind}
 use Rattle.qs_bytes.specs.declared.ask.Kind.TheVariants.{Read, Write, Zero, Trim, Flush, Unknown}
-use Rattle.qs_model.specs.Requests.{Client, Pads, Req, Ready, Entering, Stage, asked, brings_bytes, form_error, is_read, no_route, stores_bytes, takes_body, wants_buffers}
+use Rattle.qs_model.specs.Requests.{Client, Pads, Req, Ready, Entering, Stage, new_request, brings_bytes, form_error, is_read, no_route, stores_bytes, takes_body, wants_buffers}
 use Rattle.qs_model.proofs.Kept.{kind_of}
 use Rattle.qs_request_state.specs.declared.shape.Blocks.{Blocks}
 use Rattle.qs_request_state.specs.declared.stage.Ending.TheVariants.{Failed}
@@ -41,12 +41,12 @@ abbrev empty_pads : Pads
 empty_pads = record { head = []; tail = [] }
 
 pub made_request : (m : Machine) (c : Client) → client_of m ≡ c → m.dropped ≡ false → m.pads.pads ≡ empty_pads → m.stage ≡ first_stage m.ask m.buffered →
-    request_of m ≡ asked c
+    request_of m ≡ new_request c
 made_request m c client dropped pads stage =
     ap (λ (d : Bool). with_parts (client_of m) d m.pads.pads (stage_of m m.stage)) dropped
     ∙ ap (λ (p : Pads). with_parts (client_of m) false p (stage_of m m.stage)) pads
     ∙ ap (λ (s : Stage). with_parts (client_of m) false empty_pads s) (ap (λ (s : At). stage_of m s) stage ∙ first_is m m.ask m.buffered)
-    ∙ ap asked client
+    ∙ ap new_request client
 
 abbrev client_with : ℕ → Ask → ℕ → List ℕ → Bool → Client
 client_with session ask e bytes buffered =

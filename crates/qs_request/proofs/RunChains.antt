@@ -13,7 +13,7 @@ use Rattle.qs_part.specs.declared.event.StripeNote.{StripeNote}
 use Rattle.qs_part.specs.declared.event.StripeNote.TheVariants as told
 use Rattle.qs_part.specs.declared.stripe.StripeReply.{StripeReply}
 use Rattle.qs_part.specs.declared.stripe.StripeReply.TheVariants.{Filled, Fault, HeldBy, Done}
-use Rattle.qs_stripe.specs.Runs.{Loaded, NotLoaded, NotStored, StoredAt, Waits, block_in, load_at, store_at}
+use Rattle.qs_stripe.specs.Runs.{Loaded, NotLoaded, NotStored, StoredAt, Waits, block_in, load_at, run_store_at}
 use Rattle.qs_stripe.specs.Table.{StripeValue}
 use Rattle.qs_model.specs.Requests.{Req, In, ToStore}
 use Rattle.qs_request_state.specs.declared.shape.Shape.{Shape}
@@ -131,15 +131,15 @@ module _ (shape : Shape) (q : Req) (run : WholeRun) (some : 0 < shape.align) (gr
     abbrev stored-to : ℕ → Req
     stored-to i = behind_stores shape.align run buf q i
 
-    wants-store : (i : ℕ) → i < run.n → Wants shape.align (stored-to i) (Stripe (stripe_of run.b) (store_at shape.align run.b run.k run.at buf i))
+    wants-store : (i : ℕ) → i < run.n → Wants shape.align (stored-to i) (Stripe (stripe_of run.b) (run_store_at shape.align run.b run.k run.at buf i))
     wants-store i below =
-        subst (λ (r : Req). Wants shape.align r (Stripe (stripe_of run.b) (store_at shape.align run.b run.k run.at buf i)))
+        subst (λ (r : Req). Wants shape.align r (Stripe (stripe_of run.b) (run_store_at shape.align run.b run.k run.at buf i)))
         (sym (stores-before shape.align q run buf some is i below)) (
           block_in shape.align run.at buf i,
           (
             block-whole buf i whole below,
             (
-              ap (λ s. Stripe s (store_at shape.align run.b run.k run.at buf i)) (same-stripe i below),
+              ap (λ s. Stripe s (run_store_at shape.align run.b run.k run.at buf i)) (same-stripe i below),
               merged i below,
             ),
           ),
@@ -154,7 +154,7 @@ module _ (shape : Shape) (q : Req) (run : WholeRun) (some : 0 < shape.align) (gr
     stores-one : (i : ℕ) → i < run.n → (v w : StripeValue) → StoredAt shape.align run.b run.k run.at buf i v w
         → DoesOne shape (stripe_of run.b) (note_for StoreKind (run.b + i) told.Done) (both (stored-to i) v) (both (stored-to (suc i)) w)
     stores-one i below v w row = record {
-      op = store_at shape.align run.b run.k run.at buf i;
+      op = run_store_at shape.align run.b run.k run.at buf i;
       reply = Done (block_in shape.align run.at buf i);
       wants = wants-store i below;
       fits = (block-fits i below, place, block-whole buf i whole below);
@@ -200,7 +200,7 @@ module _ (shape : Shape) (q : Req) (run : WholeRun) (some : 0 < shape.align) (gr
         (
           stores-front m (omega (arith, below)) v steps.0 steps.1.0,
           record {
-            op = store_at shape.align run.b run.k run.at buf m;
+            op = run_store_at shape.align run.b run.k run.at buf m;
             reply = Fault (Some (block_in shape.align run.at buf m));
             wants = wants-store m below;
             fits = (block-fits m below, place, block-whole buf m whole below);
@@ -226,7 +226,7 @@ module _ (shape : Shape) (q : Req) (run : WholeRun) (some : 0 < shape.align) (gr
         (
           stores-front m (omega (arith, below)) v steps.0 steps.1.0,
           record {
-            op = store_at shape.align run.b run.k run.at buf m;
+            op = run_store_at shape.align run.b run.k run.at buf m;
             reply = HeldBy j (block_in shape.align run.at buf m);
             wants = wants-store m below;
             fits = (block-fits m below, place, block-whole buf m whole below);

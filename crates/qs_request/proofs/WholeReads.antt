@@ -15,7 +15,7 @@ use Rattle.qs_model.proofs.Geometry.{tail_low, tail_high}
 use Rattle.qs_request.specs.declared.todo.PartReply.TheVariants.{Stripe as ByStripe}
 use Rattle.qs_request.specs.declared.whole_run.WholeRun.{WholeRun}
 use Rattle.qs_request.specs.Table.{followed}
-use Rattle.qs_request.specs.WholeRuns.{IsReadingRun, behind_loads, block_of, next_read}
+use Rattle.qs_request.specs.WholeRuns.{IsReadingRun, behind_loads, run_block, next_read}
 
 -- block i of a run begins where the span has it, and ends in the span
 pub run-ends : (A b n i : ℕ) → i < n → (b + i) * A + A ≤ (b + n) * A
@@ -65,28 +65,28 @@ module _ (A : ℕ) (q : Req) (run : WholeRun) (buf : List ℕ) (some : 0 < A) (i
       let one : (run.b + 1) * A ≤ (run.b + run.n) * A = mul-le-mul_right A (omega (arith, is.whole_run.some)) in
       omega (arith, one, is.whole_run.inside, is.whole_run.place, some)
 
-  block-length : (i : ℕ) → i < run.n → length (block_of A run buf i) ≡ A
+  block-length : (i : ℕ) → i < run.n → length (run_block A run buf i) ≡ A
   block-length i below =
       let ends = run-ends A run.b run.n i below in
       length-take-le A (drop (run.at + i * A) buf) (omega (arith, ends, is.whole_run.inside, is.whole_run.place, is.whole, length-drop (run.at + i * A) buf))
 
-  block-piece : (i : ℕ) → i < run.n → piece A q.client (run.b + i) (block_of A run buf i) ≡ block_of A run buf i
+  block-piece : (i : ℕ) → i < run.n → piece A q.client (run.b + i) (run_block A run buf i) ≡ run_block A run buf i
   block-piece i below =
       let ends = run-ends A run.b run.n i below in
-      whole-piece A q.client (run.b + i) (block_of A run buf i) (omega (arith, is.whole_run.place)) (omega (arith, ends, is.whole_run.inside)) (block-length i below)
+      whole-piece A q.client (run.b + i) (run_block A run buf i) (omega (arith, is.whole_run.place)) (omega (arith, ends, is.whole_run.inside)) (block-length i below)
 
-  front-more : (i : ℕ) → take (run.at + i * A) buf ++ block_of A run buf i ≡ take (run.at + (i + 1) * A) buf
+  front-more : (i : ℕ) → take (run.at + i * A) buf ++ run_block A run buf i ≡ take (run.at + (i + 1) * A) buf
   front-more i =
       let e : run.at + i * A + A ≡ run.at + (i + 1) * A = omega arith in
       sym (take-add (run.at + i * A) A buf) ∙ ap (λ n. take n buf) e
 
   -- one more load
   load-next : (i : ℕ) (t : Bool) → i < run.n → (run.b + i == edge A q.client Tail) ≡ t
-      → followed A (at_block i) (ByStripe (Filled (block_of A run buf i)))
+      → followed A (at_block i) (ByStripe (Filled (run_block A run buf i)))
       ≡ record q { stage = In run.k (cond t (ToEnd (Got (take (run.at + (i + 1) * A) buf))) (ToLoad (run.b + i + 1) (take (run.at + (i + 1) * A) buf))) }
   load-next i t below test =
       ap (λ (s : Step). record q { stage = In run.k s })
-      (loaded-as A q.client (run.b + i) (take (run.at + i * A) buf) (block_of A run buf i) t test (block-piece i below)
+      (loaded-as A q.client (run.b + i) (take (run.at + i * A) buf) (run_block A run buf i) t test (block-piece i below)
       ∙ ap (λ xs. cond t (ToEnd (Got xs)) (ToLoad (run.b + i + 1) xs)) (front-more i))
 
   first-block : q ≡ at_block 0
@@ -104,7 +104,7 @@ module _ (A : ℕ) (q : Req) (run : WholeRun) (buf : List ℕ) (some : 0 < A) (i
       let more : (run.b + i) * A + A < (span_of q.client).hi = omega (arith, ends, is.whole_run.inside, some) in
       let next : i + 1 ≡ suc i = omega arith in
       let here : run.b + i + 1 ≡ run.b + suc i = omega arith in
-      ap (λ r. followed A r (ByStripe (Filled (block_of A run buf i)))) (loads-before i earlier)
+      ap (λ r. followed A r (ByStripe (Filled (run_block A run buf i)))) (loads-before i earlier)
       ∙ load-next i false earlier (isnt-last A q.client (run.b + i) some there more)
       ∙ ap (λ n. record q { stage = In run.k (ToLoad n (take (run.at + (i + 1) * A) buf)) }) here
       ∙ ap (λ n. record q { stage = In run.k (ToLoad (run.b + suc i) (take (run.at + n * A) buf)) }) next
@@ -116,7 +116,7 @@ module _ (A : ℕ) (q : Req) (run : WholeRun) (buf : List ℕ) (some : 0 < A) (i
       let below : m < run.n = omega (arith, whole) in
       let all : m + 1 ≡ run.n = omega (arith, whole) in
       let here : run.b + m + 1 ≡ run.b + run.n = omega (arith, whole) in
-      ap (λ r. followed A r (ByStripe (Filled (block_of A run buf m)))) (loads-before m below)
+      ap (λ r. followed A r (ByStripe (Filled (run_block A run buf m)))) (loads-before m below)
       ∙ load-next m t below test
       ∙ ap (λ n. record q { stage = In run.k (cond t (ToEnd (Got (take (run.at + n * A) buf))) (ToLoad (run.b + m + 1) (take (run.at + n * A) buf))) }) all
       ∙ ap (λ n. record q { stage = In run.k (cond t (ToEnd (Got (take (run.at + run.n * A) buf))) (ToLoad n (take (run.at + run.n * A) buf))) }) here

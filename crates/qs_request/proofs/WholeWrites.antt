@@ -10,7 +10,7 @@ use Rattle.qs_model.specs.Requests.{Client, Pads, Req, Step, In, ToStore, body_a
 use Rattle.qs_request.specs.declared.todo.PartReply.TheVariants.{Stripe as ByStripe}
 use Rattle.qs_request.specs.declared.whole_run.WholeRun.{WholeRun}
 use Rattle.qs_request.specs.Table.{IsMerged, followed}
-use Rattle.qs_request.specs.WholeRuns.{IsWholeRun, IsWritingRun, behind_stores, block_of}
+use Rattle.qs_request.specs.WholeRuns.{IsWholeRun, IsWritingRun, behind_stores, run_block}
 use Rattle.qs_request.proofs.WholeReads.{isnt-last, run-ends}
 
 -- a place of the span is covered
@@ -19,7 +19,7 @@ covered c x low high = rw (le-leb (span_of c).lo x low, lt-ltb x (span_of c).hi 
 
 -- a block that the span covers wholly gets the body's bytes
 pub whole-merged : (A : ℕ) (c : Client) (p : Pads) (run : WholeRun) (i : ℕ) → IsWholeRun A (span_of c) run → i < run.n
-    → IsMerged A c p (run.b + i) (block_of A run c.body i)
+    → IsMerged A c p (run.b + i) (run_block A run c.body i)
 whole-merged A c p run i is below x small =
     let ends = run-ends A run.b run.n i below in
     let at : (run.b + i) * A + x - (span_of c).lo ≡ run.at + i * A + x = omega (arith, is.place) in
@@ -52,13 +52,13 @@ module _ (A : ℕ) (q : Req) (run : WholeRun) (buf : List ℕ) (some : 0 < A) (i
       let ends = run-ends A run.b run.n (i + 1) (omega (arith, below)) in
       let more : (run.b + i) * A + A < (span_of q.client).hi = omega (arith, ends, is.whole_run.inside, some) in
       let here : run.b + i + 1 ≡ run.b + suc i = omega arith in
-      ap (λ r. followed A r (ByStripe (Done (block_of A run buf i)))) (stores-before i earlier)
+      ap (λ r. followed A r (ByStripe (Done (run_block A run buf i)))) (stores-before i earlier)
       ∙ ap (λ (s : Step). record q { stage = In run.k s })
       (stored-more A q.client (run.b + i) (isnt-last A q.client (run.b + i) some some-span more) ∙ ap (λ n. ToStore n) here)
 
   -- behind the block of number m: one that was done, one that the disk refused, and one that another place holds
   pub store-done : (m : ℕ) → m < run.n → behind_stores A run buf q (suc m) ≡ record q { stage = In run.k (stored A q.client (run.b + m)) }
-  store-done m below = ap (λ r. followed A r (ByStripe (Done (block_of A run buf m)))) (stores-before m below)
+  store-done m below = ap (λ r. followed A r (ByStripe (Done (run_block A run buf m)))) (stores-before m below)
 
   pub stores-fail : (m : ℕ) → m < run.n → (back : List ℕ)
       → followed A (behind_stores A run buf q m) (ByStripe (Fault (Some back))) ≡ record q { stage = In run.k (store_failed A q.client (run.b + m)) }

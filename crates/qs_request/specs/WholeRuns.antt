@@ -19,8 +19,8 @@ pub record IsWholeRun (A : ℕ) (s : Places) (run : WholeRun) : Type 0 where
   pub most : (run.b % 16 + run.n ≡ 16) ⊎ (s.hi < (run.b + run.n) * A + A)
 
 -- the bytes of block i of a run, in the request's buffer
-abbrev pub block_of : ℕ → WholeRun → List ℕ → ℕ → List ℕ
-block_of A run buf i = part buf (run.at + i * A) A
+abbrev pub run_block : ℕ → WholeRun → List ℕ → ℕ → List ℕ
+run_block A run buf i = part buf (run.at + i * A) A
 
 -- a READ whose next operations load these blocks, and that has the bytes before them in its buffer
 pub record IsReadingRun (A : ℕ) (q : Req) (run : WholeRun) (buf : List ℕ) : Type 0 where
@@ -31,7 +31,7 @@ pub record IsReadingRun (A : ℕ) (q : Req) (run : WholeRun) (buf : List ℕ) : 
 -- the READ behind i loads of the run, which found the blocks that are in the buffer now
 abbrev pub behind_loads : ℕ → WholeRun → List ℕ → Req → ℕ → Req
 behind_loads A run buf q zero = q
-behind_loads A run buf q (suc i) = followed A (behind_loads A run buf q i) (ByStripe (Filled (block_of A run buf i)))
+behind_loads A run buf q (suc i) = followed A (behind_loads A run buf q i) (ByStripe (Filled (run_block A run buf i)))
 
 -- what it does next behind the whole run: the next block, or its end
 abbrev pub next_read : ℕ → Client → WholeRun → List ℕ → Step
@@ -47,7 +47,7 @@ pub record IsWritingRun (A : ℕ) (q : Req) (run : WholeRun) : Type 0 where
 -- the WRITE behind i stores of the run
 abbrev pub behind_stores : ℕ → WholeRun → List ℕ → Req → ℕ → Req
 behind_stores A run buf q zero = q
-behind_stores A run buf q (suc i) = followed A (behind_stores A run buf q i) (ByStripe (Done (block_of A run buf i)))
+behind_stores A run buf q (suc i) = followed A (behind_stores A run buf q i) (ByStripe (Done (run_block A run buf i)))
 
 -- What the loads of a run make of a READ, block by block: each is the next operation, the last one leads to the block behind
 -- the run or to the answer, and one that the disk refuses ends the READ.
@@ -61,7 +61,7 @@ pub record AreLoads (A : ℕ) (q : Req) (run : WholeRun) (buf : List ℕ) : Type
 -- that the disk refuses ends the WRITE, and one whose block another place holds stays next.
 pub record AreStores (A : ℕ) (q : Req) (run : WholeRun) : Type 0 where
   pub before : (i : ℕ) → i < run.n → behind_stores A run q.client.body q i ≡ record q { stage = In run.k (ToStore (run.b + i)) }
-  pub content : (i : ℕ) → i < run.n → IsMerged A q.client q.pads (run.b + i) (block_of A run q.client.body i)
+  pub content : (i : ℕ) → i < run.n → IsMerged A q.client q.pads (run.b + i) (run_block A run q.client.body i)
   pub done : (m : ℕ) → m < run.n → behind_stores A run q.client.body q (suc m) ≡ record q { stage = In run.k (stored A q.client (run.b + m)) }
   pub fails : (m : ℕ) → m < run.n → (back : List ℕ) →
       followed A (behind_stores A run q.client.body q m) (ByStripe (Fault (Some back)))

@@ -1,6 +1,6 @@
 ghost use Rattle.std.specs.Prelude.{◌≡◌, [], length, IsSome};
 ghost use Rattle.std.specs.Option.{ForSome};
-ghost use Rattle.qs_model.specs.Requests.{asked};
+ghost use Rattle.qs_model.specs.Requests.{new_request};
 ghost use Rattle.qs_request_state.specs.Shapes.{IsShape, IsRoom};
 ghost use Rattle.qs_request.specs.Value.{client_for, given_bytes, has_buffers};
 ghost use Rattle.qs_request.specs.Inside.{IsFree, first_stage, request_of};
@@ -77,7 +77,7 @@ impl Machine {
         requires shape { IsShape shape }
         requires body { ForSome body (λ bytes. length bytes ≡ ask.length) }
         requires blocks { ForSome blocks (IsRoom shape.align) }
-        ensures request { request_of result ≡ asked (client_for session ask export body blocks) }
+        ensures request { request_of result ≡ new_request (client_for session ask export body blocks) }
         ensures shape { result.shape ≡ shape }
         ensures free { IsFree result }
     {

@@ -2,7 +2,7 @@ ghost use Rattle.std.specs.Prelude.{◌≡◌, ◌↔◌, ◌*◌, IfNone, IfSom
 ghost use Rattle.std.specs.Option.{ForSome};
 ghost use Rattle.qs_bytes.specs.Geometry.{stripe_of};
 ghost use Rattle.qs_stripe.specs.Table.{geometry, value_of as stripe_value};
-ghost use Rattle.qs_model.specs.Requests.{abandon, asked};
+ghost use Rattle.qs_model.specs.Requests.{abandon, new_request};
 ghost use Rattle.qs_request.specs.declared.whole_run.WholeRun.{WholeRun as Run};
 ghost use Rattle.qs_request.specs.RunSteps.{AreZeros, IsNextRun, RanOut, geometry_for};
 ghost use Rattle.qs_request_state.specs.Shapes.{IsShape, IsRoom};
@@ -61,7 +61,7 @@ impl Req {
         requires body { ForSome body (λ bytes. length bytes ≡ ask.length) }
         requires blocks { ForSome blocks (IsRoom shape.align) }
         ensures { result ≡ record {
-          request = asked (client_for session ask e body blocks);
+          request = new_request (client_for session ask e body blocks);
           shape = shape;
           waits = false;
           answered = false;

@@ -6,17 +6,17 @@ use Rattle.qs_status.specs.declared.status.Status.TheVariants as status
 use Rattle.qs_outside.specs.Blocks.{Seen}
 use Rattle.qs_image.specs.Image.{align_of, block_now, disk}
 use Rattle.qs_model.specs.Acts.{Exported}
-use Rattle.qs_model.specs.Steps.{after}
+use Rattle.qs_model.specs.Steps.{world_after}
 use Rattle.qs_bytes.specs.Geometry.{stripe_of}
 use Rattle.qs_model.specs.Worlds.{World}
 use Rattle.qs_world.specs.Stands.{Stands}
 use Rattle.qs_world.specs.Values.{WorldValue}
 use Rattle.qs_world.proofs.Opening.{disk_of}
 use Rattle.qs_calls.specs.Calls.{AreCalls, Call, Plays}
-use Rattle.qs_calls.specs.Runs.{export, exported, opened}
+use Rattle.qs_calls.specs.Runs.{image_export, exported, opened_world}
 use Rattle.qs_replay.specs.Runs.{IsReplayed, most_lines, no_names, first_scene}
 use Rattle.qs_same_replay.specs.Same.{AreCalm, AreComparable, AreSame, IsSmooth}
-use Rattle.qs_replay.specs.Scripts.{AllDone, Ends, ReachesLine, Replays, lines_of}
+use Rattle.qs_replay.specs.Scripts.{AllDone, EndsScript, ReachesLine, Replays, lines_of}
 use Rattle.qs_replay_lines.specs.Tables.{Names}
 use Rattle.qs_replay.proofs.Reaching.{splits_of}
 use Rattle.qs_calls.proofs.Runs.{Starts, starts}
@@ -38,7 +38,7 @@ first_lines _ budget lines texts w t reach = reach
 
 -- a smooth replay broke no line off that had calls
 nothing_cut : {D : Type 0} (result : Status) (budget : ℕ) (texts : List (List ℕ)) (taken : List ℕ) (cut : List Call) (w : WorldValue D) (t : Names)
-    (left : Option (List ℕ)) (waiting : List ℕ) → IsSmooth result → Ends result budget texts taken cut w t left waiting → cut ≡ []
+    (left : Option (List ℕ)) (waiting : List ℕ) → IsSmooth result → EndsScript result budget texts taken cut w t left waiting → cut ≡ []
 nothing_cut status.Done budget texts taken cut w t left waiting smooth ends = ends.2
 nothing_cut (status.BadLine n) budget texts taken cut w t left waiting smooth ends = ends.1.why.0
 nothing_cut (status.NotNext n) budget texts taken cut w t left waiting smooth ends = ends.1.why.0
@@ -76,7 +76,7 @@ side {D} {seen} {disks} {left} {sent} {result} one script told smooth calm =
     let s : Starts seen disks false one.begins.exports.place one.start = starts seen disks false one.start one.begins in
     let stands : Stands seen one.start m =
     subst (λ (p : ℕ). Stands seen one.start (exported (map seen disks) false p))
-    (place_one (opened (map seen disks) false).graph (export false) one.run.place one.begins.exports.place one.run.run.0 s.may) s.stands in
+    (place_one (opened_world (map seen disks) false).graph (image_export false) one.run.place one.begins.exports.place one.run.run.0 s.may) s.stands in
     let none : r.cut ≡ [] = nothing_cut result most_lines r.texts r.taken r.cut r.world r.names one.after_all.flow.input.bytes one.after_all.flow.stream.waiting smooth r.ends in
     let whole : r.calls ++ r.cut ≡ r.calls = ap (λ (cs : List Call). r.calls ++ cs) none ∙ append-nil r.calls in
     let same : one.after_all.world ≡ r.world = subst (λ (cs : List Call). Plays seen r.world cs one.after_all.world) none r.cut_plays in
@@ -92,11 +92,11 @@ side {D} {seen} {disks} {left} {sent} {result} one script told smooth calm =
         split = splits_of script r.taken left one.after_all.flow.input.bytes [] one.after_all.flow.stream.waiting told refl r.moved.takes;
         ends = r.ends;
       };
-      model = after A m one.run.elements;
+      model = world_after A m one.run.elements;
       calm = calmly A m r.calls one.run.elements (subst (λ (cs : List Call). AreCalls A cs one.run.elements) whole one.run.are) one.run.run.1
           (undisturbed seen A one.start one.after_all.world m (r.calls ++ r.cut) one.run.elements one.run.fulls s.align stands one.run.walked calm)
-          (never_later (Exported (export false) one.run.place) one.run.elements one.run.besides.never_odd);
-      stands = subst (λ (w : WorldValue D). Stands seen w (after A m one.run.elements)) same one.run.stands;
+          (never_later (Exported (image_export false) one.run.place) one.run.elements one.run.besides.never_odd);
+      stands = subst (λ (w : WorldValue D). Stands seen w (world_after A m one.run.elements)) same one.run.stands;
       disks_are = one.disks_are ∙ ap (λ (w : WorldValue D). map (λ s. s.disk) w.stripes) same;
       align = s.align;
       begun = stands;

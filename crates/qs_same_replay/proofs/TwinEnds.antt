@@ -20,14 +20,14 @@ use Rattle.qs_script.specs.declared.line.Line.TheVariants as line
 use Rattle.qs_script.proofs.OneLine.{one_line}
 use Rattle.qs_model.specs.Acts.{Element, Attached, NoExport, Crowded, Left, Detached, NotAttached, Asked, Did}
 use Rattle.qs_model.specs.Events.{IsEvent}
-use Rattle.qs_model.specs.Guards.{May, HasRequest}
+use Rattle.qs_model.specs.Guards.{CanCome, HasRequest}
 use Rattle.qs_model.specs.Requests.{Req}
 use Rattle.qs_model.specs.Worlds.{Session, Away, Live, Leaving, World}
 use Rattle.qs_world.specs.Events.{IsNotNext}
 use Rattle.qs_world.specs.Stands.{Stands}
 use Rattle.qs_world.specs.Values.{WorldValue, request_at, session_at}
 use Rattle.qs_calls.specs.Calls.{Call, Happened}
-use Rattle.qs_replay_lines.specs.Effects.{Acts, CallsOf, Does, DrivesNotLive, IsActor, IsEventOf, IsNotLive, Adds, AskedBy, UsesAgain, bytes_or, flush_ask, read_ask, trim_ask, write_ask, zero_ask}
+use Rattle.qs_replay_lines.specs.Effects.{Acts, CallsOf, DoesLine, DrivesNotLive, IsActor, IsEventOf, IsNotLive, Adds, AskedBy, UsesAgain, bytes_or, flush_ask, read_ask, trim_ask, write_ask, zero_ask}
 use Rattle.qs_calls.specs.Goings.{GoesOn}
 use Rattle.qs_replay.specs.Readings.{IsText}
 use Rattle.qs_replay.specs.Scripts.{DoesText, IsBad, IsUntimely}
@@ -46,7 +46,7 @@ note_fresh made o n ask body t t' is notes = go o (subst (λ (e : Event). Adds e
     go _ notes = absurd notes
 
 -- a line that was done doesn't use a cookie again
-used_never : (t t1 : Names) (l : Line) (lost : Bool) (calls : List Call) (printed : List ℕ) → Does t l lost calls printed t1 → UsesAgain t l → ⊥
+used_never : (t t1 : Names) (l : Line) (lost : Bool) (calls : List Call) (printed : List ℕ) → DoesLine t l lost calls printed t1 → UsesAgain t l → ⊥
 used_never t t1 (line.Read s c offset long) lost calls printed does again =
     let (n, body, (gives, room, made_is)) = does.event_is in
     asks_once t does.mid (line.Read s c offset long) lost n s (read_ask c offset long) body (refl, refl, room) gives
@@ -92,7 +92,7 @@ found_never t mid (who.Request s c) a is gone =
     none-some is.1 (sym gone.2.1
     ∙ subst (λ (u : Names). map.get u.live (gone.0, c) ≡ Some is.1) (sym same.1) (subst (λ (n : ℕ). map.get mid.live (n, c) ≡ Some is.1) (sym same.0) is.2.1))
 
-driven_never : (t t1 : Names) (l : Line) (lost : Bool) (calls : List Call) (printed : List ℕ) → Does t l lost calls printed t1 → DrivesNotLive t l → ⊥
+driven_never : (t t1 : Names) (l : Line) (lost : Bool) (calls : List Call) (printed : List ℕ) → DoesLine t l lost calls printed t1 → DrivesNotLive t l → ⊥
 driven_never t t1 (line.Step a now) lost calls printed does unmade = found_never t does.mid a does.event_is.0 does.event_is.1.0 unmade
 driven_never t t1 (line.Run a now) lost calls printed does unmade = found_never t does.mid a does.event_is.0 does.event_is.1.0 unmade
 driven_never t t1 line.Nothing lost calls printed does unmade = unmade
@@ -145,7 +145,7 @@ same_target w t mid mid' (line.Fail j k) lost lost' made made' is at not_next = 
 same_target w t mid mid' (line.Crash choice) lost lost' made made' is at not_next = absurd is
 
 -- an event that came to one of two twins can come to the other
-comes_never : {D : Type 0} (seen : D → Seen) (A : ℕ) (w : WorldValue D) (m m' : World) (made : Event) (e : Element) → Stands seen w m → Alike m m' → IsEvent made e → May A m' e →
+comes_never : {D : Type 0} (seen : D → Seen) (A : ℕ) (w : WorldValue D) (m m' : World) (made : Event) (e : Element) → Stands seen w m → Alike m m' → IsEvent made e → CanCome A m' e →
     IsNotNext w made → ⊥
 comes_never seen A w m m' made e stands alike is may not_next = go made e is may not_next
   where
@@ -175,7 +175,7 @@ comes_never seen A w m m' made e stands alike is may not_next = go made e is may
     stands_still s e is none (inl f) = f e (session_is s (Leaving e) is)
     stands_still s e is none (inr h) = none (h.0, h.1, (alike.req h.0 ∙ stands.request h.0 ∙ h.2.0, h.2.1))
 
-    go : (made : Event) (e : Element) → IsEvent made e → May A m' e → IsNotNext w made → ⊥
+    go : (made : Event) (e : Element) → IsEvent made e → CanCome A m' e → IsNotNext w made → ⊥
     go (event.Attach n name) (Attached s given info) is may f = f (ap (session_at w.sessions) is.0 ∙ session_is s Away may.0)
     go (event.Attach n name) (NoExport s given) is may f = f (ap (session_at w.sessions) is.0 ∙ session_is s Away may.0)
     go (event.Attach n name) (Crowded s given) is may f = f (ap (session_at w.sessions) is.0 ∙ session_is s Away may.0)
@@ -194,7 +194,7 @@ comes_never seen A w m m' made e stands alike is may not_next = go made e is may
     go _ _ is may f = absurd is
 
 -- what a line does that makes an event
-acts_of : (t t1 mid : Names) (l : Line) (lost gone : Bool) (calls : List Call) (printed : List ℕ) (made : Event) → Does t l lost calls printed t1 → IsEventOf t l gone made mid →
+acts_of : (t t1 mid : Names) (l : Line) (lost gone : Bool) (calls : List Call) (printed : List ℕ) (made : Event) → DoesLine t l lost calls printed t1 → IsEventOf t l gone made mid →
     Acts t l lost calls printed t1
 acts_of t t1 mid line.Nothing lost gone calls printed made does is = absurd is
 acts_of t t1 mid (line.Fail j k) lost gone calls printed made does is = absurd is

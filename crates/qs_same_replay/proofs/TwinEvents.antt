@@ -19,11 +19,11 @@ use Rattle.qs_model.specs.Requests.{form_error, wants_body}
 use Rattle.qs_model.proofs.Basics.{either}
 use Rattle.qs_same_replay.specs.Same.{IsGiven}
 use Rattle.qs_replay_lines.specs.Effects.{Adds, IsActor, IsKey, IsRoom, Notes, Settles, bytes_or, read_ask, write_ask}
-use Rattle.qs_replay_lines.specs.Tables.{Gives, Names, settled}
+use Rattle.qs_replay_lines.specs.Tables.{GivesName, Names, names_settled}
 use Rattle.qs_replay_lines.proofs.Playing.{gives_number, known_one}
 
 -- a name has one number
-pub gives_one : (t a b : Names) (s : List ℕ) (n m : ℕ) → Gives t s n a → Gives t s m b → (m ≡ n) × (b ≡ a)
+pub gives_one : (t a b : Names) (s : List ℕ) (n m : ℕ) → GivesName t s n a → GivesName t s m b → (m ≡ n) × (b ≡ a)
 gives_one t a b s n m (inl p) (inl q) = (gives_number t b a s m n (inl q) (inl p), q.1 ∙ sym p.1)
 gives_one t a b s n m (inl p) (inr q) = absurd (q.0 n p.0.inside p.0.here)
 gives_one t a b s n m (inr p) (inl q) = absurd (p.0 m q.0.inside q.0.here)
@@ -87,7 +87,7 @@ key_one t (who.Session s) x y is at = at ∙ sym is
 key_one t (who.Request s c) x y is at = at.1.1 ∙ ap (λ (n : ℕ). Some (n, c)) (known_one t.sessions s at.0 is.0 at.1.0 is.1.0) ∙ sym is.1.1
 
 settles_one : (w : ScriptActor) (o : Outcome) (t a b : Names) → Settles w o t a → Settles w o t b → b ≡ a
-settles_one w o t a b p q = q.1.1 ∙ ap (λ (k : Option (ℕ × ℕ)). settled t k o) (key_one t w p.0 q.0 p.1.0 q.1.0) ∙ sym p.1.1
+settles_one w o t a b p q = q.1.1 ∙ ap (λ (k : Option (ℕ × ℕ)). names_settled t k o) (key_one t w p.0 q.0 p.1.0 q.1.0) ∙ sym p.1.1
 
 adds_one : (made : Event) (o : Outcome) (t a b : Names) → Adds made o t a → Adds made o t b → b ≡ a
 adds_one (event.Ask n ask body) (outcome.Made r) t a b p q = q.1 ∙ sym p.1

@@ -13,7 +13,7 @@ use Rattle.qs_calls.specs.Calls.{Call}
 use Rattle.qs_replay_lines.specs.Effects.{UsesAgain}
 use Rattle.qs_replay.specs.Readings.{IsText}
 use Rattle.qs_same_replay.specs.Same.{IsSmooth}
-use Rattle.qs_replay.specs.Scripts.{DoesText, Ends, IsBad, IsNextLine, IsUntimely, ReachesLine, spelled}
+use Rattle.qs_replay.specs.Scripts.{DoesText, EndsScript, IsBad, IsNextLine, IsUntimely, ReachesLine, spelled_lines}
 use Rattle.qs_replay_lines.specs.Tables.{Names}
 use Rattle.qs_replay.proofs.Reaching.{Splits, whole_of}
 use Rattle.qs_replay.proofs.Replaying.{spelled_more}
@@ -51,7 +51,7 @@ pub record Ended {D : Type 0} (script : List ℕ) (lines : List (List ℕ)) (bud
   pub left : Option (List ℕ)
   pub waiting : List ℕ
   pub split : Splits script taken left waiting
-  pub ends : Ends result budget texts taken cut w t left waiting
+  pub ends : EndsScript result budget texts taken cut w t left waiting
 
 -- a script ends in one of four ways
 abbrev pub is_end : Status → Bool
@@ -96,22 +96,22 @@ module _ {D : Type 0} (seen : D → Seen) (script : List ℕ) (lines : List (Lis
       whole : script ≡ done.taken
       whole = whole_of script done.taken done.left done.waiting done.split done.ends.1
 
-      go : (done.taken ≡ spelled texts) ⊎ ((front : List (List ℕ)) × (text : List ℕ) × ((texts ≡ front ++ text ∷ []) × (text ≢ []) × (done.taken ≡ spelled front ++ text))) → ⊥
+      go : (done.taken ≡ spelled_lines texts) ⊎ ((front : List (List ℕ)) × (text : List ℕ) × ((texts ≡ front ++ text ∷ []) × (text ≢ []) × (done.taken ≡ spelled_lines front ++ text))) → ⊥
       go (inl is) = omega (arith, done.ends.3 is, spent.ends.0)
       go (inr bare) =
           let (front, text, (is, filled, at)) = bare in
-          let long : length done.taken ≡ length (spelled front ++ text) = ap length at in
-          let spelled_is : spelled texts ≡ spelled front ++ (text ++ 10 ∷ []) = ap spelled is ∙ spelled_more front text in
-          let same : length done.taken ≡ length (spelled texts ++ spent.split.more) =
+          let long : length done.taken ≡ length (spelled_lines front ++ text) = ap length at in
+          let spelled_is : spelled_lines texts ≡ spelled_lines front ++ (text ++ 10 ∷ []) = ap spelled_lines is ∙ spelled_more front text in
+          let same : length done.taken ≡ length (spelled_lines texts ++ spent.split.more) =
           ap length (sym whole ∙ spent.split.is ∙ ap (λ (l : List ℕ). l ++ spent.split.more) spent.ends.1) in
           omega (
             arith,
             long,
             same,
             ap length spelled_is,
-            length-append (spelled front) text,
-            length-append (spelled texts) spent.split.more,
-            length-append (spelled front) (text ++ 10 ∷ []),
+            length-append (spelled_lines front) text,
+            length-append (spelled_lines texts) spent.split.more,
+            length-append (spelled_lines front) (text ++ 10 ∷ []),
             length-append text (10 ∷ []),
           )
 

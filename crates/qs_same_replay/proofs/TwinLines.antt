@@ -23,7 +23,7 @@ use Rattle.qs_determined.specs.Determined.{Alike, Cuts, Makes}
 use Rattle.qs_calls.specs.Calls.{Call, Happened, Rigged, PowerFailed, ExportMade, anew}
 use Rattle.qs_same_replay.proofs.Calm.{IsAnew}
 use Rattle.qs_same_replay.proofs.LeftAlike.{AreLeftAlike, left_front, left_rest}
-use Rattle.qs_replay_lines.specs.Effects.{Acts, AskedBy, Does, IsRoom, Notes, bytes_or, flush_ask, read_ask, text_of, trim_ask, write_ask, zero_ask}
+use Rattle.qs_replay_lines.specs.Effects.{Acts, AskedBy, DoesLine, IsRoom, Notes, bytes_or, flush_ask, read_ask, line_text_of, trim_ask, write_ask, zero_ask}
 use Rattle.qs_calls.specs.Goings.{GoesOn, RunsOut, goes_on}
 use Rattle.qs_replay.specs.Scripts.{AllDone, DoesText}
 use Rattle.qs_replay_lines.specs.Tables.{Names}
@@ -105,7 +105,7 @@ module _ (A : ℕ) where
       Together n n' calls calls' printed printed' t1 t1'
   acts_one n n' t t1 t1' l lost lost' calls calls' printed printed' does also event_is mid_is both = record {
     calls_are = both.0;
-    printed_are = also.text_is ∙ ap (text_of l) both.1 ∙ sym does.text_is;
+    printed_are = also.text_is ∙ ap (line_text_of l) both.1 ∙ sym does.text_is;
     names_are = notes_one l does.made does.outcome does.mid t1 t1' does.notes (subst (λ (e : Event). Notes l e does.outcome does.mid t1') event_is
         (subst (λ (u : Names). Notes l also.made does.outcome u t1') mid_is (subst (λ (z : Outcome). Notes l also.made z also.mid t1') both.1 also.notes)));
     twins = both.2;
@@ -155,7 +155,7 @@ module _ (A : ℕ) where
 
   -- one line
   twin_line : (m m' n n' : World) (t : Names) (l : Line) (lost lost' : Bool) (calls calls' : List Call) (printed printed' : List ℕ) (t1 t1' : Names) →
-      Twins m m' → Does t l lost calls printed t1 → Does t l lost' calls' printed' t1' → AreLeftAlike calls calls' → Calmly A m calls n → Calmly A m' calls' n' →
+      Twins m m' → DoesLine t l lost calls printed t1 → DoesLine t l lost' calls' printed' t1' → AreLeftAlike calls calls' → Calmly A m calls n → Calmly A m' calls' n' →
       Together n n' calls calls' printed printed' t1 t1'
   twin_line m m' n n' t line.Nothing lost lost' calls calls' printed printed' t1 t1' twins does also alike one two = record {
     calls_are = also.calls_are ∙ sym does.calls_are;
@@ -277,7 +277,7 @@ module _ (A : ℕ) where
       subst (λ (x : List Call). AreLeftAlike x (also.first ++ also.later)) done.calls_are (subst (λ (x : List Call). AreLeftAlike calls x) also.calls_are alike) in
       let head : Together mid mid' done.first also.first done.words also.words done.names also.names =
       twin_line m m' mid mid' t done.does.line done.does.lost d.lost done.first also.first done.words also.words done.names also.names twins done.does.is.does
-      (subst (λ (l : Line). Does t l d.lost also.first also.words also.names) same d.is.does)
+      (subst (λ (l : Line). DoesLine t l d.lost also.first also.words also.names) same d.is.does)
       (left_front done.first done.later also.first also.later left) front front_too in
       let tail : Behind seen A n n' rest done.later also.later done.more also.more v' t1 t1' =
       twin_texts seen done.world also.world v v' mid mid' n n' done.names also.names texts rest done.later also.later done.more also.more t1 t1' head.twins head.names_are

@@ -14,12 +14,12 @@ use Rattle.qs_model.specs.Steps.{happens}
 use Rattle.qs_model.specs.Worlds.{World}
 use Rattle.qs_world.specs.Openings.{tells_of}
 use Rattle.qs_world.specs.Values.{WorldValue}
-use Rattle.qs_calls.specs.Runs.{Begins, export, opened}
+use Rattle.qs_calls.specs.Runs.{Begins, image_export, opened_world}
 use Rattle.qs_same_replay.specs.Same.{OpenAlike}
 use Rattle.qs_same_replay.proofs.Twins.{Twins}
 
 -- what a core began with tells its content
-told : {D : Type 0} (seen : D → Seen) (disks : List D) (w : WorldValue D) → Begins seen disks false w → AllTell (map seen disks) → IsTrue (opened (map seen disks) false).tells
+told : {D : Type 0} (seen : D → Seen) (disks : List D) (w : WorldValue D) → Begins seen disks false w → AllTell (map seen disks) → IsTrue (opened_world (map seen disks) false).tells
 told {D} seen disks w begins tell = each disks (λ k below. tell k (omega (arith, below, sym (length-map disks seen) ∙ begins.opened.image.0.0)))
   where
     both : (b c : Bool) → IsTrue b → IsTrue c → IsTrue (b && c)
@@ -43,22 +43,22 @@ place_one v (Route e) place other a b = absurd a
 
 -- the openings of two such cores, with their exports, are twins
 pub twins_begin : {D : Type 0} (seen : D → Seen) (disks others : List D) (w w' : WorldValue D) (place place_too : ℕ) → Begins seen disks false w → Begins seen others false w' →
-    GraphMay (opened (map seen disks) false).graph (export false) (Added place) → GraphMay (opened (map seen others) false).graph (export false) (Added place_too) →
+    GraphMay (opened_world (map seen disks) false).graph (image_export false) (Added place) → GraphMay (opened_world (map seen others) false).graph (image_export false) (Added place_too) →
     OpenAlike (map seen disks) (map seen others) →
-    Twins (happens (align_of (map seen disks)) (opened (map seen disks) false) (Exported (export false) place))
-    (happens (align_of (map seen others)) (opened (map seen others) false) (Exported (export false) place_too))
+    Twins (happens (align_of (map seen disks)) (opened_world (map seen disks) false) (Exported (image_export false) place))
+    (happens (align_of (map seen others)) (opened_world (map seen others) false) (Exported (image_export false) place_too))
 twins_begin seen disks others w w' place place_too one two may may_too alike =
-    let o : World = opened (map seen disks) false in
-    let o' : World = opened (map seen others) false in
+    let o : World = opened_world (map seen disks) false in
+    let o' : World = opened_world (map seen others) false in
     let graph : o'.graph ≡ o.graph = ap (λ (n : ℕ). fresh n (codes "file0") false) alike.size in
-    let place_is : place_too ≡ place = place_one o.graph (export false) place place_too may (subst (λ (g : GraphValue). GraphMay g (export false) (Added place_too)) graph may_too) in
+    let place_is : place_too ≡ place = place_one o.graph (image_export false) place place_too may (subst (λ (g : GraphValue). GraphMay g (image_export false) (Added place_too)) graph may_too) in
     record {
       alike = record {
         tells = told seen others w' two alike.tell_too ∙ sym (told seen disks w one alike.tell);
         next = refl;
         req = λ r. refl;
         session = λ s. refl;
-        graph = ap (λ (p : ℕ). after o'.graph (export false) (Added p)) place_is ∙ ap (λ (g : GraphValue). after g (export false) (Added place)) graph;
+        graph = ap (λ (p : ℕ). after o'.graph (image_export false) (Added p)) place_is ∙ ap (λ (g : GraphValue). after g (image_export false) (Added place)) graph;
         clients = λ e. refl;
         tracker = refl;
         now = alike.now;

@@ -9,14 +9,14 @@ use Rattle.qs_part.specs.declared.graph.GraphOp.{GraphOp}
 use Rattle.qs_part.specs.declared.graph.GraphReply.TheVariants.{Added}
 use Rattle.qs_graph.specs.Table.{GraphValue, May as GraphMay}
 use Rattle.qs_outside.specs.declared.crash.CrashChoice.{CrashChoice}
-use Rattle.qs_model.specs.Guards.{May}
+use Rattle.qs_model.specs.Guards.{CanCome}
 use Rattle.qs_model.specs.Acts.{Element, Asked, Crashed, Exported}
 use Rattle.qs_determined.specs.Determined.{Alike, Input, Happens, Fails, Cuts, Makes, IsGivenAlike, IsInput}
 use Rattle.qs_determined.proofs.Steps.{Comes, added_one, one_outcome}
-use Rattle.qs_model.specs.Events.{Brings, IsEvent, outcome_of}
+use Rattle.qs_model.specs.Events.{BringsBytes, IsEvent, outcome_of}
 use Rattle.qs_model.specs.Laws.{NeverOdd}
 use Rattle.qs_model.specs.Requests.{Client, form_error, wants_body}
-use Rattle.qs_model.specs.Steps.{Runs, after, happens}
+use Rattle.qs_model.specs.Steps.{Runs, world_after, happens}
 use Rattle.qs_model.specs.Worlds.{World}
 use Rattle.qs_model.proofs.Basics.{either}
 use Rattle.qs_calls.specs.Calls.{AreCalls, Call, Happened, Rigged, PowerFailed, ExportMade}
@@ -55,7 +55,7 @@ never_later e es never before d follows = never (e ∷ before) d (follows.0, ap 
 
 -- a run that nothing outside disturbed
 pub calmly : (A : ℕ) (m : World) (calls : List Call) (es : List Element) → AreCalls A calls es → Runs A m es → AreUndisturbed A m es → NeverOdd es →
-    Calmly A m calls (after A m es)
+    Calmly A m calls (world_after A m es)
 calmly A m [] [] are run calm never = refl
 calmly A m [] (e ∷ es) are run calm never = absurd are
 calmly A m (c ∷ cs) [] are run calm never = absurd are
@@ -116,11 +116,11 @@ IsTame other = Unit {0}
 buffered_is : (n r : ℕ) (ask : Ask) (body : Option (List ℕ)) (c : Client) → IsTame (Happens (event.Ask n ask body)) → IsEvent (event.Ask n ask body) (Asked r c) →
     IsGiven (Asked r c) → c.buffered ≡ not (form_error ask)
 buffered_is n r ask body c tame is given = elim (either (form_error ask)) [
-  | inl bad ↦ lacks (tame bad) (subst (λ (b : Option (List ℕ)). Brings b c) (tame bad).0 is.2) ∙ sym (ap not bad)
+  | inl bad ↦ lacks (tame bad) (subst (λ (b : Option (List ℕ)). BringsBytes b c) (tame bad).0 is.2) ∙ sym (ap not bad)
   | inr good ↦ given (ap form_error (sym is.1) ∙ good) ∙ sym (ap not good)
 ]
   where
-    lacks : (body ≡ None) × (wants_body ask ≡ true) → Brings None c → c.buffered ≡ false
+    lacks : (body ≡ None) × (wants_body ask ≡ true) → BringsBytes None c → c.buffered ≡ false
     lacks bare none = elim none.wanted [
       | inl unwanted ↦ absurd (true≢false (sym bare.1 ∙ ap wants_body is.1 ∙ unwanted))
       | inr refused ↦ refused
@@ -156,7 +156,7 @@ twin_call A m m' c c' t one two same tame =
     one_told x y e = cc
 
     call_one : (c c' : Call) (e d : Element) → input_of c' ≡ input_of c → HasOutcome A c e → HasOutcome A c' d → outcome_of A d ≡ outcome_of A e →
-        May A m e → May A m' d → c' ≡ c
+        CanCome A m e → CanCome A m' d → c' ≡ c
     call_one (Happened made x) (Happened made' y) e d same told told_too is may may_too =
         let event_is : made' ≡ made = cc in
         ap (λ (i : Event). Happened i y) event_is ∙ ap (Happened made) (one_told y x (sym told_too ∙ is ∙ told))
@@ -170,9 +170,9 @@ twin_call A m m' c c' t one two same tame =
         ap (λ (x : CrashChoice). PowerFailed x blocks) choice_is ∙ ap (PowerFailed choice) left_is
     call_one (ExportMade op place) (ExportMade other k) e d same told told_too is may may_too =
         let op_is : other ≡ op = cc in
-        let place_is : k ≡ place = added_one m.graph op place k (subst (May A m) told may)
+        let place_is : k ≡ place = added_one m.graph op place k (subst (CanCome A m) told may)
         (subst (λ (g : GraphValue). GraphMay g op (Added k)) t.alike.graph
-        (subst (λ (o : GraphOp). GraphMay m'.graph o (Added k)) op_is (subst (May A m') told_too may_too))) in
+        (subst (λ (o : GraphOp). GraphMay m'.graph o (Added k)) op_is (subst (CanCome A m') told_too may_too))) in
         ap (λ (o : GraphOp). ExportMade o k) op_is ∙ ap (ExportMade op) place_is
     call_one (Happened made x) (Rigged i kind) e d same told told_too is may may_too = absurd (cc)
     call_one (Happened made x) (PowerFailed other blocks) e d same told told_too is may may_too = absurd (cc)

@@ -10,7 +10,7 @@ use Rattle.qs_outside.specs.declared.rigged_disk.Fail.TheVariants as fail
 use Rattle.qs_bytes.specs.Payloads.{max_payload}
 use Rattle.qs_outside.specs.declared.crash.CrashChoice.{CrashChoice}
 use Rattle.qs_script.specs.Finds.{HasNo}
-use Rattle.qs_script.specs.Lines.{Asks, AsksLength, Drives, IsQuiet, Reads, WordsSpell, words_of}
+use Rattle.qs_script.specs.Lines.{Asks, AsksLength, Drives, IsQuiet, ReadsLine, WordsSpell, words_of}
 use Rattle.qs_script.specs.SessionNames.{IsSessionName}
 use Rattle.qs_script.specs.Spelled.{Repeats, SpellsActor, SpellsData, SpellsNumber, SpellsPick, SpellPicks, fail_word, greatest, greatest_length, nothing, repeated, pairs}
 use Rattle.qs_script.specs.declared.actor.ScriptActor.{ScriptActor}
@@ -548,7 +548,7 @@ quiet_spells text l quiet is =
     omega (arith, above, below, first)
 
 -- what a text that is quiet reads as
-quiet_reads : (text : List ℕ) (l : Line) → IsQuiet text → Reads text l → line.Nothing ≡ l
+quiet_reads : (text : List ℕ) (l : Line) → IsQuiet text → ReadsLine text l → line.Nothing ≡ l
 quiet_reads text line.Nothing quiet is = refl
 quiet_reads text (line.Session s e) quiet is = absurd (quiet_spells text (line.Session s e) quiet is)
 quiet_reads text (line.End s) quiet is = absurd (quiet_spells text (line.End s) quiet is)
@@ -562,7 +562,7 @@ quiet_reads text (line.Run who now) quiet is = absurd (quiet_spells text (line.R
 quiet_reads text (line.Fail stripe kind) quiet is = absurd (quiet_spells text (line.Fail stripe kind) quiet is)
 quiet_reads text (line.Crash choice) quiet is = absurd (quiet_spells text (line.Crash choice) quiet is)
 
-spoken_reads : (text : List ℕ) (a b : Line) → WordsSpell (words_of text) a → Reads text b → a ≡ b
+spoken_reads : (text : List ℕ) (a b : Line) → WordsSpell (words_of text) a → ReadsLine text b → a ≡ b
 spoken_reads text a line.Nothing x y = absurd (quiet_spells text a y x)
 spoken_reads text a (line.Session s e) x y = one_of_words (words_of text) a (line.Session s e) x y
 spoken_reads text a (line.End s) x y = one_of_words (words_of text) a (line.End s) x y
@@ -577,7 +577,7 @@ spoken_reads text a (line.Fail stripe kind) x y = one_of_words (words_of text) a
 spoken_reads text a (line.Crash choice) x y = one_of_words (words_of text) a (line.Crash choice) x y
 
 -- one text spells one line
-pub one_line : (text : List ℕ) (a b : Line) → Reads text a → Reads text b → a ≡ b
+pub one_line : (text : List ℕ) (a b : Line) → ReadsLine text a → ReadsLine text b → a ≡ b
 one_line text line.Nothing b x y = quiet_reads text b x y
 one_line text (line.Session s e) b x y = spoken_reads text (line.Session s e) b x y
 one_line text (line.End s) b x y = spoken_reads text (line.End s) b x y

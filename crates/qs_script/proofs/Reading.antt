@@ -6,7 +6,7 @@ use Rattle.qs_script.specs.declared.line.LineFault.TheVariants as fault
 use Rattle.std.specs.Option.{ok_or}
 use Rattle.qs_outside.specs.declared.crash.CrashChoice.{CrashChoice}
 use Rattle.qs_script.specs.SessionNames.{IsSessionName}
-use Rattle.qs_script.specs.Lines.{Asks, Drives, IsLineFault, IsPlace, IsQuiet, Place, Reads, WordsSpell, fua_words, words_of}
+use Rattle.qs_script.specs.Lines.{Asks, Drives, IsLineFault, IsPlace, IsQuiet, Place, ReadsLine, WordsSpell, fua_words, words_of}
 use Rattle.qs_script.specs.Spelled.{SpellsActor, SpellsData, SpellsNumber, fail_word, greatest, greatest_length}
 use Rattle.qs_script.specs.Verbs.{verb_word}
 use Rattle.qs_script.specs.declared.actor.ScriptActor.{ScriptActor}
@@ -96,7 +96,7 @@ no_crash : {first : List ℕ} {rest : List (List ℕ)} {choice : CrashChoice} �
 no_crash other is = let whole = is.1.1.0 in other (cc)
 
 -- a line that isn't quiet is read by its words
-pub by_words : (text : List ℕ) (read : Line) → (IsQuiet text → ⊥) → Reads text read → WordsSpell (words_of text) read
+pub by_words : (text : List ℕ) (read : Line) → (IsQuiet text → ⊥) → ReadsLine text read → WordsSpell (words_of text) read
 by_words text line.Nothing loud is = absurd (loud is)
 by_words text (line.Session s e) loud is = is
 by_words text (line.End s) loud is = is
@@ -110,7 +110,7 @@ by_words text (line.Run who now) loud is = is
 by_words text (line.Fail stripe kind) loud is = is
 by_words text (line.Crash choice) loud is = is
 
-pub of_words : (text : List ℕ) (read : Line) → WordsSpell (words_of text) read → Reads text read
+pub of_words : (text : List ℕ) (read : Line) → WordsSpell (words_of text) read → ReadsLine text read
 of_words text line.Nothing is = absurd is
 of_words text (line.Session s e) is = is
 of_words text (line.End s) is = is
@@ -126,7 +126,7 @@ of_words text (line.Crash choice) is = is
 
 -- a text whose words spell no line is out of form
 pub out_of : (text : List ℕ) (words : List (List ℕ)) (read : Line) → words_of text ≡ words → (IsQuiet text → ⊥) →
-    (WordsSpell words read → ⊥) → Reads text read → ⊥
+    (WordsSpell words read → ⊥) → ReadsLine text read → ⊥
 out_of text words read e loud bad is =
     let spells : List (List ℕ) → Type 0 = λ ws. WordsSpell ws read in
     bad (subst spells e (by_words text read loud is))
@@ -295,7 +295,7 @@ sized v s cookie offset last fua (line.Crash choice) other is = absurd (no_crash
 
 -- what the words spell, the text spells
 pub ok_of : (text : List ℕ) (words : List (List ℕ)) (result : Result Line LineFault) → words_of text ≡ words →
-    IfOk result (WordsSpell words) → IfOk result (Reads text)
+    IfOk result (WordsSpell words) → IfOk result (ReadsLine text)
 ok_of text words (Ok read) e is =
     let spells : List (List ℕ) → Type 0 = λ ws. WordsSpell ws read in
     of_words text read (subst spells (sym e) is)
@@ -303,7 +303,7 @@ ok_of text words (Err fault) e is = tt
 
 -- why the words aren't read, the text isn't
 pub fault_of : (text : List ℕ) (words : List (List ℕ)) (result : Result Line LineFault) → words_of text ≡ words → (IsQuiet text → ⊥) →
-    IfErr result (IsLineFault (WordsSpell words)) → IfErr result (IsLineFault (Reads text))
+    IfErr result (IsLineFault (WordsSpell words)) → IfErr result (IsLineFault (ReadsLine text))
 fault_of text words (Ok read) e loud is = tt
 fault_of text words (Err fault.OutOfForm) e loud is = λ read. out_of text words read e loud (is read)
 fault_of text words (Err (fault.NoBody s c offset size fua)) e loud is =

@@ -73,9 +73,9 @@ WordsSpell words (line.Crash choice) =
     (digits : List ℕ) × ((pairs : List (List ℕ)) × ((words ≡ codes "crash" ∷ digits ∷ pairs) × SpellsNumber greatest digits choice.rest × SpellPicks pairs choice.picks))
 
 -- the text spells the line
-abbrev pub Reads : List ℕ → Line → Type 0
-Reads text line.Nothing = IsQuiet text
-Reads text other = WordsSpell (words_of text) other
+abbrev pub ReadsLine : List ℕ → Line → Type 0
+ReadsLine text line.Nothing = IsQuiet text
+ReadsLine text other = WordsSpell (words_of text) other
 
 -- why a text isn't read as a line: it spells none; or a WRITE of so many bytes, or a crash, which found
 -- no memory

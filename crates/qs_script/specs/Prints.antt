@@ -22,27 +22,27 @@ use Rattle.qs_script.specs.declared.print.SessionNews.{SessionNews}
 use Rattle.qs_script.specs.declared.print.SessionNews.TheVariants as news
 
 -- a word and a number
-abbrev pub counted : List ℕ → ℕ → List ℕ
-counted word n = word ++ 32 ∷ decimal n
+abbrev pub count_line : List ℕ → ℕ → List ℕ
+count_line word n = word ++ 32 ∷ decimal n
 
 abbrev pub tracker_words : TrackerReply → List ℕ
-tracker_words (tracker.Entered k) = counted (codes "enter") k
+tracker_words (tracker.Entered k) = count_line (codes "enter") k
 tracker_words tracker.Quiesced = codes "quiesced"
 tracker_words tracker.Full = codes "full"
-tracker_words (tracker.Listed n) = counted (codes "listed") n
+tracker_words (tracker.Listed n) = count_line (codes "listed") n
 tracker_words tracker.Strange = codes "strange"
 tracker_words tracker.Started = codes "started"
-tracker_words (tracker.NotYet n) = counted (codes "not-yet") n
+tracker_words (tracker.NotYet n) = count_line (codes "not-yet") n
 tracker_words tracker.Ended = codes "ended"
 tracker_words tracker.Stopped = codes "stopped"
 tracker_words tracker.Already = codes "already"
 tracker_words tracker.Empty = codes "drained"
-tracker_words (tracker.InFlight k) = counted (codes "in-flight") k
+tracker_words (tracker.InFlight k) = count_line (codes "in-flight") k
 tracker_words tracker.Resumed = codes "resumed"
 
 -- an answer to a request or a session, or else to a command
 abbrev pub graph_words : GraphNote → List ℕ
-graph_words (graph.Routed route) = counted (counted (codes "route") route.offset) route.size
+graph_words (graph.Routed route) = count_line (count_line (codes "route") route.offset) route.size
 graph_words graph.Shutting = codes "shutting"
 graph_words graph.Detached = codes "detached"
 graph_words graph.NotAttached = codes "strange"
@@ -54,15 +54,15 @@ filled_word _ = codes "loaded"
 
 -- an answer about a block, or to a Sync of the stripe with this number
 abbrev pub stripe_words : OpKind → StripeNote → ℕ → List ℕ
-stripe_words kind stripe.Filled b = counted (filled_word kind) b
+stripe_words kind stripe.Filled b = count_line (filled_word kind) b
 stripe_words kind stripe.Fault b = codes "fault"
-stripe_words kind (stripe.HeldBy k) b = counted (codes "busy") k
-stripe_words kind (stripe.Taken other) b = counted (codes "taken") other
-stripe_words kind stripe.Done b = counted (codes "stored") b
-stripe_words kind stripe.Freed b = counted (codes "freed") b
+stripe_words kind (stripe.HeldBy k) b = count_line (codes "busy") k
+stripe_words kind (stripe.Taken other) b = count_line (codes "taken") other
+stripe_words kind stripe.Done b = count_line (codes "stored") b
+stripe_words kind stripe.Freed b = count_line (codes "freed") b
 stripe_words kind stripe.NotHeld b = codes "strange"
-stripe_words kind stripe.Clean b = counted (codes "clean") b
-stripe_words kind stripe.Synced b = counted (codes "synced") b
+stripe_words kind stripe.Clean b = count_line (codes "clean") b
+stripe_words kind stripe.Synced b = count_line (codes "synced") b
 
 -- the words of a step, by its part's answer
 abbrev pub reply_words : OpKind → ℕ → NoteReply → List ℕ
@@ -90,7 +90,7 @@ data_text bytes = encode_lower bytes
 abbrev pub verdict_words : Verdict → List ℕ
 verdict_words (Got bytes) = codes "= 0 " ++ data_text bytes
 verdict_words Fine = codes "= 0"
-verdict_words (Refused errno) = counted (codes "=") (errno_number errno)
+verdict_words (Refused errno) = count_line (codes "=") (errno_number errno)
 verdict_words Dropped = codes "dropped"
 
 abbrev pub answer_line : List ℕ → ℕ → Verdict → List ℕ
@@ -98,8 +98,8 @@ answer_line s c verdict = s ++ 46 ∷ decimal c ++ 32 ∷ verdict_words verdict 
 
 -- what became of a session
 abbrev pub news_words : SessionNews → List ℕ
-news_words (news.Attached size true) = counted (codes "attached") size ++ codes " rw"
-news_words (news.Attached size false) = counted (codes "attached") size ++ codes " ro"
+news_words (news.Attached size true) = count_line (codes "attached") size ++ codes " rw"
+news_words (news.Attached size false) = count_line (codes "attached") size ++ codes " ro"
 news_words news.Refused = codes "refused"
 news_words news.Crowded = codes "crowded"
 news_words news.Left = codes "left"

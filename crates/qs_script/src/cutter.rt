@@ -1,5 +1,5 @@
 ghost use Rattle.std.specs.Prelude.{◌≡◌, ◌+◌, ◌-◌, ◌<◌, ◌≤◌, ◌++◌, [], length, min, take, IfOk, IfNone};
-ghost use Rattle.qs_script.specs.Cuts.{Cuts, longest};
+ghost use Rattle.qs_script.specs.Cuts.{Cuts, longest_line};
 ghost use Rattle.qs_script.specs.Finds.{HasNo};
 
 use crate::find::first_of;
@@ -63,7 +63,7 @@ impl LineCutter {
 
     /// Takes bytes of the line.
     fn take(&mut self, bytes: &[u8])
-        requires { length self.old + length bytes.now ≤ longest }
+        requires { length self.old + length bytes.now ≤ longest_line }
         ensures { self.new ≡ self.old ++ bytes.now }
     {
         match self.held.extend_from_slice(bytes) {
@@ -75,7 +75,7 @@ impl LineCutter {
     /// Takes bytes up to the line's end, or until they are too many for a line. Without an event the
     /// whole piece was taken.
     pub fn feed(&mut self, piece: &[u8]) -> Fed<Cut>
-        requires { length self.old < longest }
+        requires { length self.old < longest_line }
         ensures within { result.taken ≤ length piece.now }
         ensures whole { IfNone result.event (result.taken ≡ length piece.now) }
         ensures cuts { Cuts self.old (take result.taken piece.now) result.event self.new }
@@ -95,9 +95,9 @@ impl LineCutter {
 
     /// Takes bytes among which no line ends.
     fn take_on(&mut self, piece: &[u8], count: usize) -> Fed<Cut>
-        requires front { count ≡ min (length piece.now) (longest - length self.old) }
+        requires front { count ≡ min (length piece.now) (longest_line - length self.old) }
         requires none { HasNo 10 (take count piece.now) }
-        requires room { length self.old < longest }
+        requires room { length self.old < longest_line }
         ensures within { result.taken ≤ length piece.now }
         ensures whole { IfNone result.event (result.taken ≡ length piece.now) }
         ensures cuts { Cuts self.old (take result.taken piece.now) result.event self.new }

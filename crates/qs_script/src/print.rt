@@ -1,6 +1,6 @@
 ghost use Rattle.std.specs.Prelude.{◌≡◌, ◌++◌, ◌∷◌, OnOk, OnErr};
 ghost use Rattle.std.specs.Fmt.{decimal};
-ghost use Rattle.qs_script.specs.Prints.{actor_text, answer_line, counted, data_text, graph_words, news_words, note_words, session_line, step_line, stripe_words, tracker_words, verdict_words};
+ghost use Rattle.qs_script.specs.Prints.{actor_text, answer_line, count_line, data_text, graph_words, news_words, note_words, session_line, step_line, stripe_words, tracker_words, verdict_words};
 
 use crate::actor::ScriptActor;
 use crate::session_name::SessionName;
@@ -89,7 +89,7 @@ fn put_decimal(alloc: Global, out: &mut Bytes, n: u64) -> Result<(), Memory>
 
 /// A word and a number.
 fn put_counted(alloc: Global, out: &mut Bytes, word: &[u8], n: u64) -> Result<(), Memory>
-    ensures { OnOk result (out.new ≡ out.old ++ counted word.now n) }
+    ensures { OnOk result (out.new ≡ out.old ++ count_line word.now n) }
 {
     out.append(word)?;
     out.append(b" ")?;

@@ -1,5 +1,5 @@
 ghost use Rattle.std.specs.Prelude.{◌≡◌, ◌≢◌, ◌↔◌, Bool, IfErr, IfOk, IsNone, IsTrue, IfSome, [], ◌∷◌, codes};
-ghost use Rattle.qs_script.specs.Lines.{IsLineFault, IsPlace, IsQuiet, Place, Reads, WordsSpell, fua_words, words_left, words_of};
+ghost use Rattle.qs_script.specs.Lines.{IsLineFault, IsPlace, IsQuiet, Place, ReadsLine, WordsSpell, fua_words, words_left, words_of};
 ghost use Rattle.qs_outside.specs.declared.rigged_disk.Fail.{Fail as Failure};
 ghost use Rattle.qs_script.specs.Spelled.{fail_word};
 ghost use Rattle.qs_script.specs.Verbs.{verb_word};
@@ -22,8 +22,8 @@ const GREATEST_LENGTH: u64 = 0xffff_ffff;
 
 /// The line that a text spells, which has no LF. OutOfForm exactly where it spells none.
 pub fn read_line(alloc: Global, text: &[u8]) -> Result<Line, LineFault>
-    ensures ok { IfOk result (Reads text.now) }
-    ensures fault { IfErr result (IsLineFault (Reads text.now)) }
+    ensures ok { IfOk result (ReadsLine text.now) }
+    ensures fault { IfErr result (IsLineFault (ReadsLine text.now)) }
 {
     if is_quiet(text) {
         return Ok(Line::Nothing);

@@ -17,18 +17,18 @@ use Rattle.qs_part.specs.declared.stripe.Side.TheVariants.{Head, Tail}
 use Rattle.qs_graph.specs.Exports.{export_at}
 use Rattle.qs_graph.specs.Table.{GraphValue}
 use Rattle.qs_model.specs.Acts.{Element, Attached, NoExport, Crowded, Left, Detached, NotAttached, Asked, Did, Exported, Planned, Crashed}
-use Rattle.qs_model.specs.Events.{Brings, IsEvent, outcome_of}
+use Rattle.qs_model.specs.Events.{BringsBytes, IsEvent, outcome_of}
 use Rattle.qs_model.specs.Guards.{CanAsk}
-use Rattle.qs_model.specs.Laws.{opening}
+use Rattle.qs_model.specs.Laws.{opening_world}
 use Rattle.qs_model.specs.Requests.{Client, Req, edge, is_flush, stores_bytes}
-use Rattle.qs_model.specs.Steps.{Runs, after, happens}
+use Rattle.qs_model.specs.Steps.{Runs, world_after, happens}
 use Rattle.qs_model.specs.Worlds.{Image, Live, Opening, Session, World}
 use Rattle.qs_model.proofs.Basics.{block_high, block_low, blocks_le, put_here}
 use Rattle.qs_request_state.specs.declared.shape.Shape.{Shape}
 use Rattle.qs_stripe.specs.Table.{StripeState}
 use Rattle.qs_verdicts.specs.Stories.{Given, Way, route_by}
-use Rattle.qs_verdicts.specs.Verdicts.{IsAnswered, Meets, reply_of}
-use Rattle.qs_alone.specs.Alone.{AreOf, Changes, HasFailed, IsAlone, IsOff, IsServed, routed_in, way_by, way_in}
+use Rattle.qs_verdicts.specs.Verdicts.{IsAnswered, Meets, verdict_by_way}
+use Rattle.qs_alone.specs.Alone.{AreOf, AnswerChanges, HasFailed, IsAlone, IsOff, IsServed, routed_in, way_by, way_in}
 use Rattle.qs_alone.proofs.Waits.{never_waits}
 use Rattle.qs_alone.proofs.Served.{served}
 use Rattle.qs_world.specs.declared.live.Live.{Live as LiveRequest}
@@ -40,7 +40,7 @@ use Rattle.qs_calls.specs.Calls.{AreCalls, Call, Happened, Plays, Walks}
 use Rattle.qs_calls.specs.Goings.{RunsOut}
 use Rattle.qs_calls.proofs.Plays.{after_more, leads, plays_of, runs_more}
 use Rattle.qs_single.specs.Resting.{IsBody, IsResting}
-use Rattle.qs_single.specs.Service.{Called, HasRisen, Leads, MayGet, whole}
+use Rattle.qs_single.specs.Service.{Called, HasRisen, LeadsTo, MayGet, whole_route}
 use Rattle.qs_single.proofs.Asked.{own_bytes, some_length}
 use Rattle.qs_single.proofs.Contents.{byte_is, content_length, past_is, told_model}
 use Rattle.qs_single.proofs.Leading.{AreContents, leading, sent}
@@ -62,13 +62,13 @@ pub record Ran {D : Type 0} (seen : D → Seen) (session : ℕ) (a : Ask) (body 
   pub step : Element
   pub session_is : session ≡ client.session
   pub ask_is : a ≡ client.ask
-  pub brings : Brings body client
-  pub may : CanAsk (after w.shape.align (opening o) before) number client
+  pub brings : BringsBytes body client
+  pub may : CanAsk (world_after w.shape.align (opening_world o) before) number client
   pub alone : IsAlone w.shape.align o before number client (front ++ step ∷ [])
   pub answers : IsAnswered number v step
   pub fulls : List (ℕ → Option Bool)
   pub walked : Walks seen w calls (Asked number client ∷ (front ++ step ∷ [])) fulls w'
-  pub stands : Stands seen w' (after w.shape.align (opening o) (before ++ Asked number client ∷ (front ++ step ∷ [])))
+  pub stands : Stands seen w' (world_after w.shape.align (opening_world o) (before ++ Asked number client ∷ (front ++ step ∷ [])))
 
 -- a run of a request that is alone ends in its answer
 pub ran : {D : Type 0} (seen : D → Seen) (session : ℕ) (writable : Bool) (a : Ask) (body : Option (List ℕ)) (now : ℕ) (w w' : WorldValue D) (number : ℕ) (steps : List Call) (last : Outcome) →
@@ -79,7 +79,7 @@ ran {D} seen session writable a body now w w' number steps last rests out plays 
     let A : ℕ = w.shape.align in
     let o : Opening = rests.opened in
     let before : List Element = rests.steps in
-    let m : World = after A (opening o) before in
+    let m : World = world_after A (opening_world o) before in
     let calls : List Call = Happened (AskEvent session a body) (Made number) ∷ steps in
     let led = leads seen A w calls w' m refl rests.stands plays in
     let p = parted A (AskEvent session a body) (Made number) steps led.elements led.are in
@@ -89,7 +89,7 @@ ran {D} seen session writable a body now w w' number steps last rests out plays 
     let all_is : led.elements ≡ Asked number asked.client ∷ its =
     p.is ∙ ap (λ (e : Element). e ∷ p.rest) asked.is ∙ ap (λ (l : List Element). Asked number asked.client ∷ l) c.whole in
     let alone : IsAlone A o before number asked.client its = record {
-      run = subst (λ (es : List Element). Runs A (opening o) (before ++ es)) all_is (runs_more A (opening o) before led.elements rests.run led.run);
+      run = subst (λ (es : List Element). Runs A (opening_world o) (before ++ es)) all_is (runs_more A (opening_world o) before led.elements rests.run led.run);
       idle = λ s. rests.stands.request s ∙ ap (λ (ls : List LiveRequest). request_at ls s) rests.idle;
       own = subst (AreOf number) c.whole c.own;
     } in
@@ -113,8 +113,8 @@ ran {D} seen session writable a body now w w' number steps last rests out plays 
             answers = is.2.1;
             fulls = led.fulls;
             walked = subst (λ (es : List Element). Walks seen w calls es led.fulls w') all_is led.walked;
-            stands = subst (λ (es : List Element). Stands seen w' (after A (opening o) (before ++ es))) all_is
-                (subst (Stands seen w') (after_more A (opening o) before led.elements) led.stands);
+            stands = subst (λ (es : List Element). Stands seen w' (world_after A (opening_world o) (before ++ es))) all_is
+                (subst (Stands seen w') (after_more A (opening_world o) before led.elements) led.stands);
           },
         ),
       )
@@ -164,13 +164,13 @@ module _ {D : Type 0} (seen : D → Seen) (session : ℕ) (writable : Bool) (a :
   A = w.shape.align
 
   abbrev pub m : World
-  m = after A (opening rests.opened) rests.steps
+  m = world_after A (opening_world rests.opened) rests.steps
 
   abbrev pub its : List Element
   its = t.front ++ t.step ∷ []
 
   abbrev pub m' : World
-  m' = after A (opening rests.opened) (rests.steps ++ Asked number t.client ∷ its)
+  m' = world_after A (opening_world rests.opened) (rests.steps ++ Asked number t.client ∷ its)
 
   abbrev pub size : ℕ
   size = size_of (disks_of seen w)
@@ -184,23 +184,23 @@ module _ {D : Type 0} (seen : D → Seen) (session : ℕ) (writable : Bool) (a :
   place_is : t.client.export ≡ rests.place
   place_is = one_place t.client.export rests.place (sym t.may.live ∙ ap m.session (sym t.session_is) ∙ rests.stands.session session ∙ rests.live)
 
-  way_is : way_in m.graph t.client.export ≡ Given (whole size writable)
+  way_is : way_in m.graph t.client.export ≡ Given (whole_route size writable)
   way_is =
       ap (λ (g : GraphValue). way_in g t.client.export) rests.stands.graph ∙ ap (way_in w.graph) place_is
-      ∙ ap (way_by w.graph.size) rests.is ∙ ap (λ (n : ℕ). Given (whole n rests.export.writable)) rests.size ∙ ap (λ (b : Bool). Given (whole size b)) rests.leave
+      ∙ ap (way_by w.graph.size) rests.is ∙ ap (λ (n : ℕ). Given (whole_route n rests.export.writable)) rests.size ∙ ap (λ (b : Bool). Given (whole_route size b)) rests.leave
 
   pub routed_is : routed_in m.graph t.client ≡ sent t.client size writable
   routed_is = ap (λ (way : Way). record t.client { route = route_by way }) way_is
 
-  pub line : reply_of t.client.ask t.client.buffered (Given (whole size writable)) is_served.fault is_served.got ≡ Some v
-  line = subst (λ (way : Way). reply_of t.client.ask t.client.buffered way is_served.fault is_served.got ≡ Some v) way_is is_served.reply
+  pub line : verdict_by_way t.client.ask t.client.buffered (Given (whole_route size writable)) is_served.fault is_served.got ≡ Some v
+  line = subst (λ (way : Way). verdict_by_way t.client.ask t.client.buffered way is_served.fault is_served.got ≡ Some v) way_is is_served.reply
 
   pub may_get : MayGet size writable a v
   may_get = record {
     buffered = t.client.buffered;
     fault = is_served.fault;
     got = is_served.got;
-    line = subst (λ (q : Ask). reply_of q t.client.buffered (Given (whole size writable)) is_served.fault is_served.got ≡ Some v) (sym t.ask_is) line;
+    line = subst (λ (q : Ask). verdict_by_way q t.client.buffered (Given (whole_route size writable)) is_served.fault is_served.got ≡ Some v) (sym t.ask_is) line;
     long = λ bytes is. subst (λ (q : Ask). length bytes ≡ q.length) (sym t.ask_is) (is_served.whole bytes is);
     wants = λ none. subst (λ (q : Ask). 0 < q.length) (sym t.ask_is) (some_length t.client.ask t.client.buffered t.may.buffered none);
   }
@@ -216,12 +216,12 @@ module _ {D : Type 0} (seen : D → Seen) (session : ℕ) (writable : Bool) (a :
         is = λ x below. byte_is seen w' m' t.stands image A (rests.align ∙ sym (same.align 0)) told' x (rw (same.size 0) below);
       }
 
-  leads_on : AllTell (disks_of seen w) → Leads (content (disks_of seen w)) a given v (content (disks_of seen w'))
+  leads_on : AllTell (disks_of seen w) → LeadsTo (content (disks_of seen w)) a given v (content (disks_of seen w'))
   leads_on told =
-      subst (λ (q : Ask). Leads (content (disks_of seen w)) q given v (content (disks_of seen w'))) (sym t.ask_is)
+      subst (λ (q : Ask). LeadsTo (content (disks_of seen w)) q given v (content (disks_of seen w'))) (sym t.ask_is)
       (leading A size writable t.client given m.image m'.image (content (disks_of seen w)) (content (disks_of seen w')) (contents told) v is_served.fault is_served.got
       (own_bytes m number a t.client given body t.ask_is t.may t.brings is_body) line
-      (subst (λ (c : Client). Changes A m.image c v m'.image) routed_is (is_served.changes (told_model seen w m rests.stands rests.image told))))
+      (subst (λ (c : Client). AnswerChanges A m.image c v m'.image) routed_is (is_served.changes (told_model seen w m rests.stands rests.image told))))
 
   past_as : AllTell (disks_of seen w) → m'.image ≡ m.image → Same (block_past (disks_of seen w)) (block_past (disks_of seen w'))
   past_as told image_is b =
@@ -256,10 +256,10 @@ module _ {D : Type 0} (seen : D → Seen) (session : ℕ) (writable : Bool) (a :
 
   -- no step of it waits, and none that is on no stripe calls one
   all_quiet : (before es : List Element) → before ++ es ≡ its → AllByRecursion IsOff es → AllByRecursion (IsQuiet A) es
-  all_quiet before [] whole off = tt
-  all_quiet before (e ∷ es) whole off = (
-    off_quiet A e off.0 (λ waits. never_waits A rests.opened rests.steps number t.client its (has_bytes seen session writable w rests) t.alone before e (es, sym whole) waits),
-    all_quiet (before ++ e ∷ []) es (append_assoc before (e ∷ []) es ∙ whole) off.1,
+  all_quiet before [] whole_route off = tt
+  all_quiet before (e ∷ es) whole_route off = (
+    off_quiet A e off.0 (λ waits. never_waits A rests.opened rests.steps number t.client its (has_bytes seen session writable w rests) t.alone before e (es, sym whole_route) waits),
+    all_quiet (before ++ e ∷ []) es (append_assoc before (e ∷ []) es ∙ whole_route) off.1,
   )
 
   pub called : Called (disks_of seen w) a given v (disks_of seen w')
@@ -282,8 +282,8 @@ module _ {D : Type 0} (seen : D → Seen) (session : ℕ) (writable : Bool) (a :
       record {
         opened = rests.opened;
         steps = rests.steps ++ Asked number t.client ∷ its;
-        run = subst (λ (n : ℕ). Runs n (opening rests.opened) (rests.steps ++ Asked number t.client ∷ its)) (sym align) t.alone.run;
-        stands = subst (λ (n : ℕ). Stands seen w' (after n (opening rests.opened) (rests.steps ++ Asked number t.client ∷ its))) (sym align) t.stands;
+        run = subst (λ (n : ℕ). Runs n (opening_world rests.opened) (rests.steps ++ Asked number t.client ∷ its)) (sym align) t.alone.run;
+        stands = subst (λ (n : ℕ). Stands seen w' (world_after n (opening_world rests.opened) (rests.steps ++ Asked number t.client ∷ its))) (sym align) t.stands;
         idle = none_left w'.requests (λ r. sym (t.stands.request r) ∙ is_served.idle r);
         place = rests.place;
         live = sym (t.stands.session session) ∙ ap (λ (f : ℕ → Session). f session) is_served.session ∙ rests.stands.session session ∙ rests.live;
@@ -335,7 +335,7 @@ never_other {D} seen session writable a body w w' out rests room steps iff cause
 pub never_gone : {D : Type 0} (seen : D → Seen) (session : ℕ) (writable : Bool) (a : Ask) (body : Option (List ℕ)) (w mid : WorldValue D) (number now : ℕ) →
     IsResting seen session writable w → Steps seen w (AskEvent session a body) (Made number) mid → IsNotNext mid (Step (ARequest number) now) → ⊥
 never_gone {D} seen session writable a body w mid number now rests step gone =
-    let m : World = after w.shape.align (opening rests.opened) rests.steps in
+    let m : World = world_after w.shape.align (opening_world rests.opened) rests.steps in
     let asked = asks w.shape.align session a body number step.element step.answers_event step.outcome_is in
     let does : Stands seen mid (happens w.shape.align m (Asked number asked.client)) =
     subst (λ (e : Element). Stands seen mid (happens w.shape.align m e)) asked.is (step.does m rests.stands).1 in

@@ -6,7 +6,7 @@ use Rattle.std.proofs.lemmas.List.{get_or-replicate, length-replicate}
 use Rattle.qs_bytes.specs.declared.ask.Ask.{Ask}
 use Rattle.qs_bytes.specs.declared.ask.Kind.{Kind}
 use Rattle.qs_bytes.specs.declared.ask.Kind.TheVariants.{Read, Write, Zero, Trim, Flush, Unknown}
-use Rattle.qs_model.specs.Events.{Brings, HasNone}
+use Rattle.qs_model.specs.Events.{BringsBytes, HasNone}
 use Rattle.qs_model.specs.Guards.{CanAsk}
 use Rattle.qs_model.specs.Requests.{Client, brings_bytes, is_read, stores_bytes, wants_body, wants_buffers}
 use Rattle.qs_model.specs.Worlds.{World}
@@ -27,7 +27,7 @@ some_length a buffered given none = elim (cases_lt 0 a.length) [
     idle b n is = grind (arith, is)
 
 -- a WRITE that was given its memory has the data
-has_data : (a : Ask) (c : Client) (given : List ℕ) (body : Option (List ℕ)) → a ≡ c.ask → Brings body c → IsBody a given body → c.buffered ≡ true →
+has_data : (a : Ask) (c : Client) (given : List ℕ) (body : Option (List ℕ)) → a ≡ c.ask → BringsBytes body c → IsBody a given body → c.buffered ≡ true →
     brings_bytes a.kind ≡ true → c.body ≡ given
 has_data a c given None same brings is buffered writing =
     let long : length given ≡ a.length = is.whole writing in
@@ -55,7 +55,7 @@ has_data a c given (Some bytes) same brings is buffered writing = elim brings [
 ]
 
 -- the bytes that a request stores are its client's
-pub own_bytes : (w : World) (r : ℕ) (a : Ask) (c : Client) (given : List ℕ) (body : Option (List ℕ)) → a ≡ c.ask → CanAsk w r c → Brings body c → IsBody a given body → IsOwn c given
+pub own_bytes : (w : World) (r : ℕ) (a : Ask) (c : Client) (given : List ℕ) (body : Option (List ℕ)) → a ≡ c.ask → CanAsk w r c → BringsBytes body c → IsBody a given body → IsOwn c given
 own_bytes w r a c given body same may brings is = record {
   long = λ stores. long_by c.ask.kind c.ask.length stores (λ writing. is.whole (ap (λ (b : Ask). brings_bytes b.kind) same ∙ writing) ∙ ap (λ (b : Ask). b.length) same);
   byte = λ stores buffered i small. byte_by c.ask.kind stores i small

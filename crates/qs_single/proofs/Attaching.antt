@@ -6,8 +6,8 @@ use Rattle.qs_outside.specs.Blocks.{Seen}
 use Rattle.qs_image.specs.Image.{align_of, size_of}
 use Rattle.qs_image.specs.Opening.{IsImage}
 use Rattle.qs_graph.specs.declared.export.Export.{Export}
-use Rattle.qs_graph.specs.Exports.{clients_of, counted, export_at, found_at, is_vacant, made}
-use Rattle.qs_graph.specs.Table.{GraphValue, fresh as fresh_graph, info_at, placed, after as graph_after}
+use Rattle.qs_graph.specs.Exports.{clients_of, clients_counted, export_at, found_at, is_vacant, new_export}
+use Rattle.qs_graph.specs.Table.{GraphValue, fresh as fresh_graph, info_at, export_placed, after as graph_after}
 use Rattle.qs_part.specs.declared.event.Event.TheVariants.{Attach}
 use Rattle.qs_part.specs.declared.event.Outcome.{Outcome}
 use Rattle.qs_part.specs.declared.event.Outcome.TheVariants.{Attached, Memory, NotNext}
@@ -16,8 +16,8 @@ use Rattle.qs_part.specs.declared.graph.GraphOp.TheVariants.{ExportAdd}
 use Rattle.qs_part.specs.declared.graph.GraphReply.TheVariants.{Added}
 use Rattle.qs_model.specs.Acts.{Element, Attached as AttachedStep, NoExport, Crowded, Left, Detached, NotAttached, Asked, Did, Exported, Planned, Crashed}
 use Rattle.qs_model.specs.Events.{IsEvent, outcome_of}
-use Rattle.qs_model.specs.Guards.{May}
-use Rattle.qs_model.specs.Steps.{Runs, after, happens}
+use Rattle.qs_model.specs.Guards.{CanCome}
+use Rattle.qs_model.specs.Steps.{Runs, world_after, happens}
 use Rattle.qs_model.specs.Worlds.{Away, Live, World}
 use Rattle.qs_model.proofs.Basics.{put_here}
 use Rattle.qs_request_state.specs.declared.shape.Shape.{Shape}
@@ -30,7 +30,7 @@ use Rattle.qs_world.specs.Values.{WorldValue, disks_of, session_at}
 use Rattle.qs_world.specs.Running.{meant}
 use Rattle.qs_world.proofs.Meant.{meant_cause, meant_steps, own}
 use Rattle.qs_calls.specs.Calls.{Happened, Plays}
-use Rattle.qs_calls.specs.Runs.{Begins, export, opened}
+use Rattle.qs_calls.specs.Runs.{Begins, image_export, opened_world}
 use Rattle.qs_calls.proofs.Plays.{plays_of, plays_one}
 use Rattle.qs_calls.proofs.Runs.{Starts, starts}
 use Rattle.qs_single.specs.Joining.{Names}
@@ -39,10 +39,10 @@ use Rattle.qs_single.proofs.Answering.{none_left}
 
 -- the graph with the export at its first place
 abbrev pub its_export : Bool → Export
-its_export read_only = made (codes "disk") (codes "disk") (not read_only) true
+its_export read_only = new_export (codes "disk") (codes "disk") (not read_only) true
 
 abbrev pub with_export : ℕ → Bool → GraphValue
-with_export size read_only = placed (fresh_graph size (codes "file0") read_only) 0 (Some (its_export read_only))
+with_export size read_only = export_placed (fresh_graph size (codes "file0") read_only) 0 (Some (its_export read_only))
 
 first_place : (size : ℕ) (read_only : Bool) (p : ℕ) → position is_vacant (fresh_graph size (codes "file0") read_only).places ≡ Some p → p ≡ 0
 first_place size read_only p e = cc
@@ -65,7 +65,7 @@ module _ {D : Type 0} (seen : D → Seen) (disks : List D) (read_only : Bool) (w
   graph_is =
       ap (λ (x : WorldValue D). x.graph) begins.exports.same
       ∙ ap (λ (g : GraphValue). graph_after g (ExportAdd (codes "disk") (codes "disk") g.file (not read_only) true) (Added begins.exports.place)) begins.opened.graph
-      ∙ ap (λ (p : ℕ). placed (fresh_graph size (codes "file0") read_only) p (Some (its_export read_only))) place_is
+      ∙ ap (λ (p : ℕ). export_placed (fresh_graph size (codes "file0") read_only) p (Some (its_export read_only))) place_is
 
   sessions_are : w.sessions ≡ []
   sessions_are = ap (λ (x : WorldValue D). x.sessions) begins.exports.same ∙ begins.opened.sessions
@@ -78,7 +78,7 @@ module _ {D : Type 0} (seen : D → Seen) (disks : List D) (read_only : Bool) (w
       ap (λ (x : WorldValue D). map seen (map (λ (s : StripeState D). s.disk) x.stripes)) begins.exports.same ∙ ap (λ (ds : List D). map seen ds) begins.opened.stripes
 
   abbrev m : World
-  m = happens (align_of (map seen disks)) (opened (map seen disks) read_only) (Exported (export read_only) begins.exports.place)
+  m = happens (align_of (map seen disks)) (opened_world (map seen disks) read_only) (Exported (image_export read_only) begins.exports.place)
 
   model_graph : m.graph ≡ with_export size read_only
   model_graph = begun.stands.graph ∙ graph_is
@@ -90,7 +90,7 @@ module _ {D : Type 0} (seen : D → Seen) (disks : List D) (read_only : Bool) (w
       none_some : (n : ℕ) → None ≡ Some n → ⊥
       none_some n e = cc
 
-      go : (e : Element) → IsEvent (Attach session asked) e → outcome_of w.shape.align e ≡ Some out → May w.shape.align m e → ⊥
+      go : (e : Element) → IsEvent (Attach session asked) e → outcome_of w.shape.align e ≡ Some out → CanCome w.shape.align m e → ⊥
       go (AttachedStep s name info) is told may = never info (one told)
         where
           one : Some (Attached info) ≡ Some out → out ≡ Attached info
@@ -141,9 +141,9 @@ module _ {D : Type 0} (seen : D → Seen) (disks : List D) (read_only : Bool) (w
       let A : ℕ = align_of (map seen disks) in
       let e : Element = AttachedStep session asked info in
       let e_is : step.element ≡ e = comes asked session info w.shape.align step.element step.answers_event step.outcome_is in
-      let does : May w.shape.align m e × Stands seen w' (happens w.shape.align m e) =
-      subst (λ (x : Element). May w.shape.align m x × Stands seen w' (happens w.shape.align m x)) e_is (step.does m begun.stands) in
-      let did : May A m e × Stands seen w' (happens A m e) = subst (λ (a : ℕ). May a m e × Stands seen w' (happens a m e)) begun.align does in
+      let does : CanCome w.shape.align m e × Stands seen w' (happens w.shape.align m e) =
+      subst (λ (x : Element). CanCome w.shape.align m x × Stands seen w' (happens w.shape.align m x)) e_is (step.does m begun.stands) in
+      let did : CanCome A m e × Stands seen w' (happens A m e) = subst (λ (a : ℕ). CanCome a m e × Stands seen w' (happens a m e)) begun.align does in
       let m' : World = happens A m e in
       let place : info.e ≡ 0 = one (sym did.0.1.0 ∙ ap (λ (g : GraphValue). found_at g.places asked) model_graph ∙ named) in
       let info_is : info ≡ info_at (with_export size read_only) 0 =
@@ -152,23 +152,23 @@ module _ {D : Type 0} (seen : D → Seen) (disks : List D) (read_only : Bool) (w
       let disks_here : disks_of seen w' ≡ map seen disks = disks_same ∙ disks_are in
       let shape : w'.shape ≡ w.shape = step.shape_kept in
       let align : w'.shape.align ≡ A = ap (λ (s : Shape). s.align) shape ∙ begun.align in
-      let graph : w'.graph ≡ placed (with_export size read_only) 0 (counted (export_at (with_export size read_only).places 0) (clients_of (export_at (with_export size read_only).places 0) + 1)) =
-      sym did.1.graph ∙ ap (λ (g : GraphValue). placed g info.e (counted (export_at g.places info.e) (clients_of (export_at g.places info.e) + 1))) model_graph
-      ∙ ap (λ (p : ℕ). placed (with_export size read_only) p (counted (export_at (with_export size read_only).places p) (clients_of (export_at (with_export size read_only).places p) + 1))) place in
+      let graph : w'.graph ≡ export_placed (with_export size read_only) 0 (clients_counted (export_at (with_export size read_only).places 0) (clients_of (export_at (with_export size read_only).places 0) + 1)) =
+      sym did.1.graph ∙ ap (λ (g : GraphValue). export_placed g info.e (clients_counted (export_at g.places info.e) (clients_of (export_at g.places info.e) + 1))) model_graph
+      ∙ ap (λ (p : ℕ). export_placed (with_export size read_only) p (clients_counted (export_at (with_export size read_only).places p) (clients_of (export_at (with_export size read_only).places p) + 1))) place in
       record {
         plays = plays;
         size = ap (λ (i : ExportInfo). i.size) info_is ∙ sym (ap size_of disks_are);
         leave = ap (λ (i : ExportInfo). i.writable) info_is;
         disks = disks_same;
         rests = record {
-          opened = opening_over (map seen disks) (codes "file0") read_only;
-          steps = Exported (export read_only) begins.exports.place ∷ e ∷ [];
-          run = subst (λ (a : ℕ). Runs a (opened (map seen disks) read_only) (Exported (export read_only) begins.exports.place ∷ e ∷ [])) (sym align) (begun.may, (did.0, tt));
-          stands = subst (λ (a : ℕ). Stands seen w' (after a (opened (map seen disks) read_only) (Exported (export read_only) begins.exports.place ∷ e ∷ []))) (sym align) did.1;
+          opened_world = opening_over (map seen disks) (codes "file0") read_only;
+          steps = Exported (image_export read_only) begins.exports.place ∷ e ∷ [];
+          run = subst (λ (a : ℕ). Runs a (opened_world (map seen disks) read_only) (Exported (image_export read_only) begins.exports.place ∷ e ∷ [])) (sym align) (begun.may, (did.0, tt));
+          stands = subst (λ (a : ℕ). Stands seen w' (world_after a (opened_world (map seen disks) read_only) (Exported (image_export read_only) begins.exports.place ∷ e ∷ []))) (sym align) did.1;
           idle = none_left w'.requests (λ r. sym (did.1.request r));
           place = 0;
           live = sym (did.1.session session) ∙ put_here m.session session (Live info.e) ∙ ap Live place;
-          export = record (its_export read_only) { clients = 1 };
+          image_export = record (its_export read_only) { clients = 1 };
           is = ap (λ (g : GraphValue). export_at g.places 0) graph;
           leave = refl;
           image = subst IsImage (sym disks_here) begins.opened.image;

@@ -11,20 +11,20 @@ use Rattle.qs_model.specs.Requests.{Client, body_at, covers, stores_bytes, write
 use Rattle.qs_model.specs.Worlds.{Image, byte_at}
 use Rattle.qs_model.proofs.Basics.{either}
 use Rattle.qs_verdicts.specs.Stories.{Given}
-use Rattle.qs_verdicts.specs.Verdicts.{reply_of}
-use Rattle.qs_alone.specs.Alone.{Changes, written_to}
-use Rattle.qs_single.specs.Service.{Leads, stored, whole}
+use Rattle.qs_verdicts.specs.Verdicts.{verdict_by_way}
+use Rattle.qs_alone.specs.Alone.{AnswerChanges, written_to}
+use Rattle.qs_single.specs.Service.{LeadsTo, bytes_stored, whole_route}
 use Rattle.qs_single.proofs.Contents.{front_bytes, part_bytes, same_bytes}
 use Rattle.qs_single.proofs.Lines.{got_reads, has_places, has_room, was_buffered}
 
 -- the bytes that a request stores are its client's
 pub record IsOwn (c : Client) (given : List ℕ) : Type 0 where
-  pub long : stores_bytes c.ask.kind ≡ true → length (stored c.ask given) ≡ c.ask.length
-  pub byte : stores_bytes c.ask.kind ≡ true → c.buffered ≡ true → (i : ℕ) → i < c.ask.length → get_or c.body i 0 ≡ get_or (stored c.ask given) i 0
+  pub long : stores_bytes c.ask.kind ≡ true → length (bytes_stored c.ask given) ≡ c.ask.length
+  pub byte : stores_bytes c.ask.kind ≡ true → c.buffered ≡ true → (i : ℕ) → i < c.ask.length → get_or c.body i 0 ≡ get_or (bytes_stored c.ask given) i 0
 
 -- a request on its way to the whole image
 abbrev pub sent : Client → ℕ → Bool → Client
-sent c size writable = record c { route = whole size writable }
+sent c size writable = record c { route = whole_route size writable }
 
 test_true : (b : Bool) (lo hi n x : ℕ) → b ≡ true → lo ≤ x → x < hi → x < n → (b && (nat_le lo x && nat_lt x hi) && nat_lt x n) ≡ true
 test_true b lo hi n x is low high below = grind (arith, is, low, high, below)
@@ -45,7 +45,7 @@ test_none false c d is = refl
 -- places that a request writes below n, and the others
 module _ (A size : ℕ) (writable : Bool) (c : Client) (given : List ℕ) (old : Image) (n : ℕ) where
   pub here_written : IsOwn c given → c.buffered ≡ true → stores_bytes c.ask.kind ≡ true → (x : ℕ) → c.ask.offset ≤ x → x < c.ask.offset + c.ask.length → x < n →
-      written_to A old (sent c size writable) n x ≡ get_or (stored c.ask given) (x - c.ask.offset) 0
+      written_to A old (sent c size writable) n x ≡ get_or (bytes_stored c.ask given) (x - c.ask.offset) 0
   here_written own buffered stores x low high below =
       let off : ℕ = c.ask.offset in
       let from_none : 0 + off ≡ off = omega arith in
@@ -74,10 +74,10 @@ module _ (A size : ℕ) (writable : Bool) (c : Client) (given : List ℕ) (old n
   -- a front was written
   front_written : (n : ℕ) → IsOwn c given → c.buffered ≡ true → stores_bytes c.ask.kind ≡ true → c.ask.offset + c.ask.length ≤ size →
       ((x : ℕ) → byte_at A new x ≡ written_to A old (sent c size writable) n x) →
-      behind ≡ overlay before c.ask.offset (take (min (n - c.ask.offset) (length (stored c.ask given))) (stored c.ask given))
+      behind ≡ overlay before c.ask.offset (take (min (n - c.ask.offset) (length (bytes_stored c.ask given))) (bytes_stored c.ask given))
   front_written n own buffered stores fits each =
-      let long : length (stored c.ask given) ≡ c.ask.length = own.long stores in
-      front_bytes before behind (stored c.ask given) c.ask.offset n (contents.long_too ∙ sym contents.long) (omega (arith, fits, contents.long, long))
+      let long : length (bytes_stored c.ask given) ≡ c.ask.length = own.long stores in
+      front_bytes before behind (bytes_stored c.ask given) c.ask.offset n (contents.long_too ∙ sym contents.long) (omega (arith, fits, contents.long, long))
       (λ x low high below.
       contents.is x (omega (arith, high, long, fits)) ∙ each x ∙ here_written A size writable c given old n own buffered stores x low (omega (arith, high, long)) below)
       (λ x below other.
@@ -94,11 +94,11 @@ module _ (A size : ℕ) (writable : Bool) (c : Client) (given : List ℕ) (old n
   none_kept : (n : ℕ) → stores_bytes c.ask.kind ≡ false → ((x : ℕ) → byte_at A new x ≡ written_to A old (sent c size writable) n x) → behind ≡ before
   none_kept n idle each = kept (λ x. each x ∙ none_written A size writable c given old n idle x)
 
-  pub leading : (v : Verdict) (fault : Bool) (got : List ℕ) → IsOwn c given → reply_of c.ask c.buffered (Given (whole size writable)) fault got ≡ Some v →
-      Changes A old (sent c size writable) v new → Leads before c.ask given v behind
+  pub leading : (v : Verdict) (fault : Bool) (got : List ℕ) → IsOwn c given → verdict_by_way c.ask c.buffered (Given (whole_route size writable)) fault got ≡ Some v →
+      AnswerChanges A old (sent c size writable) v new → LeadsTo before c.ask given v behind
   leading (Got bytes) fault got own line changes =
-      let reads = got_reads c.ask c.buffered (whole size writable) fault got bytes line in
-      let fits : c.ask.offset + c.ask.length ≤ size = has_places c.ask c.buffered (whole size writable) fault got (Got bytes) tt line reads in (
+      let reads = got_reads c.ask c.buffered (whole_route size writable) fault got bytes line in
+      let fits : c.ask.offset + c.ask.length ≤ size = has_places c.ask c.buffered (whole_route size writable) fault got (Got bytes) tt line reads in (
         part_bytes before bytes c.ask.offset c.ask.length changes.0 (omega (arith, fits, contents.long)) (λ i small.
             let x : ℕ = c.ask.offset + i in
             let back : i ≡ x - (0 + c.ask.offset) = omega arith in
@@ -109,14 +109,14 @@ module _ (A size : ℕ) (writable : Bool) (c : Client) (given : List ℕ) (old n
   leading Fine fault got own line changes =
       elim (either (stores_bytes c.ask.kind)) [
         | inl stores ↦
-            let fits : c.ask.offset + c.ask.length ≤ size = has_room c.ask c.buffered (whole size writable) fault got Fine tt line stores in
+            let fits : c.ask.offset + c.ask.length ≤ size = has_room c.ask c.buffered (whole_route size writable) fault got Fine tt line stores in
             let n : ℕ = 0 + c.ask.offset + c.ask.length in
-            let long : length (stored c.ask given) ≡ c.ask.length = own.long stores in
-            let all : take (min (n - c.ask.offset) (length (stored c.ask given))) (stored c.ask given) ≡ stored c.ask given =
-            take_all (min (n - c.ask.offset) (length (stored c.ask given))) (stored c.ask given) (omega (arith, long)) in
+            let long : length (bytes_stored c.ask given) ≡ c.ask.length = own.long stores in
+            let all : take (min (n - c.ask.offset) (length (bytes_stored c.ask given))) (bytes_stored c.ask given) ≡ bytes_stored c.ask given =
+            take_all (min (n - c.ask.offset) (length (bytes_stored c.ask given))) (bytes_stored c.ask given) (omega (arith, long)) in
             inl (
               stores,
-              front_written n own (was_buffered c.ask c.buffered (whole size writable) fault got Fine tt line) stores fits changes
+              front_written n own (was_buffered c.ask c.buffered (whole_route size writable) fault got Fine tt line) stores fits changes
                   ∙ ap (λ (bytes : List ℕ). overlay before c.ask.offset bytes) all,
             )
         | inr idle ↦ inr (idle, none_kept (0 + c.ask.offset + c.ask.length) idle changes)
@@ -124,14 +124,14 @@ module _ (A size : ℕ) (writable : Bool) (c : Client) (given : List ℕ) (old n
   leading (Refused Io) fault got own line changes =
       elim (either (stores_bytes c.ask.kind)) [
         | inl stores ↦
-            let fits : c.ask.offset + c.ask.length ≤ size = has_room c.ask c.buffered (whole size writable) fault got (Refused Io) tt line stores in
+            let fits : c.ask.offset + c.ask.length ≤ size = has_room c.ask c.buffered (whole_route size writable) fault got (Refused Io) tt line stores in
             inr (
               stores,
               (
-                min (changes.0 - c.ask.offset) (length (stored c.ask given)),
+                min (changes.0 - c.ask.offset) (length (bytes_stored c.ask given)),
                 (
                   omega arith,
-                  front_written changes.0 own (was_buffered c.ask c.buffered (whole size writable) fault got (Refused Io) tt line) stores fits changes.1,
+                  front_written changes.0 own (was_buffered c.ask c.buffered (whole_route size writable) fault got (Refused Io) tt line) stores fits changes.1,
                 ),
               ),
             )

@@ -10,7 +10,7 @@ use Rattle.qs_bytes.specs.declared.ask.Verdict.TheVariants.{Got, Fine, Refused}
 use Rattle.qs_part.specs.declared.graph.Route.{Route}
 use Rattle.qs_model.specs.Requests.{is_read, stores_bytes}
 use Rattle.qs_verdicts.specs.Stories.{Given}
-use Rattle.qs_verdicts.specs.Verdicts.{done, is_malformed, needs_leave, needs_places, needs_room, passes, reply_of, reply_on_way}
+use Rattle.qs_verdicts.specs.Verdicts.{done, is_malformed, needs_leave, needs_places, needs_room, passes, verdict_by_way, reply_on_way}
 
 -- an answer that isn't one of the refusals of form, memory, leave or range
 abbrev pub IsWorked : Verdict → Type 0
@@ -21,7 +21,7 @@ IsWorked _ = ⊥
 
 -- such an answer is that of the way
 worked_on_way : (a : Ask) (buffered : Bool) (route : Route) (fault : Bool) (got : List ℕ) (v : Verdict) → IsWorked v →
-    reply_of a buffered (Given route) fault got ≡ Some v → reply_on_way a route fault got ≡ v
+    verdict_by_way a buffered (Given route) fault got ≡ Some v → reply_on_way a route fault got ≡ v
 worked_on_way a buffered route fault got v worked line = go (is_malformed a) buffered line
   where
     one : (x : Verdict) → Some x ≡ Some v → x ≡ v
@@ -60,14 +60,14 @@ inside true n m is e = grind (arith, e)
 inside false n m is e = absurd (true≢false (sym is))
 
 -- a write that did something has its range inside the way, and so has a READ
-pub has_room : (a : Ask) (buffered : Bool) (route : Route) (fault : Bool) (got : List ℕ) (v : Verdict) → IsWorked v → reply_of a buffered (Given route) fault got ≡ Some v →
+pub has_room : (a : Ask) (buffered : Bool) (route : Route) (fault : Bool) (got : List ℕ) (v : Verdict) → IsWorked v → verdict_by_way a buffered (Given route) fault got ≡ Some v →
     stores_bytes a.kind ≡ true → a.offset + a.length ≤ route.size
 has_room a buffered route fault got v worked line stores =
     let both = lines (needs_leave a.kind && not route.writable) (needs_places a.kind && passes a route) (needs_room a.kind && passes a route) (cond fault (Refused Io) (done a got)) v worked
     (worked_on_way a buffered route fault got v worked line) in
     inside (needs_room a.kind) (a.offset + a.length) route.size (room_kind a.kind stores) both.1
 
-pub has_places : (a : Ask) (buffered : Bool) (route : Route) (fault : Bool) (got : List ℕ) (v : Verdict) → IsWorked v → reply_of a buffered (Given route) fault got ≡ Some v →
+pub has_places : (a : Ask) (buffered : Bool) (route : Route) (fault : Bool) (got : List ℕ) (v : Verdict) → IsWorked v → verdict_by_way a buffered (Given route) fault got ≡ Some v →
     is_read a.kind ≡ true → a.offset + a.length ≤ route.size
 has_places a buffered route fault got v worked line reads =
     let both = lines (needs_leave a.kind && not route.writable) (needs_places a.kind && passes a route) (needs_room a.kind && passes a route) (cond fault (Refused Io) (done a got)) v worked
@@ -75,7 +75,7 @@ has_places a buffered route fault got v worked line reads =
     inside (needs_places a.kind) (a.offset + a.length) route.size (place_kind a.kind reads) both.0
 
 -- only a READ has bytes
-pub got_reads : (a : Ask) (buffered : Bool) (route : Route) (fault : Bool) (got bytes : List ℕ) → reply_of a buffered (Given route) fault got ≡ Some (Got bytes) → is_read a.kind ≡ true
+pub got_reads : (a : Ask) (buffered : Bool) (route : Route) (fault : Bool) (got bytes : List ℕ) → verdict_by_way a buffered (Given route) fault got ≡ Some (Got bytes) → is_read a.kind ≡ true
 got_reads a buffered route fault got bytes line =
     go (needs_leave a.kind && not route.writable) (needs_places a.kind && passes a route) (needs_room a.kind && passes a route) fault (is_read a.kind)
     (worked_on_way a buffered route fault got (Got bytes) tt line)
@@ -89,7 +89,7 @@ got_reads a buffered route fault got bytes line =
     go false false false false false e = cc
 
 -- it had its memory
-pub was_buffered : (a : Ask) (buffered : Bool) (route : Route) (fault : Bool) (got : List ℕ) (v : Verdict) → IsWorked v → reply_of a buffered (Given route) fault got ≡ Some v → buffered ≡ true
+pub was_buffered : (a : Ask) (buffered : Bool) (route : Route) (fault : Bool) (got : List ℕ) (v : Verdict) → IsWorked v → verdict_by_way a buffered (Given route) fault got ≡ Some v → buffered ≡ true
 was_buffered a buffered route fault got v worked line = go (is_malformed a) buffered line
   where
     one : (x : Verdict) → Some x ≡ Some v → x ≡ v

@@ -13,16 +13,16 @@ use Rattle.qs_outside.specs.Blocks.{Seen}
 use Rattle.qs_image.specs.Image.{AllTell, SameDisks, align_of, block_past, content, size_of}
 use Rattle.qs_image.specs.Opening.{IsImage}
 use Rattle.qs_model.specs.Acts.{Element, Asked}
-use Rattle.qs_model.specs.Laws.{opening}
+use Rattle.qs_model.specs.Laws.{opening_world}
 use Rattle.qs_model.specs.Requests.{Client, body_at, covers, is_read, span_of, stores_bytes, writes}
-use Rattle.qs_model.specs.Steps.{after}
+use Rattle.qs_model.specs.Steps.{world_after}
 use Rattle.qs_model.specs.Worlds.{Image, World, byte_at}
 use Rattle.qs_model.proofs.Geometry.{covers_high, covers_low}
 use Rattle.qs_model.proofs.Kept.{after_append}
 use Rattle.qs_verdicts.specs.Stories.{Given}
-use Rattle.qs_verdicts.specs.Verdicts.{IsAnswered, MayWork, is_malformed, needs_leave, needs_places, needs_room, passes, reply_of}
+use Rattle.qs_verdicts.specs.Verdicts.{IsAnswered, MayWork, is_malformed, needs_leave, needs_places, needs_room, passes, verdict_by_way}
 use Rattle.qs_durable.specs.Ages.{MayBeLeft}
-use Rattle.qs_alone.specs.Alone.{Changes, IsServed, routed_in, written_to}
+use Rattle.qs_alone.specs.Alone.{AnswerChanges, IsServed, routed_in, written_to}
 use Rattle.qs_remains.specs.Remains.{IsStoredAt as HasStored, IsCleanSettled as IsCleanAlone, Remains}
 use Rattle.qs_remains.proofs.Remains.{clean_settled, flushed, remains}
 use Rattle.qs_world.specs.Stands.{Stands}
@@ -30,7 +30,7 @@ use Rattle.qs_world.specs.Values.{WorldValue, disks_of}
 use Rattle.qs_calls.specs.Calls.{Call}
 use Rattle.qs_single.specs.Remaining.{IsCleanSettled, IsLeftAt, IsSettled, IsStoredAt, Outlasts}
 use Rattle.qs_single.specs.Resting.{IsBody, IsResting}
-use Rattle.qs_single.specs.Service.{whole}
+use Rattle.qs_single.specs.Service.{whole_route}
 use Rattle.qs_single.proofs.Answering.{Ran, contents, has_bytes, image_kept, is_served, line, routed_is, same}
 use Rattle.qs_single.proofs.Asked.{own_bytes}
 use Rattle.qs_single.proofs.Contents.{now_is, past_is, told_model}
@@ -48,9 +48,9 @@ read_stores Flush reads stores = true≢false (sym reads)
 read_stores (Unknown n) reads stores = true≢false (sym reads)
 
 -- no line of the table answers Dropped
-not_dropped : (a : Ask) (buffered : Bool) (size : ℕ) (writable fault : Bool) (got : List ℕ) → reply_of a buffered (Given (whole size writable)) fault got ≡ Some Dropped → ⊥
+not_dropped : (a : Ask) (buffered : Bool) (size : ℕ) (writable fault : Bool) (got : List ℕ) → verdict_by_way a buffered (Given (whole_route size writable)) fault got ≡ Some Dropped → ⊥
 not_dropped a buffered size writable fault got is =
-    go (is_malformed a) buffered (needs_leave a.kind && not writable) (needs_places a.kind && passes a (whole size writable)) (needs_room a.kind && passes a (whole size writable)) fault
+    go (is_malformed a) buffered (needs_leave a.kind && not writable) (needs_places a.kind && passes a (whole_route size writable)) (needs_room a.kind && passes a (whole_route size writable)) fault
     (is_read a.kind) is
   where
     go : (b1 b2 b3 b4 b5 b6 b7 : Bool) → cond b1 (Some (Refused Inval)) (cond (not b2) (Some (Refused NoMem))
@@ -93,15 +93,15 @@ stored_byte size writable c given x u own buffered h =
 
 -- by the answer: what may be left where the request stores
 left_by : (A size : ℕ) (writable : Bool) (c : Client) (given : List ℕ) (old new : Image) (before behind : List ℕ) → AreContents A size old new before behind → (v : Verdict) (fault : Bool) (got : List ℕ) →
-    IsOwn c given → reply_of c.ask c.buffered (Given (whole size writable)) fault got ≡ Some v → Changes A old (sent c size writable) v new → ((MayWork v → ⊥) → new ≡ old) →
+    IsOwn c given → verdict_by_way c.ask c.buffered (Given (whole_route size writable)) fault got ≡ Some v → AnswerChanges A old (sent c size writable) v new → ((MayWork v → ⊥) → new ≡ old) →
     (x u : ℕ) → x < size → HasStored (sent c size writable) x u → MayBeLeft A new x u →
     MayBeLeft A old x u ⊎ ((get_or before x 0 ≡ u) ⊎ ((get_or behind x 0 ≡ u) ⊎ ((v ≡ Refused Io) × IsStoredAt c.ask given x u)))
 left_by A size writable c given old new before behind contents Fine fault got own reply changes still x u below h may =
     inr (inr (inl (contents.is x below ∙ changes x ∙ written_whole A old (sent c size writable) x h.stores h.covered ∙ h.byte)))
 left_by A size writable c given old new before behind contents (Refused Io) fault got own reply changes still x u below h may =
-    inr (inr (inr (refl, stored_byte size writable c given x u own (was_buffered c.ask c.buffered (whole size writable) fault got (Refused Io) tt reply) h)))
+    inr (inr (inr (refl, stored_byte size writable c given x u own (was_buffered c.ask c.buffered (whole_route size writable) fault got (Refused Io) tt reply) h)))
 left_by A size writable c given old new before behind contents (Got bytes) fault got own reply changes still x u below h may =
-    absurd (read_stores c.ask.kind (got_reads c.ask c.buffered (whole size writable) fault got bytes reply) h.stores)
+    absurd (read_stores c.ask.kind (got_reads c.ask c.buffered (whole_route size writable) fault got bytes reply) h.stores)
 left_by A size writable c given old new before behind contents Dropped fault got own reply changes still x u below h may =
     absurd (not_dropped c.ask c.buffered size writable fault got reply)
 left_by A size writable c given old new before behind contents _ fault got own reply changes still x u below h may =
@@ -114,13 +114,13 @@ module _ {D : Type 0} (seen : D → Seen) (session : ℕ) (writable : Bool) (a :
   A = w.shape.align
 
   abbrev m : World
-  m = after A (opening rests.opened) rests.steps
+  m = world_after A (opening_world rests.opened) rests.steps
 
   abbrev its : List Element
   its = t.front ++ t.step ∷ []
 
   abbrev m' : World
-  m' = after A (opening rests.opened) (rests.steps ++ Asked number t.client ∷ its)
+  m' = world_after A (opening_world rests.opened) (rests.steps ++ Asked number t.client ∷ its)
 
   abbrev size : ℕ
   size = size_of (disks_of seen w)
@@ -179,7 +179,7 @@ module _ {D : Type 0} (seen : D → Seen) (session : ℕ) (writable : Bool) (a :
           | inr has ↦ elim (left_by A size writable t.client given m.image m'.image (content (disks_of seen w)) (content (disks_of seen w')) are v served_so.fault served_so.got
               (own_bytes m number a t.client given body t.ask_is t.may t.brings is_body)
               (line seen session writable a given body w number calls v w' rests is_body events t)
-              (subst (λ (c : Client). Changes A m.image c v m'.image) routed_so (served_so.changes telling))
+              (subst (λ (c : Client). AnswerChanges A m.image c v m'.image) routed_so (served_so.changes telling))
               served_so.uncalled x u below (subst (λ (c : Client). HasStored c x u) routed_so has) may) [
                 | inl old ↦ inl (back old)
                 | inr more ↦ inr more
@@ -194,7 +194,7 @@ module _ {D : Type 0} (seen : D → Seen) (session : ℕ) (writable : Bool) (a :
 
   clean_so : AllTell (disks_of seen w) → IsCleanSettled seen w → IsCleanSettled seen w'
   clean_so told clean b is =
-      let law : IsCleanAlone m'.image = subst (λ (x : World). IsCleanAlone x.image) (sym (after_append A (opening rests.opened) rests.steps (Asked number t.client ∷ its)))
+      let law : IsCleanAlone m'.image = subst (λ (x : World). IsCleanAlone x.image) (sym (after_append A (opening_world rests.opened) rests.steps (Asked number t.client ∷ its)))
       (clean_settled A m (Asked number t.client ∷ its) (clean_in told clean)) in
       past_is seen w' m' t.stands image_too (tell_too told) b ∙ law b (t.stands.image.clean (stripe_of b) ∙ is)
       ∙ ap (λ (l : List ℕ). l ∷ []) (sym (now_is seen w' m' t.stands image_too (tell_too told) b))

@@ -11,11 +11,11 @@ use Rattle.qs_part.specs.declared.event.Note.{Note}
 use Rattle.qs_part.specs.declared.event.Outcome.{Outcome}
 use Rattle.qs_part.specs.declared.event.Outcome.TheVariants.{Answered, Made, Moved}
 use Rattle.qs_model.specs.Acts.{Act, Answers, Waits, Enters, Routes, Shuts, Lists, Starts, Loads, LoadFails, Holds, HoldFails, Stores, StoreFails, Syncs, Cleans, SyncFails, Frees, Ends, Element, Attached, NoExport, Crowded, Left, Detached, NotAttached, Asked, Did, Exported, Planned, Crashed}
-use Rattle.qs_model.specs.Events.{Brings, IsEvent, outcome_of, row_outcome}
+use Rattle.qs_model.specs.Events.{BringsBytes, IsEvent, outcome_of, row_outcome}
 use Rattle.qs_model.specs.Histories.{Acts, answer_of}
 use Rattle.qs_model.specs.Requests.{Client, Stage}
 use Rattle.qs_verdicts.specs.Verdicts.{IsAnswered}
-use Rattle.qs_alone.specs.Alone.{AreOf, IsWait, IsWaitRow}
+use Rattle.qs_alone.specs.Alone.{AreOf, IsWaitStep, IsWaitRow}
 use Rattle.qs_calls.specs.Calls.{AreCalls, Call, Happened}
 use Rattle.qs_calls.specs.Goings.{GoesOn, goes_on, moves_on}
 
@@ -38,7 +38,7 @@ pub record Asks (session : ℕ) (a : Ask) (body : Option (List ℕ)) (r : ℕ) (
   pub is : e ≡ Asked r client
   pub session_is : session ≡ client.session
   pub ask_is : a ≡ client.ask
-  pub brings : Brings body client
+  pub brings : BringsBytes body client
 
 pub asks : (A session : ℕ) (a : Ask) (body : Option (List ℕ)) (r : ℕ) (e : Element) → IsEvent (AskEvent session a body) e → outcome_of A e ≡ Some (Made r) → Asks session a body r e
 asks A session a body r (Asked s c) is out = record { client = c; is = ap (λ (n : ℕ). Asked n c) (one out); session_is = is.0; ask_is = is.1; brings = is.2 }
@@ -149,7 +149,7 @@ row_ends A c d SyncFails last out ends = absurd (moving _ last out refl ends)
 row_ends A c d Frees last out ends = absurd (moving _ last out refl ends)
 
 pub step_ends : (A r : ℕ) (e : Element) (last : Outcome) → Acts r e → outcome_of A e ≡ Some last → goes_on last ≡ false →
-    IsWait e ⊎ ((v : Verdict) × (n : Option Note) × ((last ≡ Answered v n) × IsAnswered r v e))
+    IsWaitStep e ⊎ ((v : Verdict) × (n : Option Note) × ((last ≡ Answered v n) × IsAnswered r v e))
 step_ends A r (Did s q act) last own out ends = elim (row_ends A q.client q.dropped act last out ends) [
   | inl waits ↦ inl waits
   | inr is ↦ inr (is.0, is.1, (is.2.0, (own, is.2.1)))

@@ -16,7 +16,7 @@ use Rattle.qs_model.specs.Acts.{Act, Answers, Waits, Enters, Routes, Shuts, List
 use Rattle.qs_model.specs.Events.{outcome_of, row_outcome}
 use Rattle.qs_model.specs.Laws.{ComesBehind}
 use Rattle.qs_model.specs.Requests.{Client, Stage}
-use Rattle.qs_alone.specs.Alone.{FailsOn, FailsRow, IsOff, IsOffRow, IsWait, IsWaitRow}
+use Rattle.qs_alone.specs.Alone.{FailsOn, FailsRow, IsOff, IsOffRow, IsWaitStep, IsWaitRow}
 use Rattle.qs_world.specs.Events.{IsCaused, calls_stripe, stripe_by}
 use Rattle.qs_world.specs.Images.{stripe_at}
 use Rattle.qs_world.specs.Values.{WorldValue, disks_of, stripes_of}
@@ -180,7 +180,7 @@ row_quiet A c d Cleans off going out is = absurd off
 row_quiet A c d SyncFails off going out is = absurd off
 row_quiet A c d Frees off going out is = absurd off
 
-pub off_quiet : (A : ℕ) (e : Element) → IsOff e → (IsWait e → ⊥) → IsQuiet A e
+pub off_quiet : (A : ℕ) (e : Element) → IsOff e → (IsWaitStep e → ⊥) → IsQuiet A e
 off_quiet A (Did r q act) off going = row_quiet A q.client q.dropped act off going
 off_quiet A _ off going = absurd off
 

@@ -12,7 +12,7 @@ use Rattle.qs_image.specs.Image.{align_of, block_now, block_past, content, size_
 use Rattle.qs_model.specs.Requests.{stores_bytes}
 use Rattle.qs_world.specs.Images.{stripe_at}
 use Rattle.qs_world.specs.Values.{WorldValue, disks_of, stripes_of}
-use Rattle.qs_single.specs.Service.{stored}
+use Rattle.qs_single.specs.Service.{bytes_stored}
 
 -- a crash of these disks may leave the byte u at x: a content that may be left of its block has it there
 pub record IsLeftAt (disks : List Seen) (x u : ℕ) : Type 0 where
@@ -25,7 +25,7 @@ pub record IsStoredAt (a : Ask) (given : List ℕ) (x u : ℕ) : Type 0 where
   pub stores : stores_bytes a.kind ≡ true
   pub from : a.offset ≤ x
   pub below : x < a.offset + a.length
-  pub byte : get_or (stored a given) (x - a.offset) 0 ≡ u
+  pub byte : get_or (bytes_stored a given) (x - a.offset) 0 ≡ u
 
 -- of every block a crash leaves what it holds
 abbrev pub IsSettled : List Seen → Type 0

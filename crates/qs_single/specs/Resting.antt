@@ -13,9 +13,9 @@ use Rattle.qs_part.specs.declared.event.Note.{Note}
 use Rattle.qs_part.specs.declared.graph.ExportInfo.{ExportInfo}
 use Rattle.qs_part.specs.declared.event.Outcome.TheVariants.{Answered, Attached, Made}
 use Rattle.qs_model.specs.Acts.{Element}
-use Rattle.qs_model.specs.Laws.{opening}
+use Rattle.qs_model.specs.Laws.{opening_world}
 use Rattle.qs_model.specs.Requests.{brings_bytes}
-use Rattle.qs_model.specs.Steps.{Runs, after}
+use Rattle.qs_model.specs.Steps.{Runs, world_after}
 use Rattle.qs_model.specs.Worlds.{Live, Opening}
 use Rattle.qs_world.specs.Running.{meant}
 use Rattle.qs_world.specs.Stands.{Stands}
@@ -29,8 +29,8 @@ use Rattle.qs_single.specs.Service.{Called, MayGet}
 pub record IsResting {D : Type 0} (seen : D → Seen) (session : ℕ) (writable : Bool) (w : WorldValue D) : Type 0 where
   pub opened : Opening
   pub steps : List Element
-  pub run : Runs w.shape.align (opening opened) steps
-  pub stands : Stands seen w (after w.shape.align (opening opened) steps)
+  pub run : Runs w.shape.align (opening_world opened) steps
+  pub stands : Stands seen w (world_after w.shape.align (opening_world opened) steps)
   pub idle : w.requests ≡ []
   pub place : ℕ
   pub live : session_at w.sessions session ≡ Live place

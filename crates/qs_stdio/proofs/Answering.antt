@@ -16,9 +16,9 @@ use Rattle.qs_nbd_transmission.specs.Replies.{CanReply, data_of, is_read as asks
 use Rattle.qs_model.specs.Requests.{brings_bytes, is_read}
 use Rattle.qs_part.specs.declared.graph.Route.{Route}
 use Rattle.qs_verdicts.specs.Stories.{Given}
-use Rattle.qs_verdicts.specs.Verdicts.{is_malformed, is_served, needs_leave, needs_places, needs_room, passes, reply_of, reply_on_way}
+use Rattle.qs_verdicts.specs.Verdicts.{is_malformed, is_served, needs_leave, needs_places, needs_room, passes, verdict_by_way, reply_on_way}
 use Rattle.qs_single.specs.Resting.{IsBody}
-use Rattle.qs_single.specs.Service.{MayGet, whole}
+use Rattle.qs_single.specs.Service.{MayGet, whole_route}
 use Rattle.qs_single.proofs.Lines.{got_reads}
 use Rattle.qs_stdio.specs.Turns.{IsData, body_in}
 
@@ -43,7 +43,7 @@ short_read a reads form = go (not (is_served a.kind)) (not a.flags_fit) (is_read
     go false true r is e = absurd (true≢false e)
     go false false false is e = absurd (true≢false (sym is))
 
-got_formed : (a : Ask) (buffered : Bool) (route : Route) (fault : Bool) (got bytes : List ℕ) → reply_of a buffered (Given route) fault got ≡ Some (Got bytes) → is_malformed a ≡ false
+got_formed : (a : Ask) (buffered : Bool) (route : Route) (fault : Bool) (got bytes : List ℕ) → verdict_by_way a buffered (Given route) fault got ≡ Some (Got bytes) → is_malformed a ≡ false
 got_formed a buffered route fault got bytes line = go (is_malformed a) line
   where
     go : (b : Bool) → cond b (Some (Refused Inval)) (cond (not buffered) (Some (Refused NoMem)) (Some (reply_on_way a route fault got))) ≡ Some (Got bytes) → b ≡ false
@@ -54,7 +54,7 @@ got_formed a buffered route fault got bytes line = go (is_malformed a) line
     go false e = refl
 
 -- a request that is Fine is no READ
-fine_reads : (a : Ask) (buffered : Bool) (route : Route) (fault : Bool) (got : List ℕ) → reply_of a buffered (Given route) fault got ≡ Some Fine → is_read a.kind ≡ false
+fine_reads : (a : Ask) (buffered : Bool) (route : Route) (fault : Bool) (got : List ℕ) → verdict_by_way a buffered (Given route) fault got ≡ Some Fine → is_read a.kind ≡ false
 fine_reads a buffered route fault got line =
     go (is_malformed a) (not buffered) (needs_leave a.kind && not route.writable) (needs_places a.kind && passes a route) (needs_room a.kind && passes a route) fault (is_read a.kind) line
   where
@@ -70,7 +70,7 @@ fine_reads a buffered route fault got line =
     go false false false false false false false e = refl
 
 -- no request is dropped where its session is there
-never_dropped : (a : Ask) (buffered : Bool) (route : Route) (fault : Bool) (got : List ℕ) → reply_of a buffered (Given route) fault got ≡ Some Dropped → ⊥
+never_dropped : (a : Ask) (buffered : Bool) (route : Route) (fault : Bool) (got : List ℕ) → verdict_by_way a buffered (Given route) fault got ≡ Some Dropped → ⊥
 never_dropped a buffered route fault got line =
     go (is_malformed a) (not buffered) (needs_leave a.kind && not route.writable) (needs_places a.kind && passes a route) (needs_room a.kind && passes a route) fault (is_read a.kind) line
   where
@@ -96,12 +96,12 @@ asks_kind (Unknown n) is = absurd (true≢false (sym is))
 -- what a request may get can be replied
 pub can_reply : (size : ℕ) (writable : Bool) (a : Ask) (v : Verdict) → MayGet size writable a v → CanReply a v
 can_reply size writable a (Got bytes) may =
-    let reads = got_reads a may.buffered (whole size writable) may.fault may.got bytes may.line in
-    (read_kind a.kind reads, may.long bytes refl, short_read a reads (got_formed a may.buffered (whole size writable) may.fault may.got bytes may.line))
+    let reads = got_reads a may.buffered (whole_route size writable) may.fault may.got bytes may.line in
+    (read_kind a.kind reads, may.long bytes refl, short_read a reads (got_formed a may.buffered (whole_route size writable) may.fault may.got bytes may.line))
 can_reply size writable a Fine may =
-    λ asks. absurd (true≢false (sym (asks_kind a.kind asks) ∙ fine_reads a may.buffered (whole size writable) may.fault may.got may.line))
+    λ asks. absurd (true≢false (sym (asks_kind a.kind asks) ∙ fine_reads a may.buffered (whole_route size writable) may.fault may.got may.line))
 can_reply size writable a (Refused errno) may = tt
-can_reply size writable a Dropped may = absurd (never_dropped a may.buffered (whole size writable) may.fault may.got may.line)
+can_reply size writable a Dropped may = absurd (never_dropped a may.buffered (whole_route size writable) may.fault may.got may.line)
 
 -- a reply without data
 pub no_data : (v : Verdict) → ((bytes : List ℕ) → v ≡ Got bytes → ⊥) → data_of v ≡ []
@@ -145,7 +145,7 @@ not_asking (Unknown n) writing = absurd (true≢false (sym writing))
 
 pub bare_body : (a : Ask) (body : Option (List ℕ)) → has_data a ≡ false → (asks_bytes a.kind ≡ false → body ≡ None) → IsBody a [] body
 bare_body a body bare none = record {
-  whole = λ writing. no_length a.kind a.length writing (sym (same_test a) ∙ bare);
+  whole_route = λ writing. no_length a.kind a.length writing (sym (same_test a) ∙ bare);
   is = λ writing. none_some body (none (not_asking a.kind writing));
 }
   where

@@ -27,8 +27,8 @@ use Rattle.qs_image.specs.Image.{size_of}
 use Rattle.qs_image.specs.Opening.{IsImage, Opens as OpensAs}
 use Rattle.qs_stdio_words.specs.declared.words.StdioWords.{StdioWords}
 use Rattle.qs_stdio_words.specs.Words.{command}
-use Rattle.qs_stdio.specs.Service.{Exchange, AllFit, answered, asked}
-use Rattle.qs_stdio.specs.Scenes.{Scene, IsCut, disks_in}
+use Rattle.qs_stdio.specs.Service.{Exchange, AllFit, answered_bytes, asked_bytes}
+use Rattle.qs_stdio.specs.Scenes.{Scene, IsCutMessage, disks_in}
 use Rattle.qs_stdio.specs.Streams.{Leaves, IsValidStream, IsServed}
 use Rattle.qs_stdio.specs.Sessions.{IsValidInput, IsValidSession}
 use Rattle.qs_stream.specs.declared.state.State.{State}
@@ -39,8 +39,8 @@ use Rattle.qs_calls.specs.Runs.{Begins}
 use Rattle.qs_outside.specs.declared.stream.Failed.{Failed}
 use Rattle.qs_opening.specs.declared.turn.Opened.{Opened}
 use Rattle.qs_opening.specs.declared.turn.Opened.TheVariants.{Transmit, Ends as Ended}
-use Rattle.qs_opening.specs.Openings.{Opens}
-use Rattle.qs_stdio.specs.Runs.{Concludes, Declines, Holds, ServesStream, Sitting, Ran, fault_at, first, last_scene}
+use Rattle.qs_opening.specs.Openings.{OpensSession}
+use Rattle.qs_stdio.specs.Runs.{Concludes, Declines, Holds, ServesStream, Sitting, Ran, fault_at, opening_scene, last_scene}
 use Rattle.qs_stdio.proofs.Awaiting.{Awaits, Split, split, used_up}
 use Rattle.qs_stdio.proofs.Opening.{ends_memory, requests_come}
 use Rattle.qs_stdio.proofs.Sought.{nothing_front}
@@ -58,7 +58,7 @@ few_read (x ∷ xs) (m ∷ ms) rest last p q none e =
     omega arith
 
 -- the bytes of the messages of a session
-asked_is : (xs : List Exchange) → flat_map spelling (map (λ (x : Exchange). x.message) xs) ≡ asked xs
+asked_is : (xs : List Exchange) → flat_map spelling (map (λ (x : Exchange). x.message) xs) ≡ asked_bytes xs
 asked_is xs = flat_map-map spelling (λ (x : Exchange). x.message) xs
 
 each_message : (session size : ℕ) (writable structured : Bool) (xs : List Exchange) → AllFit session size writable structured xs → AllByRecursion IsMessage (map (λ (x : Exchange). x.message) xs)
@@ -78,7 +78,7 @@ last_none last (inr leaves) = leaves_none last leaves
 
 -- a rest that begins with no message is the stream's last part
 rest_is : (xs : List Exchange) (ms : List Message) (session size : ℕ) (writable structured : Bool) (stream rest last : List ℕ) → AllFit session size writable structured xs → All IsMessage ms →
-    BeginsNone rest → BeginsNone last → stream ≡ asked xs ++ rest → stream ≡ flat_map spelling ms ++ last → rest ≡ last
+    BeginsNone rest → BeginsNone last → stream ≡ asked_bytes xs ++ rest → stream ≡ flat_map spelling ms ++ last → rest ≡ last
 rest_is xs ms session size writable structured stream rest last fit each none never one other =
     (one_reading (map (λ (x : Exchange). x.message) xs) ms rest last (All-from_recursion _ _ (each_message session size writable structured xs fit)) each none never
     (ap (λ (bytes : List ℕ). bytes ++ rest) (asked_is xs) ∙ sym one ∙ other)).1
@@ -105,14 +105,14 @@ same_leave front more last leaves is e =
     ∙ ap (λ (xs : List ℕ). xs ++ leaves.more) leaves.is.0.spelled)).0
 
 -- some bytes of a message, and not all, begin with none
-cut_none : (rest : List ℕ) → IsCut rest → BeginsNone rest
+cut_none : (rest : List ℕ) → IsCutMessage rest → BeginsNone rest
 cut_none rest (inl front) = rests_begin.front rest front.0
 cut_none rest (inr cut) =
     subst (λ (xs : List ℕ). BeginsNone xs) (sym (cut.whole ∙ ap (λ (xs : List ℕ). xs ++ cut.got) cut.head.spelled))
     (rests_begin.partial (head_of cut.front) cut.got cut.head.fits cut.wants cut.short)
 
 -- and aren't how a valid stream ends
-cut_not : (rest : List ℕ) → IsCut rest → (rest ≡ []) ⊎ Leaves rest → ⊥
+cut_not : (rest : List ℕ) → IsCutMessage rest → (rest ≡ []) ⊎ Leaves rest → ⊥
 cut_not rest (inl front) (inl is) = absurd (omega (arith, ap length is, front.1))
 cut_not rest (inl front) (inr leaves) =
     absurd (omega (arith, ap length leaves.whole, length-append leaves.leave leaves.more, head_long leaves.leave (head_of leaves.leave) leaves.is.0, front.0.short))
@@ -156,15 +156,15 @@ module _ {D : Type 0} (seen : D → Seen) (session : ℕ) (writable structured :
   Sits s = Sitting seen session writable structured (2 ^ 32) before after s
 
   -- what was taken, and what is to come
-  parts : (s : Status) (sits : Sits s) → Split stream (asked sits.exchanges ++ sits.rest) after.flow
-  parts s sits = split stream (asked sits.exchanges ++ sits.rest) (answered sits.exchanges) before.flow after.flow awaits sits.moved
+  parts : (s : Status) (sits : Sits s) → Split stream (asked_bytes sits.exchanges ++ sits.rest) after.flow
+  parts s sits = split stream (asked_bytes sits.exchanges ++ sits.rest) (answered_bytes sits.exchanges) before.flow after.flow awaits sits.moved
 
   -- the rest, with what is left behind it, ends the stream
   ends_stream : (s : Status) (sits : Sits s) → BeginsNone (sits.rest ++ (parts s sits).remaining) →
       sits.rest ++ (parts s sits).remaining ≡ valid.last
   ends_stream s sits none =
       rest_is sits.exchanges valid.messages session (size_of (disks_in seen before)) writable structured stream (sits.rest ++ (parts s sits).remaining) valid.last sits.fit valid.each none
-      (last_none valid.last valid.ends) ((parts s sits).whole ∙ append_assoc (asked sits.exchanges) sits.rest (parts s sits).remaining) valid.whole
+      (last_none valid.last valid.ends) ((parts s sits).whole ∙ append_assoc (asked_bytes sits.exchanges) sits.rest (parts s sits).remaining) valid.whole
 
   -- the budget isn't spent
   not_spent : (sits : Sits status.Spent) → ⊥
@@ -174,7 +174,7 @@ module _ {D : Type 0} (seen : D → Seen) (session : ℕ) (writable structured :
       let fewer : length xs ≤ length valid.messages =
       few_read xs valid.messages behind valid.last (All-from_recursion _ _ (each_message session (size_of (disks_in seen before)) writable structured sits.exchanges sits.fit)) valid.each (last_none valid.last valid.ends)
       (ap (λ (bytes : List ℕ). bytes ++ behind) (asked_is sits.exchanges)
-      ∙ sym ((parts status.Spent sits).whole ∙ append_assoc (asked sits.exchanges) sits.rest (parts status.Spent sits).remaining)
+      ∙ sym ((parts status.Spent sits).whole ∙ append_assoc (asked_bytes sits.exchanges) sits.rest (parts status.Spent sits).remaining)
       ∙ valid.whole) in
       absurd (omega (arith, fewer, length-map sits.exchanges (λ (x : Exchange). x.message), sits.ends.1, valid.few))
 
@@ -219,7 +219,7 @@ never_failed result state.Open read write is = write is
 module _ {D : Type 0} (seen : D → Seen) (disks : List D) (read_only : Bool) (input output : Side) (start : WorldValue D) (input' output' : Side) (new : WorldValue D)
     (begins : Begins seen disks read_only start) (stream : List ℕ) (told : input.bytes ≡ Some stream) where
   -- all of the stream is to come
-  at_first : (world : WorldValue D) → Awaits stream (first input output world).flow
+  at_first : (world : WorldValue D) → Awaits stream (opening_scene input output world).flow
   at_first world = record { left = stream; told = told; whole = refl }
 
   -- a handshake that ended the session
@@ -227,11 +227,11 @@ module _ {D : Type 0} (seen : D → Seen) (disks : List D) (read_only : Bool) (i
       Declines seen read_only (2 ^ 32) input output start result input' output' new → IsServed result
   declines_served result valid read write d = go d.opened d.opens d.concludes
     where
-      go : (opened : Result Opened Failed) → Opens {E = Failed} seen 0 (not read_only) (2 ^ 32) (first input output start).flow start opened d.flow new →
+      go : (opened : Result Opened Failed) → OpensSession {E = Failed} seen 0 (not read_only) (2 ^ 32) (opening_scene input output start).flow start opened d.flow new →
           Concludes opened result d.stream → IsServed result
       go (Ok (Transmit mode)) opens concludes = absurd concludes
       go (Ok (Ended how)) opens (inl is) =
-          inr (is.2 ∙ ends_memory seen disks read_only 0 (not read_only) (first input output start).flow start d.flow new begins stream (at_first start) valid how opens)
+          inr (is.2 ∙ ends_memory seen disks read_only 0 (not read_only) (opening_scene input output start).flow start d.flow new begins stream (at_first start) valid how opens)
       go (Ok (Ended how)) opens (inr is) = absurd (never_failed result d.stream.state read write is.1)
       go (Err e) opens concludes = absurd (never_failed result d.stream.state read write concludes.1)
 
@@ -243,7 +243,7 @@ module _ {D : Type 0} (seen : D → Seen) (disks : List D) (read_only : Bool) (i
       (subst (λ (f : Flow). Awaits stream f) (sym sits.comes.1) (at_first sits.begun)) result sits.sits read write
   serves_served false result valid read write (inl sits) =
       sits_served seen 0 (not read_only) sits.mode.structured valid.requests (record { flow = sits.flow; world = sits.begun }) (last_scene input' output' sits.stream new) valid.valid
-      (requests_come seen disks read_only 0 (not read_only) (first input output start).flow start sits.flow sits.begun begins stream (at_first start) valid sits.mode sits.comes) result sits.sits read write
+      (requests_come seen disks read_only 0 (not read_only) (opening_scene input output start).flow start sits.flow sits.begun begins stream (at_first start) valid sits.mode sits.comes) result sits.sits read write
   serves_served transmission result valid read write (inr (inl forgoes)) = inr forgoes.result_is
   serves_served true result valid read write (inr (inr declines)) = absurd (true≢false declines.0)
   serves_served false result valid read write (inr (inr declines)) = declines_served result valid read write declines.1

@@ -14,7 +14,7 @@ use Rattle.qs_nbd_handshake.specs.declared.event.Want.{Want}
 use Rattle.qs_nbd_handshake.specs.declared.event.Want.TheVariants as want
 use Rattle.qs_nbd_handshake.specs.declared.wish.Wish.{Wish}
 use Rattle.qs_nbd_handshake.specs.declared.wish.Wish.TheVariants as wish
-use Rattle.qs_nbd_handshake.specs.Answers.{export_step, go_step, step_of}
+use Rattle.qs_nbd_handshake.specs.Answers.{export_step, go_step, hand_step_of}
 use Rattle.qs_nbd_handshake.specs.Phases.{wish_in}
 use Rattle.qs_nbd_handshake.specs.Wishes.{want_of}
 use Rattle.qs_stream.specs.declared.state.State.TheVariants as state
@@ -24,9 +24,9 @@ use Rattle.qs_world.specs.Values.{WorldValue, disks_of}
 use Rattle.qs_single.specs.Resting.{Attaches}
 use Rattle.qs_opening.specs.declared.turn.Opened.{Opened}
 use Rattle.qs_opening.specs.declared.turn.Opened.TheVariants.{Transmit, Ends as Ended}
-use Rattle.qs_opening.specs.Openings.{LacksFlags, Opens, terms_of}
+use Rattle.qs_opening.specs.Openings.{LacksFlags, OpensSession, terms_of}
 use Rattle.qs_opening.specs.Options.{terms_after}
-use Rattle.qs_opening.specs.Telling.{Changes, JoinsAt, told_info, told_of}
+use Rattle.qs_opening.specs.Telling.{WantChanges, JoinsAt, told_info, graph_told}
 use Rattle.qs_opening.specs.Turns.{Concludes, status_at}
 use Rattle.qs_stdio.specs.Runs.{side_of}
 
@@ -64,7 +64,7 @@ never_transmits told mode e = cc
 
 module _ {D : Type 0} (seen : D → Seen) (session : ℕ) (writable : Bool) (budget : ℕ) (before : Flow) (old : WorldValue D) (after : Flow) (new : WorldValue D) where
   -- the status is none of a fault
-  pub opened_ends : {E : Type 0} (told : Status) → Opens {E = E} seen session writable budget before old (Ok (Ended told)) after new → IsEnd told
+  pub opened_ends : {E : Type 0} (told : Status) → OpensSession {E = E} seen session writable budget before old (Ok (Ended told)) after new → IsEnd told
   opened_ends told (inl agrees) = elim agrees.finishes [
     | inl concludes ↦ go concludes
     | inr spends ↦ told_ends told status.Spent spends.opened_is tt
@@ -92,7 +92,7 @@ module _ {D : Type 0} (seen : D → Seen) (session : ℕ) (writable : Bool) (bud
     pub given : List ℕ
     pub moved : Moved taken given before after
 
-  pub opened_moved : {E : Type 0} (opened : Result Opened E) → Opens {E = E} seen session writable budget before old opened after new → Went
+  pub opened_moved : {E : Type 0} (opened : Result Opened E) → OpensSession {E = E} seen session writable budget before old opened after new → Went
   opened_moved opened (inl agrees) = record { taken = _; given = _; moved = agrees.moved }
   opened_moved opened (inr (inl greets)) = record { taken = greets.taken; given = _; moved = greets.moved }
   opened_moved opened (inr (inr forgoes)) = record { taken = []; given = []; moved = subst (λ (f : Flow). Moved [] [] before f) (sym forgoes.flow) (moved_none before) }
@@ -101,7 +101,7 @@ module _ {D : Type 0} (seen : D → Seen) (session : ℕ) (writable : Bool) (bud
   joins_disks name None same = ap (disks_of seen) same
   joins_disks name (Some known) joins = joins.1.disks
 
-  changes_disks : (w : Want) → Changes seen session writable old w new → disks_of seen new ≡ disks_of seen old
+  changes_disks : (w : Want) → WantChanges seen session writable old w new → disks_of seen new ≡ disks_of seen old
   changes_disks (want.Attach None) same = ap (disks_of seen) same
   changes_disks (want.Attach (Some name)) joins = joins_disks name (info_of old.graph name) joins
   changes_disks (want.Find name) same = ap (disks_of seen) same
@@ -109,7 +109,7 @@ module _ {D : Type 0} (seen : D → Seen) (session : ℕ) (writable : Bool) (bud
   changes_disks want.Nothing same = ap (disks_of seen) same
 
   -- the disks stay
-  pub opened_disks : {E : Type 0} (opened : Result Opened E) → Opens {E = E} seen session writable budget before old opened after new → disks_of seen new ≡ disks_of seen old
+  pub opened_disks : {E : Type 0} (opened : Result Opened E) → OpensSession {E = E} seen session writable budget before old opened after new → disks_of seen new ≡ disks_of seen old
   opened_disks (Ok opened) (inl agrees) = elim agrees.finishes [
     | inl concludes ↦ go concludes
     | inr spends ↦ ap (disks_of seen) spends.same
@@ -138,12 +138,12 @@ module _ {D : Type 0} (seen : D → Seen) (session : ℕ) (writable : Bool) (bud
   goes_at mode agreed name None step joins = absurd (cc)
   goes_at mode agreed name (Some known) step joins = record { name = name; info = joins.0; attaches = joins.1 }
 
-  joined_by : (mode agreed : Mode) (w : Wish) → step_of mode w (told_of old.graph (want_of w)) ≡ TransmitStep agreed → Changes seen session writable old (want_of w) new → Joined
+  joined_by : (mode agreed : Mode) (w : Wish) → hand_step_of mode w (graph_told old.graph (want_of w)) ≡ TransmitStep agreed → WantChanges seen session writable old (want_of w) new → Joined
   joined_by mode agreed (wish.Export None) step changes = absurd (cc)
   joined_by mode agreed (wish.Export (Some name)) step changes = joined_at mode agreed name (info_of old.graph name) step changes
   joined_by mode agreed (wish.Go inquiry) step changes = by inquiry.name step changes
     where
-      by : (name : Option (List ℕ)) → go_step mode (told_of old.graph (want.Attach name)) ≡ TransmitStep agreed → Changes seen session writable old (want.Attach name) new → Joined
+      by : (name : Option (List ℕ)) → go_step mode (graph_told old.graph (want.Attach name)) ≡ TransmitStep agreed → WantChanges seen session writable old (want.Attach name) new → Joined
       by None step changes = absurd (cc)
       by (Some name) step changes = goes_at mode agreed name (info_of old.graph name) step changes
   joined_by mode agreed wish.Abort step changes = absurd (cc)
@@ -153,7 +153,7 @@ module _ {D : Type 0} (seen : D → Seen) (session : ℕ) (writable : Bool) (bud
   joined_by mode agreed (wish.Malformed number) step changes = absurd (cc)
   joined_by mode agreed (wish.Unknown number) step changes = absurd (cc)
 
-  pub opened_joined : {E : Type 0} (mode : Mode) → Opens {E = E} seen session writable budget before old (Ok (Transmit mode)) after new → Joined
+  pub opened_joined : {E : Type 0} (mode : Mode) → OpensSession {E = E} seen session writable budget before old (Ok (Transmit mode)) after new → Joined
   opened_joined mode (inl agrees) = elim agrees.finishes [
     | inl concludes ↦ go concludes
     | inr spends ↦ absurd (never_transmits status.Spent mode (sym spends.opened_is))
@@ -171,7 +171,7 @@ module _ {D : Type 0} (seen : D → Seen) (session : ℕ) (writable : Bool) (bud
       ok_never e = cc
 
   -- where no call was answered, a side failed
-  pub opened_failed : {E : Type 0} (e : E) → Opens {E = E} seen session writable budget before old (Err e) after new → after.stream.state ≢ state.Open
+  pub opened_failed : {E : Type 0} (e : E) → OpensSession {E = E} seen session writable budget before old (Err e) after new → after.stream.state ≢ state.Open
   opened_failed e (inl agrees) = agrees.finishes.failed
   opened_failed e (inr (inl greets)) = greets.fruitless.1
   opened_failed {E} e (inr (inr forgoes)) = absurd (err_never forgoes.result_is)

@@ -13,13 +13,13 @@ use Rattle.qs_nbd_handshake.specs.declared.event.Told.{Told}
 use Rattle.qs_nbd_handshake.specs.declared.event.Told.TheVariants as told
 use Rattle.qs_nbd_handshake.specs.declared.wish.Wish.{Wish}
 use Rattle.qs_nbd_handshake.specs.declared.wish.Wish.TheVariants as wish
-use Rattle.qs_nbd_handshake.specs.Answers.{export_step, go_step, step_of}
+use Rattle.qs_nbd_handshake.specs.Answers.{export_step, go_step, hand_step_of}
 use Rattle.qs_nbd_handshake.specs.Wishes.{want_of}
 use Rattle.qs_world.specs.Values.{WorldValue}
 use Rattle.qs_calls.specs.Runs.{Begins}
 use Rattle.qs_single.proofs.Attaching.{graph_is, with_export}
-use Rattle.qs_opening.specs.Telling.{told_info, told_name, told_of}
-use Rattle.qs_stdio.specs.Sessions.{attaches, goes_on, means_disk}
+use Rattle.qs_opening.specs.Telling.{told_info, told_name, graph_told}
+use Rattle.qs_stdio.specs.Sessions.{attaches, wish_goes_on, means_disk}
 
 -- the export has this name, and no free place has
 abbrev has_it : Bool → Option Export → Bool
@@ -53,7 +53,7 @@ module _ {D : Type 0} (seen : D → Seen) (disks : List D) (read_only : Bool) (w
       ∙ told_by (means_disk (Some name))
 
   -- requests follow an option that attaches
-  pub transmits : (mode : Mode) (w' : Wish) → attaches w' ≡ true → step_of mode w' (told_of w.graph (want_of w')) ≡ Transmit mode
+  pub transmits : (mode : Mode) (w' : Wish) → attaches w' ≡ true → hand_step_of mode w' (graph_told w.graph (want_of w')) ≡ Transmit mode
   unfolding told_disk
   transmits mode (wish.Export name) is = ap (export_step mode) (name_told name ∙ ap (λ (b : Bool). if b then told_disk else told.Missing) is)
   transmits mode (wish.Go inquiry) is = ap (go_step mode) (name_told inquiry.name ∙ ap (λ (b : Bool). if b then told_disk else told.Missing) is)
@@ -64,7 +64,7 @@ module _ {D : Type 0} (seen : D → Seen) (disks : List D) (read_only : Bool) (w
   not_true false is = refl
 
   -- options go on behind others
-  pub stays : (mode : Mode) (w' : Wish) → goes_on w' ≡ true → step_of mode w' (told_of w.graph (want_of w')) ≡ Stay
+  pub stays : (mode : Mode) (w' : Wish) → wish_goes_on w' ≡ true → hand_step_of mode w' (graph_told w.graph (want_of w')) ≡ Stay
   stays mode (wish.Export name) is = absurd (cc)
   stays mode wish.Abort is = absurd (cc)
   stays mode (wish.Go inquiry) is = ap (go_step mode) (name_told inquiry.name ∙ ap (λ (b : Bool). if b then told_disk else told.Missing) (not_true (means_disk inquiry.name) is))

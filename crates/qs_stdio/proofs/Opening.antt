@@ -10,7 +10,7 @@ use Rattle.qs_status.specs.declared.status.Status.{Status}
 use Rattle.qs_status.specs.declared.status.Status.TheVariants as status
 use Rattle.qs_outside.specs.Blocks.{Seen}
 use Rattle.qs_nbd_wire.specs.Greetings.{flags_of}
-use Rattle.qs_nbd_handshake.specs.Sessions.{bytes_of}
+use Rattle.qs_nbd_handshake.specs.Sessions.{sent_bytes}
 use Rattle.qs_nbd_handshake.specs.declared.stage.Terms.{Terms}
 use Rattle.qs_nbd_handshake.proofs.Reading.{same_front}
 use Rattle.qs_stream.specs.Flows.{Flow}
@@ -18,7 +18,7 @@ use Rattle.qs_world.specs.Values.{WorldValue}
 use Rattle.qs_calls.specs.Runs.{Begins}
 use Rattle.qs_opening.specs.declared.turn.Opened.{Opened}
 use Rattle.qs_opening.specs.declared.turn.Opened.TheVariants.{Transmit, Ends as Ended}
-use Rattle.qs_opening.specs.Openings.{Agrees, LacksFlags, Opens, terms_of}
+use Rattle.qs_opening.specs.Openings.{Agrees, LacksFlags, OpensSession, terms_of}
 use Rattle.qs_opening.specs.Options.{terms_after}
 use Rattle.qs_opening.specs.Turns.{Concludes, status_at}
 use Rattle.qs_stdio.specs.Sessions.{IsValidSession}
@@ -41,7 +41,7 @@ module _ {D : Type 0} (seen : D → Seen) (disks : List D) (read_only : Bool) (s
   rests_of : {E : Type 0} (result : Result Opened E) (agrees : Agrees {E = E} seen session writable (2 ^ 32) before old result after new) →
       Rests agrees.options (terms_after (terms_of agrees.known) agrees.options) agrees.rest
   rests_of result agrees =
-      let options : List ℕ = flat_map bytes_of agrees.options in
+      let options : List ℕ = flat_map sent_bytes agrees.options in
       let s : Split stream (agrees.flags ++ (options ++ agrees.rest)) after = split stream (agrees.flags ++ (options ++ agrees.rest)) _ before after awaits agrees.moved in
       record {
         remaining = s.remaining;
@@ -65,7 +65,7 @@ module _ {D : Type 0} (seen : D → Seen) (disks : List D) (read_only : Bool) (s
         ap length (used_up s.remaining after s.awaits cut.2),
         ap length (sym s.whole ∙ valid.whole),
         length-append taken s.remaining,
-        length-append valid.flags (flat_map bytes_of valid.options ++ (valid.final ++ valid.requests)),
+        length-append valid.flags (flat_map sent_bytes valid.options ++ (valid.final ++ valid.requests)),
       )
   flags_come taken told s (inr bad) =
       let same : taken ≡ valid.flags = same_front taken valid.flags s.remaining _ (bad.1 ∙ sym valid.four) (sym s.whole ∙ valid.whole) in
@@ -95,7 +95,7 @@ module _ {D : Type 0} (seen : D → Seen) (disks : List D) (read_only : Bool) (s
     concludes_requests mode (inr (inr (inr stops))) = absurd (never_transmits stops.status mode (sym stops.opened_is))
 
   -- the handshake ends the session for want of memory alone
-  pub ends_memory : {E : Type 0} (told : Status) → Opens {E = E} seen session writable (2 ^ 32) before old (Ok (Ended told)) after new → told ≡ status.Memory
+  pub ends_memory : {E : Type 0} (told : Status) → OpensSession {E = E} seen session writable (2 ^ 32) before old (Ok (Ended told)) after new → told ≡ status.Memory
   ends_memory {E} told (inl agrees) =
       let rests = rests_of {E = E} (Ok (Ended told)) agrees in
       elim agrees.finishes [
@@ -111,7 +111,7 @@ module _ {D : Type 0} (seen : D → Seen) (disks : List D) (read_only : Bool) (s
       one e = cc
 
   -- where requests follow, those of the session are to come
-  pub requests_come : {E : Type 0} (mode : Mode) → Opens {E = E} seen session writable (2 ^ 32) before old (Ok (Transmit mode)) after new → Awaits valid.requests after
+  pub requests_come : {E : Type 0} (mode : Mode) → OpensSession {E = E} seen session writable (2 ^ 32) before old (Ok (Transmit mode)) after new → Awaits valid.requests after
   requests_come {E} mode (inl agrees) = elim agrees.finishes [
     | inl concludes ↦ concludes_requests agrees.options (terms_after (terms_of agrees.known) agrees.options) agrees.rest agrees.given (rests_of {E = E} (Ok (Transmit mode)) agrees) mode concludes
     | inr spends ↦ absurd (never_transmits status.Spent mode (sym spends.opened_is))

@@ -8,7 +8,7 @@ use Rattle.qs_image.specs.Image.{align_of, block_now, content, size_of}
 use Rattle.qs_image.proofs.Contents.{get_or-image}
 use Rattle.qs_durable.proofs.Rows.{only_member}
 use Rattle.qs_single.specs.Remaining.{IsLeftAt, IsSettled}
-use Rattle.qs_stdio.specs.Service.{Exchange, CalledAll, OutlastsAll, ask}
+use Rattle.qs_stdio.specs.Service.{Exchange, CalledAll, OutlastsAll, asked_in}
 use Rattle.qs_stdio.specs.Surviving.{Stood, Survives}
 
 -- of settled disks a crash leaves the byte as it is
@@ -52,7 +52,7 @@ from_settled old new xs x u settled called all below h = elim (stood old new xs 
 
 -- and from a FLUSH that is Fine
 from_flush : (old new : List Seen) (front : List Exchange) (flush : Exchange) (behind : List Exchange) (x u : ℕ) → CalledAll old (front ++ flush ∷ behind) new →
-    OutlastsAll old (front ++ flush ∷ behind) new → (ask flush).kind ≡ Flush → flush.verdict ≡ Fine → x < size_of old → IsLeftAt new x u → Stood flush.left behind x u
+    OutlastsAll old (front ++ flush ∷ behind) new → (asked_in flush).kind ≡ Flush → flush.verdict ≡ Fine → x < size_of old → IsLeftAt new x u → Stood flush.left behind x u
 from_flush old new [] flush behind x u called all kind fine below h =
     from_settled flush.left new behind x u (all.0.flushed kind fine) called.1 all.1 (rw (called.0.same.size 0) below) h
 from_flush old new (e ∷ front) flush behind x u called all kind fine below h =

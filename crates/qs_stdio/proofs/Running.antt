@@ -7,7 +7,7 @@ use Rattle.qs_status.specs.declared.status.Status.TheVariants as status
 use Rattle.qs_bytes.specs.declared.ask.Mode.{Mode}
 use Rattle.qs_opening.specs.declared.turn.Opened.{Opened}
 use Rattle.qs_opening.specs.declared.turn.Opened.TheVariants.{Transmit, Ends as Ended}
-use Rattle.qs_opening.specs.Openings.{Opens}
+use Rattle.qs_opening.specs.Openings.{OpensSession}
 use Rattle.qs_outside.specs.Blocks.{Seen}
 use Rattle.qs_outside.specs.declared.stream.Failed.{Failed}
 use Rattle.qs_outside.specs.Faults.{Rose}
@@ -33,7 +33,7 @@ use Rattle.qs_stdio.proofs.Serving.{calls_lead, fault_side}
 use Rattle.qs_stdio.proofs.Outliving.{survives}
 use Rattle.qs_stdio_words.specs.declared.words.StdioWords.{StdioWords}
 use Rattle.qs_stdio_words.specs.Words.{command}
-use Rattle.qs_stdio.specs.Runs.{Closes, ComesTo, Concludes, Declines, Ends, EndsAs, Forgoes, Holds, Idles, Ran, Serves, ServesStream, Sitting, exchanges_in, fault_at, first, last_scene, side_of}
+use Rattle.qs_stdio.specs.Runs.{Closes, ComesTo, Concludes, Declines, EndsSession, EndsAs, Forgoes, Holds, Idles, Ran, ServesWords, ServesStream, Sitting, exchanges_in, fault_at, opening_scene, last_scene, side_of}
 use Rattle.qs_stream.specs.Buffers.{Buffers}
 use Rattle.qs_stream.specs.declared.state.State.TheVariants as state
 use Rattle.qs_stream.specs.declared.state.State.{State}
@@ -65,16 +65,16 @@ sits_of {D} seen disks read_only transmission budget input output start begun na
 -- requests followed a handshake
 pub client_sat : {D : Type 0} (seen : D → Seen) (disks : List D) (read_only : Bool) (budget : ℕ) (input output : Side) (start begun : WorldValue D) (mode : Mode) (flow : Flow) (result : Status)
     (input' output' : Side) (stream : Buffers) (new : WorldValue D) → Begins seen disks read_only start →
-    Opens {E = Failed} seen 0 (not read_only) budget (first input output start).flow start (Ok (Transmit mode)) flow begun →
+    OpensSession {E = Failed} seen 0 (not read_only) budget (opening_scene input output start).flow start (Ok (Transmit mode)) flow begun →
     Sitting seen 0 (not read_only) mode.structured budget (record { flow = flow; world = begun }) (last_scene input' output' stream new) result →
     ServesStream seen disks read_only false budget input output start result input' output' new
 client_sat seen disks read_only budget input output start begun mode flow result input' output' stream new begins opens sits =
-    let joined = opened_joined seen 0 (not read_only) budget (first input output start).flow start flow begun mode opens in
+    let joined = opened_joined seen 0 (not read_only) budget (opening_scene input output start).flow start flow begun mode opens in
     sits_of seen disks read_only false budget input output start begun joined.name joined.info mode flow result input' output' stream new begins joined.attaches opens sits
 
 -- it ended the session
 pub client_closed : {D : Type 0} (seen : D → Seen) (disks : List D) (read_only : Bool) (budget : ℕ) (input output : Side) (start new : WorldValue D) (told : Status) (flow : Flow) (result : Status)
-    (output' : Side) (stream : Buffers) → Opens {E = Failed} seen 0 (not read_only) budget (first input output start).flow start (Ok (Ended told)) flow new →
+    (output' : Side) (stream : Buffers) → OpensSession {E = Failed} seen 0 (not read_only) budget (opening_scene input output start).flow start (Ok (Ended told)) flow new →
     Closes flow.output flow.stream told output' stream result → ServesStream seen disks read_only false budget input output start result flow.input output' new
 client_closed seen disks read_only budget input output start new told flow result output' stream opens closes = inr (inr (
   refl,
@@ -86,20 +86,20 @@ client_closed seen disks read_only budget input output start new told flow resul
     written = closes.puts.moved flow.input;
     concludes = closes.ends;
     failed = side closes.ends;
-    disks = opened_disks seen 0 (not read_only) budget (first input output start).flow start flow new {E = Failed} (Ok (Ended told)) opens;
+    disks = opened_disks seen 0 (not read_only) budget (opening_scene input output start).flow start flow new {E = Failed} (Ok (Ended told)) opens;
   },
 ))
   where
     side : EndsAs told result stream → stream.state ≡ side_of result
-    side (inl is) = is.0 ∙ sym (ap side_of is.2 ∙ end_side told (opened_ends seen 0 (not read_only) budget (first input output start).flow start flow new told opens))
+    side (inl is) = is.0 ∙ sym (ap side_of is.2 ∙ end_side told (opened_ends seen 0 (not read_only) budget (opening_scene input output start).flow start flow new told opens))
     side (inr is) = fault_side stream.state is.0 ∙ sym (ap side_of is.1)
 
 -- or a side failed in it
 pub client_failed : {D : Type 0} (seen : D → Seen) (disks : List D) (read_only : Bool) (budget : ℕ) (input output : Side) (start new : WorldValue D) (e : Failed) (flow : Flow) (result : Status) →
-    Opens {E = Failed} seen 0 (not read_only) budget (first input output start).flow start (Err e) flow new → result ≡ fault_at flow.stream.state →
+    OpensSession {E = Failed} seen 0 (not read_only) budget (opening_scene input output start).flow start (Err e) flow new → result ≡ fault_at flow.stream.state →
     ServesStream seen disks read_only false budget input output start result flow.input flow.output new
 client_failed seen disks read_only budget input output start new e flow result opens is =
-    let failed = opened_failed seen 0 (not read_only) budget (first input output start).flow start flow new e opens in
+    let failed = opened_failed seen 0 (not read_only) budget (opening_scene input output start).flow start flow new e opens in
     inr (inr (
       refl,
       record {
@@ -110,7 +110,7 @@ client_failed seen disks read_only budget input output start new e flow result o
         written = moved_none flow;
         concludes = (failed, is);
         failed = fault_side flow.stream.state failed ∙ sym (ap side_of is);
-        disks = opened_disks seen 0 (not read_only) budget (first input output start).flow start flow new {E = Failed} (Err e) opens;
+        disks = opened_disks seen 0 (not read_only) budget (opening_scene input output start).flow start flow new {E = Failed} (Err e) opens;
       },
     ))
 
@@ -183,7 +183,7 @@ fault_client state.Open = tt
 fault_client state.ReadFault = tt
 fault_client state.WriteFault = tt
 
-ending_client : (result : Status) (budget : ℕ) (xs : List Exchange) (after : Flow) (rest : List ℕ) → Ends result budget xs after rest → IsClientEnd result
+ending_client : (result : Status) (budget : ℕ) (xs : List Exchange) (after : Flow) (rest : List ℕ) → EndsSession result budget xs after rest → IsClientEnd result
 ending_client status.Usage budget xs after rest ends = absurd ends
 ending_client (status.OpenBad bad) budget xs after rest ends = absurd ends
 ending_client (status.BadLine n) budget xs after rest ends = absurd ends
@@ -198,17 +198,17 @@ serves_ends seen disks read_only transmission budget input output start result i
 serves_ends seen disks read_only transmission budget input output start result input' output' new (inr (inr declines)) =
     go declines.1.opened declines.1.opens declines.1.concludes
   where
-    go : (opened : Result Opened Failed) → Opens {E = Failed} seen 0 (not read_only) budget (first input output start).flow start opened declines.1.flow new →
+    go : (opened : Result Opened Failed) → OpensSession {E = Failed} seen 0 (not read_only) budget (opening_scene input output start).flow start opened declines.1.flow new →
         Concludes opened result declines.1.stream → IsClientEnd result
     go (Ok (Transmit mode)) opens concludes = absurd concludes
     go (Ok (Ended told)) opens (inl is) =
-        subst IsClientEnd (sym is.2) (ends_client told (opened_ends seen 0 (not read_only) budget (first input output start).flow start declines.1.flow new told opens))
+        subst IsClientEnd (sym is.2) (ends_client told (opened_ends seen 0 (not read_only) budget (opening_scene input output start).flow start declines.1.flow new told opens))
     go (Ok (Ended told)) opens (inr is) = subst IsClientEnd (sym is.1) (fault_client declines.1.stream.state)
     go (Err e) opens concludes = subst IsClientEnd (sym concludes.1) (fault_client declines.1.stream.state)
 
 pub serves_of : {D : Type 0} (seen : D → Seen) (disks : List D) (told : StdioWords) (input output : Side) (start : WorldValue D) (result : Status) (input' output' : Side) (new : WorldValue D)
     (disks' : List D) → Begins seen disks told.read_only start → ServesStream seen disks told.read_only told.transmission (2 ^ 32) input output start result input' output' new →
-    disks' ≡ map (λ (s : StripeState D). s.disk) new.stripes → Serves seen told disks input output result disks' input' output'
+    disks' ≡ map (λ (s : StripeState D). s.disk) new.stripes → ServesWords seen told disks input output result disks' input' output'
 serves_of seen disks told input output start status.Usage input' output' new disks' begins serves back =
     absurd (serves_ends seen disks told.read_only told.transmission (2 ^ 32) input output start status.Usage input' output' new serves)
 serves_of seen disks told input output start (status.OpenBad bad) input' output' new disks' begins serves back =
@@ -220,14 +220,14 @@ serves_of seen disks told input output start other input' output' new disks' beg
 
 -- the disks came back at once
 pub serves_back : {D : Type 0} (seen : D → Seen) (told : StdioWords) (disks back : List D) (input output : Side) (result : Status) (input' output' : Side) → ComesBack seen disks back result →
-    Idles input output input' output' → Serves seen told disks input output result back input' output'
+    Idles input output input' output' → ServesWords seen told disks input output result back input' output'
 serves_back seen told disks back input output (status.OpenBad bad) input' output' is idle = (is.1, is.0, idle)
 serves_back {D} seen told disks back input output status.Memory input' output' is idle = inl (ap (λ (ds : List D). map seen ds) is, idle)
 serves_back seen told disks back input output _ input' output' is idle = absurd is
 
 -- with the words of the command
 pub ran_of : {D : Type 0} (seen : D → Seen) (words : List (String Global)) (disks : List D) (input output : Side) (result : Status) (disks' : List D) (input' output' : Side) →
-    (told : StdioWords) → command words ≡ Some told → Serves seen told disks input output result disks' input' output' → Ran words seen disks input output result disks' input' output'
+    (told : StdioWords) → command words ≡ Some told → ServesWords seen told disks input output result disks' input' output' → Ran words seen disks input output result disks' input' output'
 ran_of seen words disks input output status.Usage disks' input' output' told is serves = absurd serves
 ran_of seen words disks input output other disks' input' output' told is serves = (told, is, serves)
 
@@ -244,25 +244,25 @@ went_rises result taken given before after begun failed moved =
 
 -- what was taken and given before the first request
 comes_went : {D : Type 0} (seen : D → Seen) (transmission read_only : Bool) (budget : ℕ) (input output : Side) (start : WorldValue D) (name : List ℕ) (mode : Mode) (flow : Flow) (begun : WorldValue D) →
-    ComesTo seen transmission read_only budget input output start name mode flow begun → Went seen 0 (not read_only) budget (first input output start).flow start flow begun
+    ComesTo seen transmission read_only budget input output start name mode flow begun → Went seen 0 (not read_only) budget (opening_scene input output start).flow start flow begun
 comes_went seen true read_only budget input output start name mode flow begun comes =
-    record { taken = []; given = []; moved = subst (λ (f : Flow). Moved [] [] (first input output start).flow f) (sym comes.1) (moved_none (first input output start).flow) }
+    record { taken = []; given = []; moved = subst (λ (f : Flow). Moved [] [] (opening_scene input output start).flow f) (sym comes.1) (moved_none (opening_scene input output start).flow) }
 comes_went seen false read_only budget input output start name mode flow begun comes =
-    opened_moved seen 0 (not read_only) budget (first input output start).flow start flow begun {E = Failed} (Ok (Transmit mode)) comes
+    opened_moved seen 0 (not read_only) budget (opening_scene input output start).flow start flow begun {E = Failed} (Ok (Transmit mode)) comes
 
 pub serves_rises : {D : Type 0} (seen : D → Seen) (disks : List D) (read_only transmission : Bool) (budget : ℕ) (input output : Side) (start : WorldValue D) (result : Status) (input' output' : Side)
     (new : WorldValue D) → ServesStream seen disks read_only transmission budget input output start result input' output' new → Rises (side_of result) input.faults input'.faults output.faults output'.faults
 serves_rises seen disks read_only transmission budget input output start result input' output' new (inl sits) =
     let went = comes_went seen transmission read_only budget input output start sits.name sits.mode sits.flow sits.begun sits.comes in
-    went_rises result _ _ (first input output start).flow (last_scene input' output' sits.stream new).flow refl sits.sits.failed
-    (moved_on (first input output start).flow sits.flow (last_scene input' output' sits.stream new).flow went.taken went.given _ _ went.moved sits.sits.moved)
+    went_rises result _ _ (opening_scene input output start).flow (last_scene input' output' sits.stream new).flow refl sits.sits.failed
+    (moved_on (opening_scene input output start).flow sits.flow (last_scene input' output' sits.stream new).flow went.taken went.given _ _ went.moved sits.sits.moved)
 serves_rises seen disks read_only transmission budget input output start result input' output' new (inr (inl forgoes)) =
     subst (λ (s : Status). Rises (side_of s) input.faults input'.faults output.faults output'.faults) (sym forgoes.result_is) (idle_rises input output input' output' forgoes.idle)
 serves_rises seen disks read_only transmission budget input output start result input' output' new (inr (inr declines)) =
     let d = declines.1 in
-    let went = opened_moved seen 0 (not read_only) budget (first input output start).flow start d.flow new {E = Failed} d.opened d.opens in
-    went_rises result _ _ (first input output start).flow (last_scene input' output' d.stream new).flow refl d.failed
-    (moved_on (first input output start).flow d.flow (last_scene input' output' d.stream new).flow went.taken went.given _ _ went.moved d.written)
+    let went = opened_moved seen 0 (not read_only) budget (opening_scene input output start).flow start d.flow new {E = Failed} d.opened d.opens in
+    went_rises result _ _ (opening_scene input output start).flow (last_scene input' output' d.stream new).flow refl d.failed
+    (moved_on (opening_scene input output start).flow d.flow (last_scene input' output' d.stream new).flow went.taken went.given _ _ went.moved d.written)
 
 pub rises_of : {D : Type 0} (seen : D → Seen) (words : List (String Global)) (disks : List D) (input output : Side) (result : Status) (disks' : List D) (input' output' : Side) →
     Ran words seen disks input output result disks' input' output' → Rises (side_of result) input.faults input'.faults output.faults output'.faults

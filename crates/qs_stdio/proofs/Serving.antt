@@ -24,9 +24,9 @@ use Rattle.qs_calls.proofs.Plays.{plays_more}
 use Rattle.qs_single.specs.Resting.{IsResting}
 use Rattle.qs_single.specs.Remaining.{IsCleanSettled, Outlasts}
 use Rattle.qs_single.specs.Service.{Called, MayGet}
-use Rattle.qs_stdio.specs.Service.{Exchange, AllFit, CalledAll, Chained, Fits, LeadsAll, OutlastsAll, ask, asked, answered, reply, rounds}
-use Rattle.qs_stdio.specs.Scenes.{Scene, IsFront, Ending, Exchanges, Stops, disks_in}
-use Rattle.qs_stdio.specs.Runs.{Ends, Sitting, side_of, fault_at, status_by}
+use Rattle.qs_stdio.specs.Service.{Exchange, AllFit, CalledAll, Chained, Fits, LeadsAll, OutlastsAll, asked_in, asked_bytes, answered_bytes, reply, rounds}
+use Rattle.qs_stdio.specs.Scenes.{Scene, IsMessageFront, Ending, Exchanges, Stops, disks_in}
+use Rattle.qs_stdio.specs.Runs.{EndsSession, Sitting, side_of, fault_at, status_by}
 use Rattle.qs_stdio.specs.Turns.{ServesMessage, between}
 use Rattle.qs_stdio.specs.declared.serve.Progress.{Progress}
 use Rattle.qs_stdio.specs.declared.serve.Progress.TheVariants as progress
@@ -37,7 +37,7 @@ use Rattle.qs_stdio.proofs.Sought.{nothing_front}
 pub record Served {D : Type 0} (seen : D → Seen) (session : ℕ) (writable structured : Bool) (before now : Scene D) (count : ℕ) : Type 0 where
   pub exchanges : List Exchange
   pub fit : AllFit session (size_of (disks_in seen before)) writable structured exchanges
-  pub moved : Moved (asked exchanges) (answered exchanges) before.flow now.flow
+  pub moved : Moved (asked_bytes exchanges) (answered_bytes exchanges) before.flow now.flow
   pub called : CalledAll (disks_in seen before) exchanges (disks_in seen now)
   pub outlasts : AllTell (disks_in seen before) → IsCleanSettled seen before.world →
       OutlastsAll (disks_in seen before) exchanges (disks_in seen now) × IsCleanSettled seen now.world
@@ -72,11 +72,11 @@ chained_more P old mid new [] x chained one left =
     (subst (λ (d : List Seen). P old x d) (sym left) (subst (λ (d : List Seen). P d x new) chained one), sym left)
 chained_more P old mid new (y ∷ xs) x chained one left = (chained.0, chained_more P y.left mid new xs x chained.1 one left)
 
-asked_more : (xs : List Exchange) (x : Exchange) → asked (xs ++ x ∷ []) ≡ asked xs ++ spelling x.message
-asked_more xs x = flat_map-append (λ y. spelling y.message) xs (x ∷ []) ∙ ap (λ (bytes : List ℕ). asked xs ++ bytes) (append-nil (spelling x.message))
+asked_more : (xs : List Exchange) (x : Exchange) → asked_bytes (xs ++ x ∷ []) ≡ asked_bytes xs ++ spelling x.message
+asked_more xs x = flat_map-append (λ y. spelling y.message) xs (x ∷ []) ∙ ap (λ (bytes : List ℕ). asked_bytes xs ++ bytes) (append-nil (spelling x.message))
 
-answered_more : (xs : List Exchange) (x : Exchange) → answered (xs ++ x ∷ []) ≡ answered xs ++ reply x
-answered_more xs x = flat_map-append reply xs (x ∷ []) ∙ ap (λ (bytes : List ℕ). answered xs ++ bytes) (append-nil (reply x))
+answered_more : (xs : List Exchange) (x : Exchange) → answered_bytes (xs ++ x ∷ []) ≡ answered_bytes xs ++ reply x
+answered_more xs x = flat_map-append reply xs (x ∷ []) ∙ ap (λ (bytes : List ℕ). answered_bytes xs ++ bytes) (append-nil (reply x))
 
 rounds_more : (xs : List Exchange) (x : Exchange) → rounds (xs ++ x ∷ []) ≡ rounds xs ++ x.calls
 rounds_more xs x = flat_map-append (λ y. y.calls) xs (x ∷ []) ∙ ap (λ (cs : List Call). rounds xs ++ cs) (append-nil x.calls)
@@ -87,7 +87,7 @@ its_fit : {D : Type 0} (seen : D → Seen) (session size : ℕ) (writable struct
 its_fit seen session size writable structured mid now x same one = record {
   message = one.message;
   mode = one.mode;
-  may = subst (λ (n : ℕ). MayGet n writable (ask x) x.verdict) same one.does.exchanged.may;
+  may = subst (λ (n : ℕ). MayGet n writable (asked_in x) x.verdict) same one.does.exchanged.may;
   round = record {
     body = one.does.body;
     is_body = one.does.is_body;
@@ -111,15 +111,15 @@ served_more {D} seen session writable structured before mid now count served one
       exchanges = xs ++ x ∷ [];
       fit = fit_more session (size_of (disks_in seen before)) writable structured xs x served.fit (its_fit seen session (size_of (disks_in seen before)) writable structured mid now x (served.same.size 0) one.1);
       moved =
-          subst (λ (taken : List ℕ). Moved taken (answered (xs ++ x ∷ [])) before.flow now.flow) (sym (asked_more xs x))
-          (subst (λ (given : List ℕ). Moved (asked xs ++ spelling x.message) given before.flow now.flow) (sym (answered_more xs x))
-          (moved_on before.flow mid.flow now.flow (asked xs) (answered xs) (spelling x.message) (reply x) served.moved one.1.moved));
-      called = chained_more (λ old y new. Called old (ask y) y.message.body y.verdict new) (disks_in seen before) (disks_in seen mid) (disks_in seen now) xs x
+          subst (λ (taken : List ℕ). Moved taken (answered_bytes (xs ++ x ∷ [])) before.flow now.flow) (sym (asked_more xs x))
+          (subst (λ (given : List ℕ). Moved (asked_bytes xs ++ spelling x.message) given before.flow now.flow) (sym (answered_more xs x))
+          (moved_on before.flow mid.flow now.flow (asked_bytes xs) (answered_bytes xs) (spelling x.message) (reply x) served.moved one.1.moved));
+      called = chained_more (λ old y new. Called old (asked_in y) y.message.body y.verdict new) (disks_in seen before) (disks_in seen mid) (disks_in seen now) xs x
           served.called did.called one.1.left_is;
       outlasts = λ told clean.
           let so_far = served.outlasts told clean in
           let here = did.outlasts (still_tell (disks_in seen before) (disks_in seen mid) served.same told) so_far.1 in (
-            chained_more (λ old y new. Outlasts old (ask y) y.message.body y.verdict new) (disks_in seen before) (disks_in seen mid) (disks_in seen now) xs x
+            chained_more (λ old y new. Outlasts old (asked_in y) y.message.body y.verdict new) (disks_in seen before) (disks_in seen mid) (disks_in seen now) xs x
                 so_far.0 here.0 one.1.left_is,
             here.1,
           );
@@ -136,12 +136,12 @@ served_more {D} seen session writable structured before mid now count served one
 pub calls_lead : (old new : List Seen) (xs : List Exchange) → CalledAll old xs new → AllTell old → LeadsAll (content old) xs (content new)
 calls_lead old new [] calls tell = ap content calls
 calls_lead old new (x ∷ xs) calls tell =
-    let called : Called old (ask x) x.message.body x.verdict x.left = calls.0 in
+    let called : Called old (asked_in x) x.message.body x.verdict x.left = calls.0 in
     (called.leads tell, calls_lead x.left new xs calls.1 (still_tell old x.left called.same tell))
 
 -- how the run ends where the stream failed
-fault_ends : (s : State) (budget : ℕ) (xs : List Exchange) (after : Flow) (rest : List ℕ) → s ≢ state.Open → IsFront rest →
-    Ends (fault_at s) budget xs after rest
+fault_ends : (s : State) (budget : ℕ) (xs : List Exchange) (after : Flow) (rest : List ℕ) → s ≢ state.Open → IsMessageFront rest →
+    EndsSession (fault_at s) budget xs after rest
 fault_ends state.Open budget xs after rest failed front = absurd (failed refl)
 fault_ends state.ReadFault budget xs after rest failed front = front
 fault_ends state.WriteFault budget xs after rest failed front = inl front
@@ -157,7 +157,7 @@ fault_whole state.ReadFault is = absurd (cc)
 fault_whole state.WriteFault is = absurd (cc)
 
 -- how it ends where the bytes say so
-ending_ends : (s : Status) (budget : ℕ) (xs : List Exchange) (after : Flow) (rest : List ℕ) → Ending s after rest → Ends s budget xs after rest
+ending_ends : (s : Status) (budget : ℕ) (xs : List Exchange) (after : Flow) (rest : List ℕ) → Ending s after rest → EndsSession s budget xs after rest
 ending_ends status.Spent budget xs after rest ending = absurd ending
 ending_ends status.Memory budget xs after rest ending = inr ending
 ending_ends status.ReadFault budget xs after rest ending = absurd ending
@@ -192,7 +192,7 @@ module _ {D : Type 0} (seen : D → Seen) (session : ℕ) (writable structured :
 
   -- a scene with the core of the last exchange
   sits_with : (final : Scene D) (rest : List ℕ) (s : Status) → Moved rest [] mid.flow final.flow → final.world ≡ mid.world → final.flow.stream.state ≡ side_of s →
-      (side_of s ≡ state.Open → final.flow.stream.held ≡ []) → Ends s budget xs final.flow rest → Sits final s
+      (side_of s ≡ state.Open → final.flow.stream.held ≡ []) → EndsSession s budget xs final.flow rest → Sits final s
   sits_with final rest s moved world failed whole ends =
       let called : CalledAll (disks_in seen before) xs (disks_in seen final) = subst (λ (w : WorldValue D). CalledAll (disks_in seen before) xs (disks_of seen w)) (sym world) served.called in
       record {
@@ -200,8 +200,8 @@ module _ {D : Type 0} (seen : D → Seen) (session : ℕ) (writable structured :
         rest = rest;
         fit = served.fit;
         moved =
-            subst (λ (given : List ℕ). Moved (asked xs ++ rest) given before.flow final.flow) (append-nil (answered xs))
-            (moved_on before.flow mid.flow final.flow (asked xs) (answered xs) rest [] served.moved moved);
+            subst (λ (given : List ℕ). Moved (asked_bytes xs ++ rest) given before.flow final.flow) (append-nil (answered_bytes xs))
+            (moved_on before.flow mid.flow final.flow (asked_bytes xs) (answered_bytes xs) rest [] served.moved moved);
         failed = failed;
         whole = whole;
         service = calls_lead (disks_in seen before) (disks_in seen final) xs called;
@@ -213,7 +213,7 @@ module _ {D : Type 0} (seen : D → Seen) (session : ℕ) (writable structured :
       }
 
   -- the stream failed before the next request was answered
-  pub sits_fault : (after : Scene D) → after.flow.stream.state ≢ state.Open → Stops mid after IsFront → Sits after (fault_at after.flow.stream.state)
+  pub sits_fault : (after : Scene D) → after.flow.stream.state ≢ state.Open → Stops mid after IsMessageFront → Sits after (fault_at after.flow.stream.state)
   sits_fault after failed stops =
       sits_with after stops.rest (fault_at after.flow.stream.state) stops.moved stops.world (fault_side after.flow.stream.state failed)
       (λ is. fault_whole after.flow.stream.state is) (fault_ends after.flow.stream.state budget xs after.flow stops.rest failed stops.ends)
@@ -224,7 +224,7 @@ module _ {D : Type 0} (seen : D → Seen) (session : ℕ) (writable structured :
     final = record { flow = record { input = after.flow.input; output = p; stream = t }; world = after.world }
 
     -- with this status
-    sits : (s : Status) → t.state ≡ side_of s → (side_of s ≡ state.Open → t.held ≡ []) → Ends s budget xs final.flow rest → Sits final s
+    sits : (s : Status) → t.state ≡ side_of s → (side_of s ≡ state.Open → t.held ≡ []) → EndsSession s budget xs final.flow rest → Sits final s
     sits s failed whole ends =
         sits_with final rest s
         (subst (λ (taken : List ℕ). Moved taken [] mid.flow final.flow) (append-nil rest)
@@ -233,8 +233,8 @@ module _ {D : Type 0} (seen : D → Seen) (session : ℕ) (writable structured :
 
     -- the replies that waited were written, or the output failed
     pub sits_told : {E : Type 0} (result : Result Status E) (s : Status) → Tells result t.state → OnOk result (t.held ≡ []) →
-        IfOk result (λ told. told ≡ s) → side_of s ≡ state.Open → Ends s budget served.exchanges final.flow rest →
-        (t.state ≢ state.Open → Ends (fault_at t.state) budget served.exchanges final.flow rest) → Sits final (status_by result t.state)
+        IfOk result (λ told. told ≡ s) → side_of s ≡ state.Open → EndsSession s budget served.exchanges final.flow rest →
+        (t.state ≢ state.Open → EndsSession (fault_at t.state) budget served.exchanges final.flow rest) → Sits final (status_by result t.state)
     sits_told (Ok told) s tells written same side ends fault =
         subst (λ (result : Status). Sits final result) (sym same) (sits s (tells ∙ sym side) (λ is. written) ends)
     sits_told (Err e) s tells written same side ends fault =
@@ -249,7 +249,7 @@ module _ {D : Type 0} (seen : D → Seen) (session : ℕ) (writable structured :
       ending_kept s after.flow (record { input = after.flow.input; output = p; stream = t }) stops.rest refl puts.waiting stops.ends in
       sits_told after p t stops.rest stops.moved stops.world puts result s tells written same (ending_side s after.flow stops.rest stops.ends)
       (ending_ends s budget served.exchanges (record { input = after.flow.input; output = p; stream = t }) stops.rest kept)
-      (λ failed. subst (λ (now : State). Ends (fault_at now) budget served.exchanges (record { input = after.flow.input; output = p; stream = t }) stops.rest)
+      (λ failed. subst (λ (now : State). EndsSession (fault_at now) budget served.exchanges (record { input = after.flow.input; output = p; stream = t }) stops.rest)
       (sym (write_failed after.flow.output p after.flow.stream t [] puts going failed)) (inr (s, kept)))
 
   -- the whole budget of messages was read

@@ -10,7 +10,7 @@ use Rattle.qs_stream.specs.Buffers.{Buffers}
 use Rattle.qs_stream.specs.Flows.{Flow, Moved, Fills}
 use Rattle.qs_stream.proofs.Moves.{moved_on, moved_none, moved_split}
 use Rattle.qs_stdio.specs.Events.{Feeds, Seeks}
-use Rattle.qs_stdio.specs.Scenes.{IsFront}
+use Rattle.qs_stdio.specs.Scenes.{IsMessageFront}
 use Rattle.qs_stdio.specs.declared.session.Came.{Came}
 use Rattle.qs_stdio.specs.Turns.{Asking, IsFilling, awaited}
 
@@ -122,7 +122,7 @@ pub nothing_front : IsHeadFront []
 nothing_front = record { short = omega arith; magic = λ (four : 4 ≤ 0). absurd (omega arith) }
 
 -- what was taken before the next event is less than a message
-pub front_of : (structured : Bool) (taken : List ℕ) (new : Phase) → Reaches structured (InHead []) taken None new → IsFront taken
+pub front_of : (structured : Bool) (taken : List ℕ) (new : Phase) → Reaches structured (InHead []) taken None new → IsMessageFront taken
 front_of structured taken (InHead held) reaches = inl (subst (λ (bytes : List ℕ). IsHeadFront bytes) reaches.0 reaches.1)
 front_of structured taken (Wants h) reaches = absurd reaches
 front_of structured taken (Filling h got) reaches = absurd reaches

@@ -23,7 +23,7 @@ use Rattle.qs_stdio.specs.declared.serve.Progress.{Progress}
 use Rattle.qs_stdio.specs.declared.serve.Progress.TheVariants as progress
 use Rattle.qs_stdio.specs.Service.{Exchange}
 use Rattle.qs_stdio.specs.Calls.{Answers}
-use Rattle.qs_stdio.specs.Scenes.{Scene, IsCutWrite, IsWhole, Ending, Exchanges, Stops, disks_in}
+use Rattle.qs_stdio.specs.Scenes.{Scene, IsCutWrite, IsWholeMessage, Ending, Exchanges, Stops, disks_in}
 use Rattle.qs_stdio.specs.Turns.{Answered, AnswersBare, AwaitsRoom, Brings, Comes, Finishes, HasRoom, IsData, ServesMessage, awaited, between}
 use Rattle.qs_stream.specs.declared.state.State.TheVariants.{Open}
 use Rattle.qs_world.specs.Values.{WorldValue}
@@ -113,7 +113,7 @@ exchanged {D} seen session writable structured before mid after taken body a pha
     )
 
 -- a whole request was taken
-pub whole_request : (structured : Bool) (taken body : List ℕ) (a : Ask) (phase : Phase) (b : Bool) → IsServed structured taken a phase → has_data a ≡ b → length body ≡ (if b then a.length else 0) → IsWhole (taken ++ body)
+pub whole_request : (structured : Bool) (taken body : List ℕ) (a : Ask) (phase : Phase) (b : Bool) → IsServed structured taken a phase → has_data a ≡ b → length body ≡ (if b then a.length else 0) → IsWholeMessage (taken ++ body)
 whole_request structured taken body a phase b is has long =
     let head : RequestHead = head_of taken in
     let has' : has_body head ≡ b = sym (has_data-ask_of structured head) ∙ ap (λ (q : Ask). has_data q) (sym is.asks) ∙ has in
@@ -200,7 +200,7 @@ module _ {D : Type 0} (seen : D → Seen) (session : ℕ) (writable structured :
           rest = taken;
           moved = subst (λ (f : Flow). Moved taken [] before.flow f) (sym same) moved;
           world = ends.1;
-          ends = subst (λ (s : Status). Ending s after.flow taken) (sym ends.0) (subst IsWhole (append-nil taken) (whole_request structured taken [] a phase false is bare refl));
+          ends = subst (λ (s : Status). Ending s after.flow taken) (sym ends.0) (subst IsWholeMessage (append-nil taken) (whole_request structured taken [] a phase false is bare refl));
         },
       )
 

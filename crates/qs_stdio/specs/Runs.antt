@@ -7,7 +7,7 @@ use Rattle.qs_status.specs.declared.status.Status.{Status}
 use Rattle.qs_status.specs.declared.status.Status.TheVariants as status
 use Rattle.qs_opening.specs.declared.turn.Opened.{Opened}
 use Rattle.qs_opening.specs.declared.turn.Opened.TheVariants.{Transmit, Ends as Ended}
-use Rattle.qs_opening.specs.Openings.{Opens}
+use Rattle.qs_opening.specs.Openings.{OpensSession}
 use Rattle.qs_outside.specs.Blocks.{Seen}
 use Rattle.qs_outside.specs.declared.stream.Failed.{Failed}
 use Rattle.qs_image.specs.Image.{content, size_of, AllTell, SameDisks}
@@ -28,9 +28,9 @@ use Rattle.qs_stream.specs.Buffers.{Buffers, new_buffers}
 use Rattle.qs_stream.specs.Flows.{Flow, Moved, Puts, Side}
 use Rattle.qs_stdio_words.specs.declared.words.StdioWords.{StdioWords}
 use Rattle.qs_stdio_words.specs.Words.{command}
-use Rattle.qs_stdio.specs.Service.{Exchange, AllFit, CalledAll, LeadsAll, OutlastsAll, asked, answered, rounds}
+use Rattle.qs_stdio.specs.Service.{Exchange, AllFit, CalledAll, LeadsAll, OutlastsAll, asked_bytes, answered_bytes, rounds}
 use Rattle.qs_stdio.specs.Surviving.{Survives}
-use Rattle.qs_stdio.specs.Scenes.{Scene, IsFront, IsWhole, Ending, disks_in}
+use Rattle.qs_stdio.specs.Scenes.{Scene, IsMessageFront, IsWholeMessage, Ending, disks_in}
 
 -- the side that failed, by the status of the run
 abbrev pub side_of : Status → State
@@ -51,12 +51,12 @@ status_by (Err e) now = fault_at now
 -- How a session ended: Spent where its whole budget of messages was read, Memory before the first or behind a whole request, and else
 -- as the bytes behind the last answered request say. Where a side failed, they are less than a message, or, at the last
 -- write, what ended the session.
-abbrev pub Ends : Status → ℕ → List Exchange → Flow → List ℕ → Type 0
-Ends status.Spent budget exchanges after rest = (rest ≡ []) × (length exchanges ≡ budget)
-Ends status.Memory budget exchanges after rest = ((rest ≡ []) × (exchanges ≡ [])) ⊎ IsWhole rest
-Ends status.ReadFault budget exchanges after rest = IsFront rest
-Ends status.WriteFault budget exchanges after rest = IsFront rest ⊎ ((told : Status) × Ending told after rest)
-Ends other budget exchanges after rest = Ending other after rest
+abbrev pub EndsSession : Status → ℕ → List Exchange → Flow → List ℕ → Type 0
+EndsSession status.Spent budget exchanges after rest = (rest ≡ []) × (length exchanges ≡ budget)
+EndsSession status.Memory budget exchanges after rest = ((rest ≡ []) × (exchanges ≡ [])) ⊎ IsWholeMessage rest
+EndsSession status.ReadFault budget exchanges after rest = IsMessageFront rest
+EndsSession status.WriteFault budget exchanges after rest = IsMessageFront rest ⊎ ((told : Status) × Ending told after rest)
+EndsSession other budget exchanges after rest = Ending other after rest
 
 -- A session: requests were read one after the other, answered by the plain service, and their replies
 -- written in order, a front of them where a side failed.
@@ -66,7 +66,7 @@ pub record Sitting {D : Type 0} (seen : D → Seen) (session : ℕ) (writable st
   pub rest : List ℕ
   pub fit : AllFit session (size_of (disks_in seen before)) writable structured exchanges
   -- what was read is the requests and the rest; what was given to the output is their replies
-  pub moved : Moved (asked exchanges ++ rest) (answered exchanges) before.flow after.flow
+  pub moved : Moved (asked_bytes exchanges ++ rest) (answered_bytes exchanges) before.flow after.flow
   pub failed : after.flow.stream.state ≡ side_of result
   pub whole : side_of result ≡ state.Open → after.flow.stream.held ≡ []
   -- the content goes on from request to request; the core was called for these alone
@@ -76,11 +76,11 @@ pub record Sitting {D : Type 0} (seen : D → Seen) (session : ℕ) (writable st
   pub outlasts : AllTell (disks_in seen before) → IsCleanSettled seen before.world → OutlastsAll (disks_in seen before) exchanges (disks_in seen after)
   pub plays : Plays (λ d. d) (meant seen before.world) (rounds exchanges) (meant seen after.world)
   pub same : SameDisks (disks_in seen before) (disks_in seen after)
-  pub ends : Ends result budget exchanges after.flow rest
+  pub ends : EndsSession result budget exchanges after.flow rest
 
 -- the first scene of a session
-abbrev pub first : {D : Type 0} → Side → Side → WorldValue D → Scene D
-first input output world = record { flow = record { input = input; output = output; stream = new_buffers }; world = world }
+abbrev pub opening_scene : {D : Type 0} → Side → Side → WorldValue D → Scene D
+opening_scene input output world = record { flow = record { input = input; output = output; stream = new_buffers }; world = world }
 
 -- and the last one
 abbrev pub last_scene : {D : Type 0} → Side → Side → Buffers → WorldValue D → Scene D
@@ -94,9 +94,9 @@ plain_mode = record { no_zeroes = false; structured = false }
 -- handshake, whose last option was answered so that requests follow.
 abbrev pub ComesTo : {D : Type 0} → (D → Seen) → Bool → Bool → ℕ → Side → Side → WorldValue D → List ℕ → Mode → Flow → WorldValue D → Type 0
 ComesTo seen true read_only budget input output start name mode flow begun =
-    (mode ≡ plain_mode) × (flow ≡ (first input output begun).flow) × (name ≡ codes "disk")
+    (mode ≡ plain_mode) × (flow ≡ (opening_scene input output begun).flow) × (name ≡ codes "disk")
 ComesTo seen false read_only budget input output start name mode flow begun =
-    Opens {E = Failed} seen 0 (not read_only) budget (first input output start).flow start (Ok (Transmit mode)) flow begun
+    OpensSession {E = Failed} seen 0 (not read_only) budget (opening_scene input output start).flow start (Ok (Transmit mode)) flow begun
 
 -- A session was attached to a core that was just opened, and sat to its end. Its calls are a run from the opening, with all laws.
 pub record Sits {D : Type 0} (seen : D → Seen) (disks : List D) (read_only transmission : Bool) (budget : ℕ) (input output : Side) (start : WorldValue D) (result : Status)
@@ -131,7 +131,7 @@ pub record Declines {D : Type 0} (seen : D → Seen) (read_only : Bool) (budget 
     (input' output' : Side) (new : WorldValue D) : Type 0 where
   pub opened : Result Opened Failed
   pub flow : Flow
-  pub opens : Opens {E = Failed} seen 0 (not read_only) budget (first input output start).flow start opened flow new
+  pub opens : OpensSession {E = Failed} seen 0 (not read_only) budget (opening_scene input output start).flow start opened flow new
   pub stream : Buffers
   pub written : Moved [] [] flow (last_scene input' output' stream new).flow
   pub concludes : Concludes opened result stream
@@ -178,16 +178,16 @@ pub record Holds {D : Type 0} (seen : D → Seen) (disks : List D) (read_only tr
   pub survives : AllTell (map seen disks) → IsSettled (map seen disks) → Survives (map seen disks) (exchanges_in serves) (map seen disks')
 
 -- the disks are tested, and one client is served over them, at most 2^32 requests; memory may be refused before
-abbrev pub Serves : {D : Type 0} → (D → Seen) → StdioWords → List D → Side → Side → Status → List D → Side → Side → Type 0
-Serves seen told disks input output status.Usage disks' input' output' = ⊥
-Serves seen told disks input output (status.OpenBad bad) disks' input' output' = OpensAs (map seen disks) (Some bad) × (disks' ≡ disks) × Idles input output input' output'
-Serves seen told disks input output status.Memory disks' input' output' =
+abbrev pub ServesWords : {D : Type 0} → (D → Seen) → StdioWords → List D → Side → Side → Status → List D → Side → Side → Type 0
+ServesWords seen told disks input output status.Usage disks' input' output' = ⊥
+ServesWords seen told disks input output (status.OpenBad bad) disks' input' output' = OpensAs (map seen disks) (Some bad) × (disks' ≡ disks) × Idles input output input' output'
+ServesWords seen told disks input output status.Memory disks' input' output' =
     ((map seen disks' ≡ map seen disks) × Idles input output input' output') ⊎ Holds seen disks told.read_only told.transmission input output status.Memory disks' input' output'
-Serves seen told disks input output other disks' input' output' = Holds seen disks told.read_only told.transmission input output other disks' input' output'
+ServesWords seen told disks input output other disks' input' output' = Holds seen disks told.read_only told.transmission input output other disks' input' output'
 
 -- One call of `run_stdio`: the words are tested first, then the disks; then a client is served, behind a handshake unless the words say
 -- that requests come at once, over an export that may be written unless they say that it is read-only.
 abbrev pub Ran : {D : Type 0} → List (String Global) → (D → Seen) → List D → Side → Side → Status → List D → Side → Side → Type 0
 Ran words seen disks input output status.Usage disks' input' output' = (command words ≡ None) × (disks' ≡ disks) × Idles input output input' output'
 Ran words seen disks input output other disks' input' output' =
-    (told : StdioWords) × (command words ≡ Some told) × Serves seen told disks input output other disks' input' output'
+    (told : StdioWords) × (command words ≡ Some told) × ServesWords seen told disks input output other disks' input' output'

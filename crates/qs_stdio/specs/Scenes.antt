@@ -13,7 +13,7 @@ use Rattle.qs_part.specs.declared.event.Event.TheVariants.{Ask as AskEvent}
 use Rattle.qs_part.specs.declared.event.Outcome.TheVariants.{Made}
 use Rattle.qs_calls.specs.Calls.{Happened}
 use Rattle.qs_world.specs.Values.{WorldValue, disks_of}
-use Rattle.qs_stdio.specs.Service.{Exchange, ask, reply}
+use Rattle.qs_stdio.specs.Service.{Exchange, asked_in, reply}
 use Rattle.qs_stdio.specs.Calls.{Does}
 
 -- a stream with its two sides, and the core
@@ -47,22 +47,22 @@ pub record IsCutWrite (bytes : List ℕ) : Type 0 where
   pub short : length got < (head_of front).size
 
 -- less than a message: less than a head, or than a WRITE's data
-abbrev pub IsFront : List ℕ → Type 0
-IsFront bytes = IsHeadFront bytes ⊎ IsCutWrite bytes
+abbrev pub IsMessageFront : List ℕ → Type 0
+IsMessageFront bytes = IsHeadFront bytes ⊎ IsCutWrite bytes
 
 -- some bytes of a message, and not all
-abbrev pub IsCut : List ℕ → Type 0
-IsCut bytes = (IsHeadFront bytes × (0 < length bytes)) ⊎ IsCutWrite bytes
+abbrev pub IsCutMessage : List ℕ → Type 0
+IsCutMessage bytes = (IsHeadFront bytes × (0 < length bytes)) ⊎ IsCutWrite bytes
 
 -- a whole request
-abbrev pub IsWhole : List ℕ → Type 0
-IsWhole bytes = (m : Message) × (IsMessage m × (bytes ≡ spelling m))
+abbrev pub IsWholeMessage : List ℕ → Type 0
+IsWholeMessage bytes = (m : Message) × (IsMessage m × (bytes ≡ spelling m))
 
 -- How a session may end before a request was answered, where these bytes of it were taken. For want of memory it may end behind a request.
 abbrev pub Ending : Status → Flow → List ℕ → Type 0
-Ending Memory after rest = IsWhole rest
+Ending Memory after rest = IsWholeMessage rest
 Ending Done after rest = IsLeave rest ⊎ ((rest ≡ []) × IsUsedUp after)
-Ending (Ended end.Truncated) after rest = IsCut rest × IsUsedUp after
+Ending (Ended end.Truncated) after rest = IsCutMessage rest × IsUsedUp after
 Ending (Ended (end.BadMagic found)) after rest = (length rest ≡ 4) × (found ≡ number32 rest 0) × (found ≢ request_magic)
 Ending (Ended (end.TooLong size)) after rest =
     IsHead rest (head_of rest) × (is_too_long (head_of rest) ≡ true) × (size ≡ (head_of rest).size)
@@ -73,8 +73,8 @@ pub record Exchanges {D : Type 0} (seen : D → Seen) (session : ℕ) (writable 
   pub message : IsMessage x.message
   pub mode : x.structured ≡ structured
   pub moved : Moved (spelling x.message) (reply x) before.flow after.flow
-  pub does : Does seen session writable (ask x) x.message.body before.world x.verdict after.world
-  pub calls_are : x.calls ≡ Happened (AskEvent session (ask x) does.body) (Made does.exchanged.number) ∷ does.exchanged.steps
+  pub does : Does seen session writable (asked_in x) x.message.body before.world x.verdict after.world
+  pub calls_are : x.calls ≡ Happened (AskEvent session (asked_in x) does.body) (Made does.exchanged.number) ∷ does.exchanged.steps
   pub left_is : x.left ≡ disks_in seen after
 
 -- No request was answered; of the bytes that were taken this is so.

@@ -8,7 +8,7 @@ use Rattle.qs_nbd_wire.specs.Greetings.{flags_of}
 use Rattle.qs_nbd_handshake.specs.declared.wish.Wish.{Wish}
 use Rattle.qs_nbd_handshake.specs.declared.wish.Wish.TheVariants as wish
 use Rattle.qs_nbd_handshake.specs.Phases.{wish_in}
-use Rattle.qs_nbd_handshake.specs.Sessions.{IsOption, bytes_of}
+use Rattle.qs_nbd_handshake.specs.Sessions.{IsOption, sent_bytes}
 use Rattle.qs_stdio.specs.Streams.{IsValidStream}
 
 -- the name means the export `disk`: it is `disk`, or it is empty, which means the first export and so the only one
@@ -24,16 +24,16 @@ attaches (wish.Go inquiry) = means_disk inquiry.name
 attaches other = false
 
 -- options go on behind it: it is neither EXPORT_NAME nor ABORT, nor GO to the export
-abbrev pub goes_on : Wish → Bool
-goes_on (wish.Export name) = false
-goes_on wish.Abort = false
-goes_on (wish.Go inquiry) = not (means_disk inquiry.name)
-goes_on other = true
+abbrev pub wish_goes_on : Wish → Bool
+wish_goes_on (wish.Export name) = false
+wish_goes_on wish.Abort = false
+wish_goes_on (wish.Go inquiry) = not (means_disk inquiry.name)
+wish_goes_on other = true
 
 -- a whole option behind which options go on
 pub record IsAnswered (fixed : Bool) (option : List ℕ) : Type 0 where
   pub whole : IsOption fixed option
-  pub on : goes_on (wish_in option) ≡ true
+  pub on : wish_goes_on (wish_in option) ≡ true
 
 -- The client's flags, none of them unknown; fewer than 2^32 options behind which options go on, and one that attaches the
 -- export; and then a valid stream of requests (NBD proto.md, "Newstyle negotiation" and "Option types").
@@ -54,7 +54,7 @@ pub record IsValidSession (stream : List ℕ) : Type 0 where
   -- and what follows it
   pub requests : List ℕ
   pub valid : IsValidStream requests
-  pub whole : stream ≡ flags ++ (flat_map bytes_of options ++ (final ++ requests))
+  pub whole : stream ≡ flags ++ (flat_map sent_bytes options ++ (final ++ requests))
 
 -- requests alone, where the words say so, and else a session
 abbrev pub IsValidInput : Bool → List ℕ → Type 0

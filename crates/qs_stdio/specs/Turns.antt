@@ -23,7 +23,7 @@ use Rattle.qs_stream.specs.Buffers.{Buffers}
 use Rattle.qs_stream.specs.Flows.{Side}
 use Rattle.qs_world.specs.Values.{WorldValue}
 use Rattle.qs_stdio.specs.Calls.{Answers, Does}
-use Rattle.qs_stdio.specs.Scenes.{Scene, IsFront, Ending, Exchanges, Stops}
+use Rattle.qs_stdio.specs.Scenes.{Scene, IsMessageFront, Ending, Exchanges, Stops}
 
 -- the status of a session that ended so
 abbrev pub status_at : SessionEnd → Status
@@ -39,7 +39,7 @@ HasRoom size (Drop count) = count ≡ size
 abbrev pub Comes : {E : Type 0} → Bool → List ℕ → Result Came E → Reader → Flow → Type 0
 Comes structured taken (Ok (came.Asked asked)) new after = IsServed structured taken asked new.phase × (new.structured ≡ structured)
 Comes structured taken (Ok (came.Ends status)) new after = Ending status after taken
-Comes structured taken (Err e) new after = IsFront taken
+Comes structured taken (Err e) new after = IsMessageFront taken
 
 -- the next request was sought
 pub record Asking {E : Type 0} (structured : Bool) (before : Flow) (result : Result Came E) (new : Reader) (after : Flow) : Type 0 where
@@ -115,4 +115,4 @@ Finishes seen session writable structured a before (Err e) new after = (after.fl
 abbrev pub ServesMessage : {E D : Type 0} → (D → Seen) → ℕ → Bool → Bool → Scene D → Result Progress E → Reader → Scene D → Type 0
 ServesMessage seen session writable structured before (Ok progress.Goes) new after = (x : Exchange) × (Exchanges seen session writable structured before x after × (new ≡ between structured))
 ServesMessage seen session writable structured before (Ok (progress.Ends status)) new after = (after.flow.stream.state ≡ Open) × Stops before after (Ending status after.flow)
-ServesMessage seen session writable structured before (Err e) new after = (after.flow.stream.state ≢ Open) × Stops before after IsFront
+ServesMessage seen session writable structured before (Err e) new after = (after.flow.stream.state ≢ Open) × Stops before after IsMessageFront

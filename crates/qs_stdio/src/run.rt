@@ -4,7 +4,7 @@ ghost use Rattle.qs_outside.specs.Faults.{Rose};
 ghost use Rattle.qs_image.specs.Opening.{IsImage};
 ghost use Rattle.qs_single.specs.Resting.{IsResting};
 ghost use Rattle.qs_stream.specs.Flows.{Puts, Rises, Tells, side};
-ghost use Rattle.qs_stdio.specs.Runs.{Closes, Ran, Serves, ServesStream, Sitting, fault_at, side_of, status_by};
+ghost use Rattle.qs_stdio.specs.Runs.{Closes, Ran, ServesWords, ServesStream, Sitting, fault_at, side_of, status_by};
 ghost use Rattle.qs_stdio.specs.Scenes.{scene};
 ghost use Rattle.qs_stdio.specs.Sessions.{IsValidInput};
 ghost use Rattle.qs_stdio.specs.Streams.{IsServed};
@@ -206,7 +206,7 @@ fn serve_disks<I: Source, O: Sink, D: Disk + Drop, C: Clock>(
     disks: &mut Vec<D>,
     clock: &C,
 ) -> Status
-    ensures { Serves D.seen told.now disks.old.items
+    ensures { ServesWords D.seen told.now disks.old.items
         (side I.left I.read_faults input.old) (side O.sent O.write_faults output.old) result
         disks.new.items (side I.left I.read_faults input.new) (side O.sent O.write_faults output.new) }
 {

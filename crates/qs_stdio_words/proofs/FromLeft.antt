@@ -4,7 +4,7 @@ use Rattle.std.proofs.lemmas.Option.{none-some}
 use Rattle.std.specs.Prelude.{Option, None, Some, String, option_and_then, unwrap_or}
 use Rattle.std.specs.Global.{Global}
 use Rattle.qs_stdio_words.specs.declared.words.Reading.{Reading}
-use Rattle.qs_stdio_words.specs.Words.{and_then, command, nothing_read, read, whole}
+use Rattle.qs_stdio_words.specs.Words.{and_then, command, nothing_read, read, words_of_reading}
 
 -- the words from one on
 drop_here : (words : List (String Global)) (i : ℕ) (word : String Global) → i < length words → word ≡ get_or words i word →
@@ -38,14 +38,14 @@ read_more words i word r next less is same so =
 pub read_none : (words : List (String Global)) (i : ℕ) (word : String Global) (r : Reading) → i < length words → word ≡ get_or words i word →
     and_then r word ≡ None → read r (drop i words) ≡ read nothing_read words → command words ≡ None
 read_none words i word r less is same so =
-    ap (λ (o : Option Reading). option_and_then (whole (length words)) o) (sym so ∙ left_with words i word r None less is same)
+    ap (λ (o : Option Reading). option_and_then (words_of_reading (length words)) o) (sym so ∙ left_with words i word r None less is same)
 
 -- all words were read
 pub read_all : (words : List (String Global)) (i : ℕ) (r : Reading) → length words ≤ i → read r (drop i words) ≡ read nothing_read words →
-    command words ≡ whole (length words) r
+    command words ≡ words_of_reading (length words) r
 unfolding read
 read_all words i r less so =
-    ap (λ (o : Option Reading). option_and_then (whole (length words)) o) (sym so ∙ ap (read r) (drop_all words i less))
+    ap (λ (o : Option Reading). option_and_then (words_of_reading (length words)) o) (sym so ∙ ap (read r) (drop_all words i less))
 
 some_same : (o : Option Reading) → option_and_then (λ (n : Reading). Some n) o ≡ o
 some_same None = refl

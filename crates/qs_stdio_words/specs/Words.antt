@@ -54,9 +54,9 @@ abbrev pub whole_by : Expected → ℕ → Reading → Option StdioWords
 whole_by Nothing (suc n) r = Some (record { image = n; align = unwrap_or r.align 512; read_only = r.read_only; transmission = r.transmission })
 whole_by other count r = None
 
-abbrev pub whole : ℕ → Reading → Option StdioWords
-whole count r = whole_by r.next count r
+abbrev pub words_of_reading : ℕ → Reading → Option StdioWords
+words_of_reading count r = whole_by r.next count r
 
 -- what the words tell, where they are the command's
 abbrev pub command : List (String Global) → Option StdioWords
-command words = option_and_then (whole (length words)) (read nothing_read words)
+command words = option_and_then (words_of_reading (length words)) (read nothing_read words)

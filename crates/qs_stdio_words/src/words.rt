@@ -1,5 +1,5 @@
 ghost use Rattle.std.specs.Prelude.{◌≡◌, string_bytes};
-ghost use Rattle.qs_stdio_words.specs.Words.{and_then, command, nothing_read, with_align, with_word, whole};
+ghost use Rattle.qs_stdio_words.specs.Words.{and_then, command, nothing_read, with_align, with_word, words_of_reading};
 
 /// What may stand next among the words.
 #[derive(Clone, Copy, Debug, PartialEq, Eq)]
@@ -105,7 +105,7 @@ impl Reading {
 
     /// What so many words tell, where they are the whole command.
     fn whole(self, count: usize) -> Option<StdioWords>
-        ensures { result ≡ whole count self }
+        ensures { result ≡ words_of_reading count self }
     {
         match (self.next, count) {
             (Expected::Nothing, 1..) => Some(StdioWords {

@@ -21,7 +21,7 @@ use Rattle.qs_part.specs.Histories.{Call, call, lawful, StandsFor}
 use Rattle.qs_part.proofs.Histories.{stands_append, stands_fixed, stands_snoc}
 use Rattle.qs_stripe.specs.declared.geometry.Geometry.{Geometry}
 use Rattle.qs_stripe.specs.History.{HeldIn}
-use Rattle.qs_stripe.specs.Runs.{FitsCall, FitsRun, IsWholeRun, Loaded, NotLoaded, NotStored, StoredAt, Waits, all_singles, block_in, call_answers, in_row, load_at, run_answers, run_singles, singles, store_at}
+use Rattle.qs_stripe.specs.Runs.{FitsCall, FitsRun, IsWholeRun, Loaded, NotLoaded, NotStored, StoredAt, Waits, all_singles, block_in, call_answers, in_row, load_at, run_answers, run_singles, singles, run_store_at}
 use Rattle.qs_stripe.specs.Table.{Fits, IsWhole, StripeValue, answers, geometry}
 use Rattle.qs_stripe.proofs.HeldThrough.{held_in}
 
@@ -92,19 +92,19 @@ run-stands request old (LoadRun b k n at buf) (RunDone back) new fits row = absu
 run-stands request old (LoadRun b k n at buf) (RunHeldBy m j back) new fits row = absurd row
 run-stands request old (StoreRun b k n at buf) (RunFilled got) new fits row = absurd row
 run-stands request old (StoreRun b k n at buf) (RunDone back) new fits row =
-    row-stands old (λ i. call request (store_at old.disk.align b k at buf i) (Done (block_in old.disk.align at buf i)))
+    row-stands old (λ i. call request (run_store_at old.disk.align b k at buf i) (Done (block_in old.disk.align at buf i)))
     (StoredAt old.disk.align b k at buf) n n (omega arith)
     (λ i below v w step same. (whole-at old v b n at i buf fits below same, step, geometry-kept v w step.1.fixed)) new row.1
 run-stands request old (StoreRun b k n at buf) (RunFault m back) new fits row =
-    ends-stand old (λ i. call request (store_at old.disk.align b k at buf i) (Done (block_in old.disk.align at buf i)))
+    ends-stand old (λ i. call request (run_store_at old.disk.align b k at buf i) (Done (block_in old.disk.align at buf i)))
     (StoredAt old.disk.align b k at buf) (NotStored old.disk.align b k at buf) m n
-    (call request (store_at old.disk.align b k at buf m) (Fault (Some (block_in old.disk.align at buf m)))) row.1
+    (call request (run_store_at old.disk.align b k at buf m) (Fault (Some (block_in old.disk.align at buf m)))) row.1
     (λ i below v w step same. (whole-at old v b n at i buf fits below same, step, geometry-kept v w step.1.fixed))
     (λ v w step same. (whole-at old v b n at m buf fits row.1 same, step, geometry-kept v w step.1.fixed)) new row.2
 run-stands request old (StoreRun b k n at buf) (RunHeldBy m j back) new fits row =
-    ends-stand old (λ i. call request (store_at old.disk.align b k at buf i) (Done (block_in old.disk.align at buf i)))
+    ends-stand old (λ i. call request (run_store_at old.disk.align b k at buf i) (Done (block_in old.disk.align at buf i)))
     (StoredAt old.disk.align b k at buf) (Waits old.disk.align b k at buf j) m n
-    (call request (store_at old.disk.align b k at buf m) (HeldBy j (block_in old.disk.align at buf m))) row.1
+    (call request (run_store_at old.disk.align b k at buf m) (HeldBy j (block_in old.disk.align at buf m))) row.1
     (λ i below v w step same. (whole-at old v b n at i buf fits below same, step, geometry-kept v w step.1.fixed))
     (λ v w step same. (whole-at old v b n at m buf fits row.1 same, step, ap geometry step.3)) new row.2
 

@@ -5,9 +5,9 @@ use Rattle.qs_part.specs.declared.stripe.Side.{Side}
 use Rattle.qs_part.specs.declared.stripe.Side.TheVariants.{Head, Tail}
 use Rattle.qs_stripe.specs.declared.holds.Ends.{Ends}
 
-abbrev pub end_at : Ends → Side → Option ℕ
-end_at ends Head = ends.head
-end_at ends Tail = ends.tail
+abbrev pub held_at_end : Ends → Side → Option ℕ
+held_at_end ends Head = ends.head
+held_at_end ends Tail = ends.tail
 
 abbrev pub no_ends : Ends
 no_ends = record { head = None; tail = None }
@@ -18,16 +18,16 @@ ends_with ends Head b = record ends { head = Some b }
 ends_with ends Tail b = record ends { tail = Some b }
 
 -- what is left of a hold where block b is given up
-abbrev pub left_of : Option ℕ → ℕ → Option ℕ
-left_of None b = None
-left_of (Some c) b = if c == b then None else Some c
+abbrev pub hold_left : Option ℕ → ℕ → Option ℕ
+hold_left None b = None
+hold_left (Some c) b = if c == b then None else Some c
 
 abbrev pub ends_without : Ends → ℕ → Ends
-ends_without ends b = record { head = left_of ends.head b; tail = left_of ends.tail b }
+ends_without ends b = record { head = hold_left ends.head b; tail = hold_left ends.tail b }
 
 -- the holds of a list of places
 abbrev pub holds_of : List Ends → ℕ → Side → Option ℕ
-holds_of places k side = end_at (slice_index_or places k no_ends) side
+holds_of places k side = held_at_end (slice_index_or places k no_ends) side
 
 -- place n and those behind it hold nothing
 abbrev pub EmptyFrom : ℕ → List Ends → Type 0

@@ -46,8 +46,8 @@ pub record IsOver (at n : ℕ) (old new : List ℕ) : Type 0 where
 abbrev pub load_at : ℕ → ℕ → ℕ → ℕ → List ℕ → ℕ → StripeOp
 load_at align b k at buf i = Load (b + i) k (block_in align at buf i)
 
-abbrev pub store_at : ℕ → ℕ → ℕ → ℕ → List ℕ → ℕ → StripeOp
-store_at align b k at buf i = Store (b + i) k (block_in align at buf i)
+abbrev pub run_store_at : ℕ → ℕ → ℕ → ℕ → List ℕ → ℕ → StripeOp
+run_store_at align b k at buf i = Store (b + i) k (block_in align at buf i)
 
 -- Block i of a run was answered: it was loaded, and `got` is the buffer behind the run; or the disk refused. It was stored,
 -- or the disk refused, or place j holds it.
@@ -58,13 +58,13 @@ abbrev pub NotLoaded : ℕ → ℕ → ℕ → ℕ → List ℕ → List ℕ →
 NotLoaded align b k at buf got i old new = answers old (load_at align b k at buf i) (Fault (Some (block_in align at got i))) new
 
 abbrev pub StoredAt : ℕ → ℕ → ℕ → ℕ → List ℕ → ℕ → StripeValue → StripeValue → Type 0
-StoredAt align b k at buf i old new = answers old (store_at align b k at buf i) (Done (block_in align at buf i)) new
+StoredAt align b k at buf i old new = answers old (run_store_at align b k at buf i) (Done (block_in align at buf i)) new
 
 abbrev pub NotStored : ℕ → ℕ → ℕ → ℕ → List ℕ → ℕ → StripeValue → StripeValue → Type 0
-NotStored align b k at buf i old new = answers old (store_at align b k at buf i) (Fault (Some (block_in align at buf i))) new
+NotStored align b k at buf i old new = answers old (run_store_at align b k at buf i) (Fault (Some (block_in align at buf i))) new
 
 abbrev pub Waits : ℕ → ℕ → ℕ → ℕ → List ℕ → ℕ → ℕ → StripeValue → StripeValue → Type 0
-Waits align b k at buf j i old new = answers old (store_at align b k at buf i) (HeldBy j (block_in align at buf i)) new
+Waits align b k at buf j i old new = answers old (run_store_at align b k at buf i) (HeldBy j (block_in align at buf i)) new
 
 -- A stripe answers a run, as it would the run's single operations in order.
 abbrev pub run_answers : StripeValue → RunOp → RunReply → StripeValue → Type 0
@@ -104,13 +104,13 @@ run_singles align request (LoadRun b k n at buf) (RunFault m got) =
     in_row (λ i. call request (load_at align b k at buf i) (Filled (block_in align at got i))) m
     ++ call request (load_at align b k at buf m) (Fault (Some (block_in align at got m))) ∷ []
 run_singles align request (StoreRun b k n at buf) (RunDone back) =
-    in_row (λ i. call request (store_at align b k at buf i) (Done (block_in align at buf i))) n
+    in_row (λ i. call request (run_store_at align b k at buf i) (Done (block_in align at buf i))) n
 run_singles align request (StoreRun b k n at buf) (RunFault m back) =
-    in_row (λ i. call request (store_at align b k at buf i) (Done (block_in align at buf i))) m
-    ++ call request (store_at align b k at buf m) (Fault (Some (block_in align at buf m))) ∷ []
+    in_row (λ i. call request (run_store_at align b k at buf i) (Done (block_in align at buf i))) m
+    ++ call request (run_store_at align b k at buf m) (Fault (Some (block_in align at buf m))) ∷ []
 run_singles align request (StoreRun b k n at buf) (RunHeldBy m j back) =
-    in_row (λ i. call request (store_at align b k at buf i) (Done (block_in align at buf i))) m
-    ++ call request (store_at align b k at buf m) (HeldBy j (block_in align at buf m)) ∷ []
+    in_row (λ i. call request (run_store_at align b k at buf i) (Done (block_in align at buf i))) m
+    ++ call request (run_store_at align b k at buf m) (HeldBy j (block_in align at buf m)) ∷ []
 run_singles align request _ _ = []
 
 -- the single calls that a call is

@@ -1,6 +1,6 @@
 ghost use Rattle.std.specs.Prelude.{◌≡◌, ◌≢◌, ◌↔◌, ◌⊎◌, ◌≤◌, ℕ, length, IfOk, IsTrue, None, Some, MatchOption};
 ghost use Rattle.qs_part.specs.declared.stripe.Side.{Side as End};
-ghost use Rattle.qs_stripe.specs.Holds.{EmptyFrom, HasBlock, IsFree, IsFreeFor, IsHeld, LetsGo, Takes, end_at, ends_with, ends_without, holds_of, left_of};
+ghost use Rattle.qs_stripe.specs.Holds.{EmptyFrom, HasBlock, IsFree, IsFreeFor, IsHeld, LetsGo, Takes, held_at_end, ends_with, ends_without, holds_of, hold_left};
 
 use qs_part::stripe::Side;
 use std::alloc::{AllocError, Global};
@@ -26,7 +26,7 @@ fn is_block(held: Option<u64>, b: u64) -> bool
 }
 
 fn left(held: Option<u64>, b: u64) -> Option<u64>
-    ensures { result ≡ left_of held b }
+    ensures { result ≡ hold_left held b }
 {
     match held {
         Some(c) if c != b => Some(c),
@@ -42,7 +42,7 @@ impl Ends {
 
     /// The block that is held at this end.
     pub fn at(&self, side: Side) -> Option<u64>
-        ensures { result ≡ end_at self.now side }
+        ensures { result ≡ held_at_end self.now side }
     {
         match side {
             Side::Head => self.head,

@@ -9,7 +9,7 @@ use Rattle.std.proofs.lemmas.Iterator.Adapters.{position_from-zero}
 use Rattle.qs_tracker.specs.declared.seat.Listing.{Listing}
 use Rattle.qs_tracker.specs.declared.seat.Seat.{Seat}
 use Rattle.qs_tracker.specs.declared.seat.Seat.TheVariants.{Vacant}
-use Rattle.qs_tracker.specs.Seats.{seat_at, is_in, number_of, ranked, renumbered, Precedes, IsClear, IsLowestBefore, VacantFrom}
+use Rattle.qs_tracker.specs.Seats.{seat_at, is_in, seat_number, ranked, renumbered, Precedes, IsClear, IsLowestBefore, VacantFrom}
 use Rattle.qs_tracker.proofs.Seats.{nobody, at_set}
 use Rattle.qs_tracker.proofs.Sound.{ranked_at}
 
@@ -56,8 +56,8 @@ before_front n seats read own o is within rest =
     go (Some m) low = record {
       at = low.at;
       precedes = up low.at low.precedes;
-      number = ap number_of (sym (same low.at)) ∙ low.number;
-      lowest = λ k p. subst (λ (s : Seat). m ≤ number_of s) (same k) (low.lowest k (down k p));
+      number = ap seat_number (sym (same low.at)) ∙ low.number;
+      lowest = λ k p. subst (λ (s : Seat). m ≤ seat_number s) (same k) (low.lowest k (down k p));
     }
 
 -- nobody is in a fresh tracker

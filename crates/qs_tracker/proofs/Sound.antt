@@ -16,7 +16,7 @@ use Rattle.qs_tracker.specs.declared.seat.Seat.{Seat}
 use Rattle.qs_tracker.specs.declared.seat.Seat.TheVariants.{Vacant, Present, Has}
 use Rattle.qs_tracker.specs.Seats.{Conflict, seat_at, is_listed, Precedes, IsClear, rank, ranked, renumbered}
 use Rattle.qs_tracker.specs.Table.{TrackerValue, fresh, numbered, placed, listed, going, MayStart, May, after}
-use Rattle.qs_tracker.specs.History.{lawful_call, StandsForFresh, IsListed, Goes, IsLowest}
+use Rattle.qs_tracker.specs.History.{lawful_call, StandsForFresh, IsListed, IsListedStarted, IsLowest}
 use Rattle.qs_tracker.proofs.Seats.{at_set, nobody}
 use Rattle.qs_tracker.proofs.Lowest.{one_more}
 use Rattle.qs_tracker.proofs.Ranks.{rank_le, rank_lt, rank_below, inside}
@@ -26,7 +26,7 @@ pub record Sound (v : TrackerValue) : Type 0 where
   pub size : length v.seats ≡ 256
   pub below : (k : ℕ) (l : Listing) → IsListed v k l → l.number < v.number
   pub one : (j k : ℕ) (l m : Listing) → IsListed v j l → IsListed v k m → l.number ≡ m.number → j ≡ k
-  pub clear : (k : ℕ) (l : Listing) → Goes v k l → IsClear v.seats l
+  pub clear : (k : ℕ) (l : Listing) → IsListedStarted v k l → IsClear v.seats l
 
 abbrev pub span_at : Seat → Listing → Listing
 span_at (Has l) other = l
@@ -247,7 +247,7 @@ conflict_back l m c = ((c.0.0, (c.0.1.1, c.0.1.0)), other c.1)
     other (inr h) = inl h
 
 -- of two that go and conflict, neither has the lower number, so they are one
-pub goes_apart : (v : TrackerValue) (j k : ℕ) (l m : Listing) → Sound v → Goes v j l → Goes v k m → Conflict l m → j ≡ k
+pub goes_apart : (v : TrackerValue) (j k : ℕ) (l m : Listing) → Sound v → IsListedStarted v j l → IsListedStarted v k m → Conflict l m → j ≡ k
 goes_apart v j k l m sound a b c =
     let less : l.number < m.number → ⊥ = λ h. sound.clear k m b j (subst (λ (s : Seat). Precedes s m) (sym a.0) (h, c)) in
     let more : m.number < l.number → ⊥ = λ h. sound.clear j l a k (subst (λ (s : Seat). Precedes s l) (sym b.0) (h, conflict_back l m c)) in

@@ -22,8 +22,8 @@ abbrev pub IsListed : TrackerValue → ℕ → Listing → Type 0
 IsListed v k l = seat_at v.seats k ≡ Has l
 
 -- this span is listed at place k, and its request goes
-abbrev pub Goes : TrackerValue → ℕ → Listing → Type 0
-Goes v k l = IsListed v k l × (l.started ≡ true)
+abbrev pub IsListedStarted : TrackerValue → ℕ → Listing → Type 0
+IsListedStarted v k l = IsListed v k l × (l.started ≡ true)
 
 -- of all listed spans the one at place k has the lowest number
 pub record IsLowest (v : TrackerValue) (k : ℕ) (l : Listing) : Type 0 where

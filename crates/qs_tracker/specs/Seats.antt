@@ -34,9 +34,9 @@ is_listed_below n (Has l) = nat_lt l.number n
 is_listed_below n _ = false
 
 -- the number of the span that is listed at a place
-abbrev pub number_of : Seat → ℕ
-number_of (Has l) = l.number
-number_of _ = 0
+abbrev pub seat_number : Seat → ℕ
+seat_number (Has l) = l.number
+seat_number _ = 0
 
 -- a span is listed here that this one has to wait for: it has a lower number, and they conflict
 abbrev pub Precedes : Seat → Listing → Type 0
@@ -51,8 +51,8 @@ IsClear seats own = (k : ℕ) → Precedes (seat_at seats k) own → ⊥
 pub record IsLowestBefore (seats : List Seat) (own : Listing) (n : ℕ) : Type 0 where
   pub at : ℕ
   pub precedes : Precedes (seat_at seats at) own
-  pub number : number_of (seat_at seats at) ≡ n
-  pub lowest : (k : ℕ) → Precedes (seat_at seats k) own → n ≤ number_of (seat_at seats k)
+  pub number : seat_number (seat_at seats at) ≡ n
+  pub lowest : (k : ℕ) → Precedes (seat_at seats k) own → n ≤ seat_number (seat_at seats k)
 
 -- the lower of two numbers, or the one that there is
 abbrev pub lower_of : Option ℕ → Option ℕ → Option ℕ

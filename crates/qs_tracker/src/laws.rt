@@ -7,15 +7,15 @@ ghost use Rattle.qs_part.specs.declared.tracker.TrackerReply.TheVariants.{Starte
 ghost use Rattle.qs_tracker.specs.declared.seat.Listing.{Listing};
 ghost use Rattle.qs_tracker.specs.Seats.{Conflict, IsClear};
 ghost use Rattle.qs_tracker.specs.Table.{TrackerValue, numbered, May};
-ghost use Rattle.qs_tracker.specs.History.{StandsForFresh, IsListed, Goes, IsLowest, Renumbered};
+ghost use Rattle.qs_tracker.specs.History.{StandsForFresh, IsListed, IsListedStarted, IsLowest, Renumbered};
 
 /// In every history of a fresh tracker no two spans that go conflict, and one that goes has no
 /// listed conflicting span of a lower number.
 pub fn apart()
     ensures apart { (first : ℕ) (cs : List (Call TrackerOp TrackerReply)) (v : TrackerValue) (j k : ℕ)
-        (l m : Listing) → StandsForFresh first cs v → Goes v j l → Goes v k m → Conflict l m → j ≡ k }
+        (l m : Listing) → StandsForFresh first cs v → IsListedStarted v j l → IsListedStarted v k m → Conflict l m → j ≡ k }
     ensures clear { (first : ℕ) (cs : List (Call TrackerOp TrackerReply)) (v : TrackerValue) (k : ℕ)
-        (l : Listing) → StandsForFresh first cs v → Goes v k l → IsClear v.seats l }
+        (l : Listing) → StandsForFresh first cs v → IsListedStarted v k l → IsClear v.seats l }
 {}
 
 /// In every history of a fresh tracker, where spans are listed, one has the lowest number, and its

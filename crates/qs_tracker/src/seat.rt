@@ -1,5 +1,5 @@
 ghost use Rattle.std.specs.Prelude.{◌≡◌, ◌↔◌, IsTrue, MatchOption};
-ghost use Rattle.qs_tracker.specs.Seats.{Conflict, Precedes, number_of, is_vacant, is_in, is_listed, is_listed_below};
+ghost use Rattle.qs_tracker.specs.Seats.{Conflict, Precedes, seat_number, is_vacant, is_in, is_listed, is_listed_below};
 
 use qs_bytes::Span;
 
@@ -64,7 +64,7 @@ impl Seat {
 
     /// The number of the span that is listed here, if `own` has to wait for it.
     pub fn number_before(&self, own: &Listing) -> Option<u64>
-        ensures { MatchOption result (Precedes self.now own.now → ⊥) (λ n. Precedes self.now own.now × (n ≡ number_of self.now)) }
+        ensures { MatchOption result (Precedes self.now own.now → ⊥) (λ n. Precedes self.now own.now × (n ≡ seat_number self.now)) }
     {
         match self {
             Seat::Has(listing) if listing.number < own.number && listing.conflicts(own) => {

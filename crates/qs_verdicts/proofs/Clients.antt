@@ -2,11 +2,11 @@
 use Rattle.std.proofs.Common.{◌≡◌, ◌≢◌, ℕ, ◌⊎◌, inl, inr, Bool, true, false, cond, ◌==◌, List, [], ◌∷◌, ◌++◌, Option, Some, None, refl, sym, ap, ◌∙◌, subst, arith, append-nil, append_assoc}
 use Rattle.qs_part.specs.declared.graph.ExportInfo.{ExportInfo}
 use Rattle.qs_model.specs.Puts.{put, without}
-use Rattle.qs_model.specs.Laws.{opening}
+use Rattle.qs_model.specs.Laws.{opening_world}
 use Rattle.qs_model.specs.Worlds.{Session, Away, Live, Leaving, World, Opening}
 use Rattle.qs_model.specs.Acts.{Element, Attached, NoExport, Crowded, Left, Detached, NotAttached, Asked, Did, Exported, Planned, Crashed}
-use Rattle.qs_model.specs.Guards.{May}
-use Rattle.qs_model.specs.Steps.{happens, after, Runs}
+use Rattle.qs_model.specs.Guards.{CanCome}
+use Rattle.qs_model.specs.Steps.{happens, world_after, Runs}
 use Rattle.qs_model.proofs.Basics.{put_cases}
 use Rattle.qs_verdicts.specs.Traces.{attached, attached_step}
 use Rattle.qs_verdicts.specs.Lists.{IsAmong, IsOnce}
@@ -143,7 +143,7 @@ left_clients w A s e before live h = record {
         (λ is. sym (ap (λ (k : ℕ). export_of (w.session k)) is ∙ ap export_of live)) (λ _. refl)
 
 -- each step keeps the clients
-pub step_clients : (A : ℕ) (w : World) (e : Element) (before : List Element) → May A w e → AreClients w before → AreClients (happens A w e) (before ++ e ∷ [])
+pub step_clients : (A : ℕ) (w : World) (e : Element) (before : List Element) → CanCome A w e → AreClients w before → AreClients (happens A w e) (before ++ e ∷ [])
 step_clients A w (Attached s name info) before may h = attached_clients w A s name info before may.0 h
 step_clients A w (NoExport s name) before may h = same_clients w w before (NoExport s name) refl refl (λ t o. refl) h
 step_clients A w (Crowded s name) before may h = same_clients w w before (Crowded s name) refl refl (λ t o. refl) h
@@ -161,11 +161,11 @@ step_clients A w (Crashed left) before may h = record {
   once = λ d. tt;
 }
 
-pub run_clients : (A : ℕ) (w : World) (front es : List Element) → Runs A w es → AreClients w front → AreClients (after A w es) (front ++ es)
+pub run_clients : (A : ℕ) (w : World) (front es : List Element) → Runs A w es → AreClients w front → AreClients (world_after A w es) (front ++ es)
 run_clients A w front [] run h = subst (λ (xs : List Element). AreClients w xs) (sym (append-nil front)) h
 run_clients A w front (e ∷ es) run h =
-    subst (λ (xs : List Element). AreClients (after A (happens A w e) es) xs) (append_assoc front (e ∷ []) es)
+    subst (λ (xs : List Element). AreClients (world_after A (happens A w e) es) xs) (append_assoc front (e ∷ []) es)
     (run_clients A (happens A w e) (front ++ e ∷ []) es run.1 (step_clients A w e front run.0 h))
 
-pub new_clients : (o : Opening) → AreClients (opening o) []
+pub new_clients : (o : Opening) → AreClients (opening_world o) []
 new_clients o = record { session = λ s. refl; among = λ s e i. absurd i; all = λ s e at. absurd (never_some e at); once = λ e. tt }

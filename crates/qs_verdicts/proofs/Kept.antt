@@ -10,7 +10,7 @@ use Rattle.qs_model.specs.Requests.{Client, Req, Step, Stage, ToRoute, ToList, T
 use Rattle.qs_model.specs.Worlds.{Hold, World}
 use Rattle.qs_model.specs.Acts.{Element}
 use Rattle.qs_model.specs.Laws.{InFlight}
-use Rattle.qs_model.specs.Steps.{Runs, after}
+use Rattle.qs_model.specs.Steps.{Runs, world_after}
 use Rattle.qs_model.proofs.Basics.{either}
 use Rattle.qs_model.proofs.Between.{placed}
 use Rattle.qs_model.proofs.Facts.{Goes, Held, IsHolder, IsOpen, Keeps, Ok, Owner, Seated, Seats, Shaped, Sits, SyncSeat, Well}
@@ -260,5 +260,5 @@ keeps A w before pos ok all clients = record {
 pub always_kept : (A : ℕ) (w : World) (es : List Element) → 0 < A → Ok A w → ((r : ℕ) → w.req r ≡ None) → AreClients w [] → Runs A w es → AlwaysKept A w es
 always_kept A w es pos ok none clients run before at =
     let front : Runs A w before = front_run A w es before run at in
-    keeps A (after A w before) before pos (run_ok A w before pos ok front)
+    keeps A (world_after A w before) before pos (run_ok A w before pos ok front)
     (run_traced A w [] before pos ok front (λ r q is. absurd (some_none (sym is ∙ none r)))) (run_clients A w [] before front clients)

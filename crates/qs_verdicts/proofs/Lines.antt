@@ -10,11 +10,11 @@ use Rattle.qs_bytes.specs.declared.ask.Verdict.TheVariants.{Got, Fine, Refused, 
 use Rattle.qs_part.specs.declared.graph.Route.{Route}
 use Rattle.qs_model.specs.Requests.{is_flush, is_read, stores_bytes}
 use Rattle.qs_verdicts.specs.Stories.{Story, Way, Unknown, Shut, Given}
-use Rattle.qs_verdicts.specs.Verdicts.{MayWork, done, is_malformed, is_served, needs_leave, needs_places, needs_room, passes, reply_by_way, reply_of, reply_on_way}
+use Rattle.qs_verdicts.specs.Verdicts.{MayWork, done, is_malformed, is_served, needs_leave, needs_places, needs_room, passes, reply_by_way, verdict_by_way, reply_on_way}
 
 -- a request that has passed every line but the last two
 abbrev pub Passed : Story → Type 0
-Passed n = (fault : Bool) (got : List ℕ) → reply_of n.client.ask n.client.buffered n.way fault got ≡ Some (if fault then Refused Io else done n.client.ask got)
+Passed n = (fault : Bool) (got : List ℕ) → verdict_by_way n.client.ask n.client.buffered n.way fault got ≡ Some (if fault then Refused Io else done n.client.ask got)
 
 -- a request whose form and buffers are good
 pub record IsGood (n : Story) : Type 0 where
@@ -22,17 +22,17 @@ pub record IsGood (n : Story) : Type 0 where
   pub room : n.client.buffered ≡ true
 
 pub good_reply : (a : Ask) (buffered : Bool) (way : Way) (fault : Bool) (got : List ℕ) → is_malformed a ≡ false → buffered ≡ true →
-    reply_of a buffered way fault got ≡ reply_by_way a way fault got
+    verdict_by_way a buffered way fault got ≡ reply_by_way a way fault got
 good_reply a buffered way fault got form room =
     ap (λ (b : Bool). cond b (Some (Refused Inval)) (cond (not buffered) (Some (Refused NoMem)) (reply_by_way a way fault got))) form
     ∙ ap (λ (b : Bool). cond (not b) (Some (Refused NoMem)) (reply_by_way a way fault got)) room
 
-pub bad_reply : (a : Ask) (buffered : Bool) (way : Way) (fault : Bool) (got : List ℕ) → is_malformed a ≡ true → reply_of a buffered way fault got ≡ Some (Refused Inval)
+pub bad_reply : (a : Ask) (buffered : Bool) (way : Way) (fault : Bool) (got : List ℕ) → is_malformed a ≡ true → verdict_by_way a buffered way fault got ≡ Some (Refused Inval)
 bad_reply a buffered way fault got form =
     ap (λ (b : Bool). cond b (Some (Refused Inval)) (cond (not buffered) (Some (Refused NoMem)) (reply_by_way a way fault got))) form
 
 pub no_room_reply : (a : Ask) (buffered : Bool) (way : Way) (fault : Bool) (got : List ℕ) → is_malformed a ≡ false → buffered ≡ false →
-    reply_of a buffered way fault got ≡ Some (Refused NoMem)
+    verdict_by_way a buffered way fault got ≡ Some (Refused NoMem)
 no_room_reply a buffered way fault got form room =
     ap (λ (b : Bool). cond b (Some (Refused Inval)) (cond (not buffered) (Some (Refused NoMem)) (reply_by_way a way fault got))) form
     ∙ ap (λ (b : Bool). cond (not b) (Some (Refused NoMem)) (reply_by_way a way fault got)) room
@@ -118,7 +118,7 @@ is_io_some (Some v) = is_io v
 is_io_some None = false
 
 -- without a fault no reply tells of one
-pub no_fault_io : (a : Ask) (buffered : Bool) (way : Way) (got : List ℕ) → is_io_some (reply_of a buffered way false got) ≡ false
+pub no_fault_io : (a : Ask) (buffered : Bool) (way : Way) (got : List ℕ) → is_io_some (verdict_by_way a buffered way false got) ≡ false
 no_fault_io a buffered way got = go (is_malformed a) buffered way
   where
     on_way : (route : Route) → is_io (reply_on_way a route false got) ≡ false
@@ -137,7 +137,7 @@ no_fault_io a buffered way got = go (is_malformed a) buffered way
     go false true Shut = refl
     go false true (Given route) = on_way route
 
-pub io_fault : (a : Ask) (buffered : Bool) (way : Way) (fault : Bool) (got : List ℕ) → reply_of a buffered way fault got ≡ Some (Refused Io) → fault ≡ true
+pub io_fault : (a : Ask) (buffered : Bool) (way : Way) (fault : Bool) (got : List ℕ) → verdict_by_way a buffered way fault got ≡ Some (Refused Io) → fault ≡ true
 io_fault a buffered way true got is = refl
 io_fault a buffered way false got is = absurd (true≢false (ap is_io_some (sym is) ∙ no_fault_io a buffered way got))
 
@@ -146,7 +146,7 @@ abbrev is_dropped : Option Verdict → Bool
 is_dropped (Some Dropped) = true
 is_dropped _ = false
 
-pub never_dropped : (a : Ask) (buffered : Bool) (way : Way) (fault : Bool) (got : List ℕ) → reply_of a buffered way fault got ≢ Some Dropped
+pub never_dropped : (a : Ask) (buffered : Bool) (way : Way) (fault : Bool) (got : List ℕ) → verdict_by_way a buffered way fault got ≢ Some Dropped
 never_dropped a buffered way fault got is = true≢false (ap is_dropped (sym is) ∙ go (is_malformed a) buffered way)
   where
     ends : (f r : Bool) → is_dropped (Some (cond f (Refused Io) (cond r (Got got) Fine))) ≡ false

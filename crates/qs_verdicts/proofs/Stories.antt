@@ -1,12 +1,12 @@
 -- Every run keeps what is told of its requests' stories.
 use Rattle.std.proofs.Common.{◌≡◌, ℕ, ◌<◌, inl, inr, Bool, true, false, cond, ◌==◌, List, [], ◌∷◌, ◌++◌, Option, Some, None, refl, sym, ap, ◌∙◌, subst, true≢false, append-nil, append_assoc}
-use Rattle.qs_model.specs.Requests.{Client, Req, Stage, form_error, no_route, asked, abandoned, abandon, brings_bytes}
+use Rattle.qs_model.specs.Requests.{Client, Req, Stage, form_error, no_route, new_request, abandoned, abandon, brings_bytes}
 use Rattle.qs_model.specs.Worlds.{World}
 use Rattle.qs_bytes.specs.declared.ask.Errno.TheVariants.{Inval, NoMem}
 use Rattle.qs_part.specs.declared.graph.Route.{Route}
 use Rattle.qs_model.specs.Acts.{Act, Routes, Shuts, Lists, Loads, LoadFails, Holds, HoldFails, Stores, StoreFails, Syncs, Cleans, SyncFails, Frees, Element, Attached, NoExport, Crowded, Left, Detached, NotAttached, Asked, Did, Exported, Planned, Crashed}
-use Rattle.qs_model.specs.Guards.{MayDo, May}
-use Rattle.qs_model.specs.Steps.{moved, leaves, happens, after, Runs}
+use Rattle.qs_model.specs.Guards.{MayDo, CanCome}
+use Rattle.qs_model.specs.Steps.{moved, leaves, happens, world_after, Runs}
 use Rattle.qs_model.specs.Laws.{Begins}
 use Rattle.qs_model.proofs.Basics.{choose, put_tells}
 use Rattle.qs_model.proofs.Facts.{Shaped, Ok}
@@ -107,7 +107,7 @@ pub ask_step : (A r s : ℕ) (c : Client) (o : Option Story) → told_step A r o
 ask_step A r s c None = refl
 ask_step A r s c (Some n) = refl
 
-pub made_told : (A r : ℕ) (c : Client) (before : List Element) → c.route ≡ no_route → (brings_bytes c.ask.kind ≡ false → c.body ≡ []) → Told A r (before ++ Asked r c ∷ []) (asked c)
+pub made_told : (A r : ℕ) (c : Client) (before : List Element) → c.route ≡ no_route → (brings_bytes c.ask.kind ≡ false → c.body ≡ []) → Told A r (before ++ Asked r c ∷ []) (new_request c)
 made_told A r c before unrouted bare = record {
   story = begun c;
   is = told_more A r None before (Asked r c) ∙ ask_step A r r c (told A r before) ∙ if_same r r (Some (begun c)) (told A r before) refl;
@@ -119,7 +119,7 @@ made_told A r c before unrouted bare = record {
   steady = record { worked = λ h. absurd (true≢false (sym h)); fault = λ h. absurd (true≢false (sym h)); unsynced = λ _ _. refl };
 }
   where
-    stage : Stands A (begun c) (asked c).stage
+    stage : Stands A (begun c) (new_request c).stage
     stage = choose (λ g. Stands A (begun c) g) (form_error c.ask) _ _
         (λ bad. (bad_reply c.ask c.buffered Unknown false [] (malformed_is c.ask ∙ bad), refl, refl, refl, refused_fine Inval))
         (λ good. let form : is_malformed c.ask ≡ false = malformed_is c.ask ∙ good in
@@ -172,7 +172,7 @@ left_told A r s e before q x is t = go (q.client.session == s) refl
         })
 
 -- each step keeps what is told
-pub step_told : (A : ℕ) (w : World) (e : Element) (before : List Element) → 0 < A → Ok A w → May A w e → AllTold A w before → AllTold A (happens A w e) (before ++ e ∷ [])
+pub step_told : (A : ℕ) (w : World) (e : Element) (before : List Element) → 0 < A → Ok A w → CanCome A w e → AllTold A w before → AllTold A (happens A w e) (before ++ e ∷ [])
 step_told A w (Attached s name info) before pos ok may all r q is = same_told A r before (Attached s name info) q (λ n. refl) (all r q is)
 step_told A w (NoExport s name) before pos ok may all r q is = same_told A r before (NoExport s name) q (λ n. refl) (all r q is)
 step_told A w (Crowded s name) before pos ok may all r q is = same_told A r before (Crowded s name) q (λ n. refl) (all r q is)
@@ -183,9 +183,9 @@ step_told A w (Left s e) before pos ok may all r x is = go (w.req r) refl is
     go (Some q) there gone = left_told A r s e before q x gone (all r q there)
 step_told A w (Detached s e) before pos ok may all r q is = same_told A r before (Detached s e) q (λ n. refl) (all r q is)
 step_told A w (NotAttached s e) before pos ok may all r q is = same_told A r before (NotAttached s e) q (λ n. refl) (all r q is)
-step_told A w (Asked s c) before pos ok may all r q is = elim (put_tells w.req s (Some (asked c)) r (Some q) is) [
-  | inl h ↦ subst (λ (x : Req). Told A r (before ++ Asked s c ∷ []) x) (inside (asked c) q h.1)
-      (subst (λ (k : ℕ). Told A r (before ++ Asked k c ∷ []) (asked c)) h.0 (made_told A r c before may.unrouted may.other))
+step_told A w (Asked s c) before pos ok may all r q is = elim (put_tells w.req s (Some (new_request c)) r (Some q) is) [
+  | inl h ↦ subst (λ (x : Req). Told A r (before ++ Asked s c ∷ []) x) (inside (new_request c) q h.1)
+      (subst (λ (k : ℕ). Told A r (before ++ Asked k c ∷ []) (new_request c)) h.0 (made_told A r c before may.unrouted may.other))
   | inr h ↦ same_told A r before (Asked s c) q (λ n. ask_step A r s c (Some n) ∙ if_other s r (Some (begun c)) (Some n) (λ f. h.0 (sym f))) (all r q h.1)
 ]
   where
@@ -201,14 +201,14 @@ step_told A w (Planned j fail) before pos ok may all r q is = same_told A r befo
 step_told A w (Crashed left) before pos ok may all r q is = absurd (some_none (sym is))
 
 -- and so does a run
-pub run_told : (A : ℕ) (w : World) (front es : List Element) → 0 < A → Ok A w → Runs A w es → AllTold A w front → AllTold A (after A w es) (front ++ es)
+pub run_told : (A : ℕ) (w : World) (front es : List Element) → 0 < A → Ok A w → Runs A w es → AllTold A w front → AllTold A (world_after A w es) (front ++ es)
 run_told A w front [] pos ok run all = subst (λ (xs : List Element). AllTold A w xs) (sym (append-nil front)) all
 run_told A w front (e ∷ es) pos ok run all =
-    subst (λ (xs : List Element). AllTold A (after A (happens A w e) es) xs) (append_assoc front (e ∷ []) es)
+    subst (λ (xs : List Element). AllTold A (world_after A (happens A w e) es) xs) (append_assoc front (e ∷ []) es)
     (run_told A (happens A w e) (front ++ e ∷ []) es pos (step_ok A w e pos ok run.0) run.1 (step_told A w e front pos ok run.0 all))
 
 -- what is told at a position of a run
 pub all_told : (A : ℕ) (w : World) (es before : List Element) → 0 < A → Ok A w → ((r : ℕ) → w.req r ≡ None) → Runs A w es → Begins before es →
-    AllTold A (after A w before) before
+    AllTold A (world_after A w before) before
 all_told A w es before pos ok none run at =
     run_told A w [] before pos ok (front_run A w es before run at) (λ r q is. absurd (some_none (sym is ∙ none r)))

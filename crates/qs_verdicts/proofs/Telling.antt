@@ -20,7 +20,7 @@ use Rattle.qs_model.proofs.Geometry.{head_reached}
 use Rattle.qs_model.proofs.Machine.{ForMoved}
 use Rattle.qs_model.proofs.RequestKinds.{other_one}
 use Rattle.qs_verdicts.specs.Stories.{Story, Way, Unknown, Shut, Given, is_last, route_by, sent, told_row}
-use Rattle.qs_verdicts.specs.Verdicts.{AreStripes, done, is_forced, needs_leave, needs_room, reply_of, reply_on_way, verdict_of}
+use Rattle.qs_verdicts.specs.Verdicts.{AreStripes, done, is_forced, needs_leave, needs_room, verdict_by_way, reply_on_way, verdict_of}
 use Rattle.qs_verdicts.proofs.TableKinds.{Forces, flush_is, flush_no_read, forced_is, is_a_flush, leave_is, room_is, room_no_flush, room_no_read, room_no_trim, writes_forced}
 use Rattle.qs_verdicts.proofs.Lines.{IsGood, Passed, flush_line, good_reply, passed_line, perm_line, range_line}
 use Rattle.qs_verdicts.proofs.Stripes.{chosen, chosen_next, flush_all, flush_picks, own_stripes, to_sync_from}
@@ -57,7 +57,7 @@ pub record IsSyncing (A : ℕ) (n : Story) (s : ℕ) : Type 0 where
 
 -- its answer is fixed, and its course is over
 pub record IsEnding (A : ℕ) (n : Story) (v : Verdict) : Type 0 where
-  pub reply : n.left ≡ false → reply_of n.client.ask n.client.buffered n.way n.fault n.got ≡ Some v
+  pub reply : n.left ≡ false → verdict_by_way n.client.ask n.client.buffered n.way n.fault n.got ≡ Some v
   pub course : n.listed ≡ true →
       (n.fault ≡ true) ⊎ ((n.ended ≡ true) × (is_forced n.client.ask ≡ true → AreStripes A (sent n) n.synced))
   pub failed : n.fault ≡ true → Passed n
@@ -97,7 +97,7 @@ got_fine bytes is = cc
 -- the end of a request that a disk failed
 pub failed_end : (A : ℕ) (n : Story) → Passed n → n.fault ≡ true → IsEnding A n (Refused Io)
 failed_end A n passed fault = record {
-  reply = λ _. ap (λ (f : Bool). reply_of n.client.ask n.client.buffered n.way f n.got) fault ∙ passed true n.got;
+  reply = λ _. ap (λ (f : Bool). verdict_by_way n.client.ask n.client.buffered n.way f n.got) fault ∙ passed true n.got;
   course = λ _. inl fault;
   failed = λ _. passed;
   flushed = λ _ fine. absurd (refused_fine Io fine);
@@ -105,9 +105,9 @@ failed_end A n passed fault = record {
 }
 
 -- the reply of a request that isn't a READ, and that no disk failed
-fine_reply : (n : Story) → Passed n → n.fault ≡ false → is_read n.client.ask.kind ≡ false → reply_of n.client.ask n.client.buffered n.way n.fault n.got ≡ Some Fine
+fine_reply : (n : Story) → Passed n → n.fault ≡ false → is_read n.client.ask.kind ≡ false → verdict_by_way n.client.ask n.client.buffered n.way n.fault n.got ≡ Some Fine
 fine_reply n passed fault other =
-    ap (λ (f : Bool). reply_of n.client.ask n.client.buffered n.way f n.got) fault ∙ passed false n.got ∙ ap (λ (r : Bool). Some (cond r (Got n.got) Fine)) other
+    ap (λ (f : Bool). verdict_by_way n.client.ask n.client.buffered n.way f n.got) fault ∙ passed false n.got ∙ ap (λ (r : Bool). Some (cond r (Got n.got) Fine)) other
 
 pub held_at : (A : ℕ) (n : Story) (side : Side) → Passed n → n.fault ≡ false → At A n (held A (sent n) side)
 unfolding held
@@ -135,7 +135,7 @@ loaded_at A n b got bytes passed fault same reading =
     let more : n.got ++ piece A (sent n) b bytes ≡ got ++ piece A (sent n) b bytes = ap (λ (xs : List ℕ). xs ++ piece A (sent n) b bytes) same in
     choose (λ g. At A (told_row A n (Loads {k = 0} {b = b} {got = got} bytes)) g) (b == edge A (sent n) Tail) _ _
     (λ over. record {
-      reply = λ _. ap (λ (f : Bool). reply_of n.client.ask n.client.buffered n.way f (n.got ++ piece A (sent n) b bytes)) fault
+      reply = λ _. ap (λ (f : Bool). verdict_by_way n.client.ask n.client.buffered n.way f (n.got ++ piece A (sent n) b bytes)) fault
           ∙ passed false (n.got ++ piece A (sent n) b bytes)
           ∙ ap (λ (r : Bool). Some (cond r (Got (n.got ++ piece A (sent n) b bytes)) Fine)) reading ∙ ap (λ (xs : List ℕ). Some (Got xs)) more;
       course = λ _. inr (or_true n.ended (is_last A (sent n) b) over, λ forced. absurd (reading_forced n.client.ask reading forced));
@@ -246,7 +246,7 @@ store_failed_at A n b passed fault =
     choose (λ g. At A n g) (has A (sent n) Tail && not (b == edge A (sent n) Tail)) _ _ (λ _. (passed, fault)) (λ _. failed_end A n passed fault)
 
 -- a request that isn't listed and didn't fail ends with what its lines say, if it needn't sync
-plain_end : (A : ℕ) (n : Story) (v : Verdict) → n.listed ≡ false → n.fault ≡ false → reply_of n.client.ask n.client.buffered n.way n.fault n.got ≡ Some v →
+plain_end : (A : ℕ) (n : Story) (v : Verdict) → n.listed ≡ false → n.fault ≡ false → verdict_by_way n.client.ask n.client.buffered n.way n.fault n.got ≡ Some v →
     (v ≡ Fine → (n.client.ask.kind ≢ Flush) × (is_forced n.client.ask ≡ false)) → IsEnding A n v
 plain_end A n v listed fault reply free = record {
   reply = λ _. reply;
@@ -269,7 +269,7 @@ unfolding routed
 routed_at A n route fresh =
     let a : Ask = n.client.ask in
     let m : Story = record n { way = Given route } in
-    let by : (fault : Bool) (got : List ℕ) → reply_of a n.client.buffered (Given route) fault got ≡ Some (reply_on_way a route fault got) =
+    let by : (fault : Bool) (got : List ℕ) → verdict_by_way a n.client.buffered (Given route) fault got ≡ Some (reply_on_way a route fault got) =
     λ fault got. good_reply a n.client.buffered (Given route) fault got fresh.good.form fresh.good.room in
     let leave : needs_leave a.kind && not route.writable ≡ wants_writable a.kind && not route.writable = ap (λ (b : Bool). b && not route.writable) (leave_is a.kind) in
     choose (λ g. At A m g) (wants_writable a.kind && not route.writable) _ _
@@ -289,7 +289,7 @@ routed_at A n route fresh =
     (λ inside.
     let passed : Passed m = λ fault got. by fault got ∙ ap Some (passed_line a route fault got (leave ∙ may) inside) in
     choose (λ g. At A m g) (a.length == 0 || is_trim a.kind) _ _
-    (λ nothing. plain_end A m _ fresh.listed fresh.fault (ap (λ (f : Bool). reply_of a n.client.buffered (Given route) f n.got) fresh.fault ∙ passed false n.got
+    (λ nothing. plain_end A m _ fresh.listed fresh.fault (ap (λ (f : Bool). verdict_by_way a n.client.buffered (Given route) f n.got) fresh.fault ∙ passed false n.got
     ∙ ap (λ (xs : List ℕ). Some (done a xs)) fresh.got)
     (λ _. ((λ flush. true≢false (sym (is_a_flush a.kind flush) ∙ other)), unforced a nothing)))
     (λ _. record { here = fresh.here; passed = passed; listed = fresh.listed; worked = fresh.worked; fault = fresh.fault; got = fresh.got }))))

@@ -1,11 +1,11 @@
 -- Every run keeps what is traced of its requests.
 use Rattle.std.proofs.Common.{◌≡◌, ◌≢◌, ℕ, ◌<◌, inl, inr, Bool, true, false, cond, ◌==◌, List, [], ◌∷◌, ◌++◌, Option, Some, None, refl, sym, ◌∙◌, subst, append-nil, append_assoc}
 use Rattle.qs_tracker.specs.Table.{TrackerValue}
-use Rattle.qs_model.specs.Requests.{Client, Req, asked, abandon, form_error}
+use Rattle.qs_model.specs.Requests.{Client, Req, new_request, abandon, form_error}
 use Rattle.qs_model.specs.Worlds.{World}
 use Rattle.qs_model.specs.Acts.{Act, Element, Attached, NoExport, Crowded, Left, Detached, NotAttached, Asked, Did, Exported, Planned, Crashed}
-use Rattle.qs_model.specs.Guards.{MayDo, May}
-use Rattle.qs_model.specs.Steps.{moved, leaves, tracked, happens, after, Runs}
+use Rattle.qs_model.specs.Guards.{MayDo, CanCome}
+use Rattle.qs_model.specs.Steps.{moved, leaves, tracked, happens, world_after, Runs}
 use Rattle.qs_model.proofs.Basics.{choose, put_tells}
 use Rattle.qs_model.proofs.Facts.{Ok, Well}
 use Rattle.qs_model.proofs.Holders.{some_none}
@@ -26,7 +26,7 @@ still_traced A r v before e q same at =
     subst (λ (t : Trace). TraceAt A v q.client q.stage t) (sym (traced_more A r blank before e ∙ same (traced A r before))) at
 
 -- a request that was made
-made_traced : (A : ℕ) (v : TrackerValue) (c : Client) → TraceAt A v c (asked c).stage blank
+made_traced : (A : ℕ) (v : TrackerValue) (c : Client) → TraceAt A v c (new_request c).stage blank
 made_traced A v c = choose (λ g. TraceAt A v c g blank) (form_error c.ask) _ _ (λ _. tt) (λ _. choose (λ g. TraceAt A v c g blank) c.buffered _ _ (λ _. (refl, refl, refl)) (λ _. tt))
 
 -- a request's own row
@@ -69,17 +69,17 @@ left_traced A s r w before e (Some q) x ok there gone all = go (q.client.session
         (still_traced A r w.tracker before (Left s e) q (λ t. refl) (all r q there))
 
 -- each step keeps what is traced
-step_traced : (A : ℕ) (w : World) (e : Element) (before : List Element) → 0 < A → Ok A w → May A w e → AllTraced A w before → AllTraced A (happens A w e) (before ++ e ∷ [])
+step_traced : (A : ℕ) (w : World) (e : Element) (before : List Element) → 0 < A → Ok A w → CanCome A w e → AllTraced A w before → AllTraced A (happens A w e) (before ++ e ∷ [])
 step_traced A w (Attached s name info) before pos ok may all r q is = still_traced A r w.tracker before (Attached s name info) q (λ t. refl) (all r q is)
 step_traced A w (NoExport s name) before pos ok may all r q is = still_traced A r w.tracker before (NoExport s name) q (λ t. refl) (all r q is)
 step_traced A w (Crowded s name) before pos ok may all r q is = still_traced A r w.tracker before (Crowded s name) q (λ t. refl) (all r q is)
 step_traced A w (Left s e) before pos ok may all r x is = left_traced A s r w before e (w.req r) x ok refl is all
 step_traced A w (Detached s e) before pos ok may all r q is = still_traced A r w.tracker before (Detached s e) q (λ t. refl) (all r q is)
 step_traced A w (NotAttached s e) before pos ok may all r q is = still_traced A r w.tracker before (NotAttached s e) q (λ t. refl) (all r q is)
-step_traced A w (Asked s c) before pos ok may all r q is = elim (put_tells w.req s (Some (asked c)) r (Some q) is) [
+step_traced A w (Asked s c) before pos ok may all r q is = elim (put_tells w.req s (Some (new_request c)) r (Some q) is) [
   | inl h ↦
-      subst (λ (x : Req). TraceAt A w.tracker x.client x.stage (traced A r (before ++ Asked s c ∷ []))) (inside (asked c) q h.1)
-      (subst (λ (t : Trace). TraceAt A w.tracker c (asked c).stage t) (sym (traced_more A r blank before (Asked s c) ∙ if_same s r blank (traced A r before) (sym h.0)))
+      subst (λ (x : Req). TraceAt A w.tracker x.client x.stage (traced A r (before ++ Asked s c ∷ []))) (inside (new_request c) q h.1)
+      (subst (λ (t : Trace). TraceAt A w.tracker c (new_request c).stage t) (sym (traced_more A r blank before (Asked s c) ∙ if_same s r blank (traced A r before) (sym h.0)))
       (made_traced A w.tracker c))
   | inr h ↦ still_traced A r w.tracker before (Asked s c) q (λ t. if_other s r blank t (λ f. h.0 (sym f))) (all r q h.1)
 ]
@@ -95,8 +95,8 @@ step_traced A w (Exported op e) before pos ok may all r q is = still_traced A r 
 step_traced A w (Planned j fail) before pos ok may all r q is = still_traced A r w.tracker before (Planned j fail) q (λ t. refl) (all r q is)
 step_traced A w (Crashed left) before pos ok may all r q is = absurd (some_none (sym is))
 
-pub run_traced : (A : ℕ) (w : World) (front es : List Element) → 0 < A → Ok A w → Runs A w es → AllTraced A w front → AllTraced A (after A w es) (front ++ es)
+pub run_traced : (A : ℕ) (w : World) (front es : List Element) → 0 < A → Ok A w → Runs A w es → AllTraced A w front → AllTraced A (world_after A w es) (front ++ es)
 run_traced A w front [] pos ok run all = subst (λ (xs : List Element). AllTraced A w xs) (sym (append-nil front)) all
 run_traced A w front (e ∷ es) pos ok run all =
-    subst (λ (xs : List Element). AllTraced A (after A (happens A w e) es) xs) (append_assoc front (e ∷ []) es)
+    subst (λ (xs : List Element). AllTraced A (world_after A (happens A w e) es) xs) (append_assoc front (e ∷ []) es)
     (run_traced A (happens A w e) (front ++ e ∷ []) es pos (step_ok A w e pos ok run.0) run.1 (step_traced A w e front pos ok run.0 all))

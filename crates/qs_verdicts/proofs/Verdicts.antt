@@ -15,7 +15,7 @@ use Rattle.qs_model.proofs.Facts.{Ok}
 use Rattle.qs_model.proofs.Holders.{some_none}
 use Rattle.qs_model.proofs.Kept.{split_run}
 use Rattle.qs_verdicts.specs.Stories.{Story, HasStory, sent}
-use Rattle.qs_verdicts.specs.Verdicts.{AreStripes, IsByTable, IsEarly, IsOwnByte, IsSyncRow, MayWork, Own, OwnBytes, Verdicts, done, is_forced, reply_of, verdict_of}
+use Rattle.qs_verdicts.specs.Verdicts.{AreStripes, IsByTable, IsEarly, IsOwnByte, IsSyncRow, MayWork, Own, OwnBytes, Verdicts, done, is_forced, verdict_by_way, verdict_of}
 use Rattle.qs_verdicts.proofs.Lines.{Passed, io_fault, never_dropped, work_end}
 use Rattle.qs_verdicts.proofs.Stories.{Told, all_told}
 use Rattle.qs_verdicts.proofs.TableKinds.{room_is}
@@ -37,10 +37,10 @@ here_or_left n = go n.left
 
 -- the line, where the session has left, and where it hasn't
 line_left : (n : Story) → n.left ≡ true → verdict_of n ≡ Some Dropped
-line_left n h = ap (λ (b : Bool). cond b (Some Dropped) (reply_of n.client.ask n.client.buffered n.way n.fault n.got)) h
+line_left n h = ap (λ (b : Bool). cond b (Some Dropped) (verdict_by_way n.client.ask n.client.buffered n.way n.fault n.got)) h
 
-line_here : (n : Story) → n.left ≡ false → verdict_of n ≡ reply_of n.client.ask n.client.buffered n.way n.fault n.got
-line_here n h = ap (λ (b : Bool). cond b (Some Dropped) (reply_of n.client.ask n.client.buffered n.way n.fault n.got)) h
+line_here : (n : Story) → n.left ≡ false → verdict_of n ≡ verdict_by_way n.client.ask n.client.buffered n.way n.fault n.got
+line_here n h = ap (λ (b : Bool). cond b (Some Dropped) (verdict_by_way n.client.ask n.client.buffered n.way n.fault n.got)) h
 
 -- what follows from the line alone
 line_dropped : (n : Story) (v : Verdict) → verdict_of n ≡ Some v → (v ≡ Dropped) ↔ (n.left ≡ true)

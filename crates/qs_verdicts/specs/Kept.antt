@@ -10,7 +10,7 @@ use Rattle.qs_tracker.specs.Seats.{seat_at}
 use Rattle.qs_model.specs.Requests.{Client, Step, ToLoad, ToHold, ToStore, ToSync, ToFree, edge, pad, serial, span_of}
 use Rattle.qs_model.specs.Worlds.{Hold, World}
 use Rattle.qs_model.specs.Acts.{Element}
-use Rattle.qs_model.specs.Steps.{after}
+use Rattle.qs_model.specs.Steps.{world_after}
 use Rattle.qs_model.specs.Laws.{Begins, InFlight, Placed}
 use Rattle.qs_verdicts.specs.Lists.{IsAmong, IsOnce}
 use Rattle.qs_verdicts.specs.Traces.{attached, kept, traced}
@@ -76,4 +76,4 @@ pub record Kept (A : ℕ) (w : World) (before : List Element) : Type 0 where
 
 -- and so at every position
 abbrev pub AlwaysKept : ℕ → World → List Element → Type 0
-AlwaysKept A w es = (before : List Element) → Begins before es → Kept A (after A w before) before
+AlwaysKept A w es = (before : List Element) → Begins before es → Kept A (world_after A w before) before

@@ -76,15 +76,15 @@ reply_by_way a Shut fault got = Some (Refused Shutdown)
 reply_by_way a (Given route) fault got = Some (reply_on_way a route fault got)
 
 -- all lines: the form first, then memory, then those that hang on the way
-abbrev pub reply_of : Ask → Bool → Way → Bool → List ℕ → Option Verdict
-reply_of a buffered way fault got =
+abbrev pub verdict_by_way : Ask → Bool → Way → Bool → List ℕ → Option Verdict
+verdict_by_way a buffered way fault got =
     if is_malformed a then Some (Refused Inval)
     else if not buffered then Some (Refused NoMem)
     else reply_by_way a way fault got
 
 -- the answer that a story asks for: none but Dropped where its session has left
 abbrev pub verdict_of : Story → Option Verdict
-verdict_of n = if n.left then Some Dropped else reply_of n.client.ask n.client.buffered n.way n.fault n.got
+verdict_of n = if n.left then Some Dropped else verdict_by_way n.client.ask n.client.buffered n.way n.fault n.got
 
 -- the answers that a request may have that did something to a block or a stripe
 abbrev pub MayWork : Verdict → Type 0

@@ -13,7 +13,7 @@ use Rattle.qs_model.specs.Worlds.{Image, World}
 use Rattle.qs_model.specs.Acts.{Act, Answers, Waits, Enters, Routes, Shuts, Lists, Starts, Loads, LoadFails, Holds, HoldFails, Stores, StoreFails, Syncs, Cleans, SyncFails, Frees, Ends, Did}
 use Rattle.qs_model.specs.Guards.{MayDo}
 use Rattle.qs_outside.specs.declared.rigged_disk.Plans.{Plans}
-use Rattle.qs_model.specs.Steps.{moved, tracked, imaged, spent, happens}
+use Rattle.qs_model.specs.Steps.{moved, tracked, imaged, plans_spent, happens}
 use Rattle.qs_model.specs.Events.{note_of, row_outcome, moved_out}
 use Rattle.qs_request.specs.declared.todo.PartReply.{PartReply}
 use Rattle.qs_request.specs.Rows.{IsRow}
@@ -209,7 +209,7 @@ pub did_answers : {D : Type 0} (seen : D → Seen) (old new : WorldValue D) (at 
     tracked old.shape.align old.tracker (req l).client act ≡ new.tracker →
     ((i : Image) → StandsImage (stripe_at (stripes_of seen old)) (all_tell (stripes_of seen old)) i →
     StandsImage (stripe_at (stripes_of seen new)) (all_tell (stripes_of seen old)) (imaged old.shape.align i (req l).client act)) →
-    ((p : ℕ → Plans) → StandsPlans (stripe_at (stripes_of seen old)) p → StandsPlans (stripe_at (stripes_of seen new)) (spent old.shape.align p (req l).client act)) →
+    ((p : ℕ → Plans) → StandsPlans (stripe_at (stripes_of seen old)) p → StandsPlans (stripe_at (stripes_of seen new)) (plans_spent old.shape.align p (req l).client act)) →
     IsRowAsPlanned (stripe_at (stripes_of seen old)) act → IsInside old.shape (Did l.number (req l) act) →
     Follows (waiting l) reply note at (slice_set old.requests at (waiting l)) outcome new.requests → HasCause seen old outcome new →
     StepsRequest seen old l.number outcome new

@@ -8,10 +8,10 @@ use Rattle.qs_part.specs.declared.graph.GraphReply.{GraphReply}
 use Rattle.qs_part.specs.declared.graph.GraphOp.TheVariants.{Attach, Detach}
 use Rattle.qs_part.specs.declared.graph.GraphReply.TheVariants.{Attached as AttachedReply, NoExport as NoExportReply, Crowded as CrowdedReply, Detached as DetachedReply, NotAttached as NotAttachedReply, Added}
 use Rattle.qs_model.specs.Puts.{put}
-use Rattle.qs_model.specs.Requests.{Client, asked, brings_bytes, no_route, wants_buffers}
+use Rattle.qs_model.specs.Requests.{Client, new_request, brings_bytes, no_route, wants_buffers}
 use Rattle.qs_model.specs.Worlds.{Away, Live, Leaving, World}
 use Rattle.qs_model.specs.Acts.{Element, Attached, NoExport, Crowded, Left, Detached, NotAttached, Asked, Exported}
-use Rattle.qs_model.specs.Guards.{May, HasRequest}
+use Rattle.qs_model.specs.Guards.{CanCome, HasRequest}
 use Rattle.qs_model.specs.Steps.{happens, leaves}
 use Rattle.qs_graph.specs.Table.{GraphValue, May as GraphMay, after, answers}
 use Rattle.qs_world.specs.Events.{Does, HasRequest as HasRequestHere}
@@ -63,7 +63,7 @@ attached_does seen old new s name info keeps next requests away row sessions m s
 
 -- nothing changed
 pub refused_does : {D : Type 0} (seen : D → Seen) (old new : WorldValue D) (e : Element) → new ≡ old →
-    ((m : World) → Stands seen old m → May old.shape.align m e × (happens old.shape.align m e ≡ m)) → Does seen old e new
+    ((m : World) → Stands seen old m → CanCome old.shape.align m e × (happens old.shape.align m e ≡ m)) → Does seen old e new
 refused_does seen old new e same may m stands =
     let done = may m stands in
     (done.0, subst (λ (w : World). Stands seen new w) (sym done.1) (subst (λ (w : WorldValue _). Stands seen w m) (sym same) stands))
@@ -127,7 +127,7 @@ pub asked_does : {D : Type 0} (seen : D → Seen) (old new : WorldValue D) (c : 
     new.sessions ≡ old.sessions → old.next < 2 ^ 64 - 1 → session_at old.sessions c.session ≡ Live c.export → c.route ≡ no_route →
     (wants_buffers c.ask ≡ false → c.buffered ≡ true) → (brings_bytes c.ask.kind ≡ true → c.buffered ≡ true → length c.body ≡ c.ask.length) →
     (brings_bytes c.ask.kind ≡ true → c.buffered ≡ false → (c.body ≡ []) ⊎ (length c.body ≡ c.ask.length)) → (brings_bytes c.ask.kind ≡ false → c.body ≡ []) →
-    ((r : ℕ) → request_at new.requests r ≡ put (request_at old.requests) old.next (Some (asked c)) r) → Does seen old (Asked old.next c) new
+    ((r : ℕ) → request_at new.requests r ≡ put (request_at old.requests) old.next (Some (new_request c)) r) → Does seen old (Asked old.next c) new
 asked_does seen old new c keeps next graph sessions room live unrouted buffered body refused other requests m stands = (
   record {
     next = sym stands.next;
@@ -142,7 +142,7 @@ asked_does seen old new c keeps next graph sessions room live unrouted buffered 
   record {
     tells = kept_tells seen old new m keeps stands.tells;
     next = ap (λ (n : ℕ). n + 1) stands.next ∙ sym next;
-    request = λ r. put_same m.req (request_at old.requests) old.next (Some (asked c)) stands.request r ∙ sym (requests r);
+    request = λ r. put_same m.req (request_at old.requests) old.next (Some (new_request c)) stands.request r ∙ sym (requests r);
     session = λ t. rw sessions (stands.session t);
     graph = stands.graph ∙ sym graph;
     tracker = stands.tracker ∙ sym keeps.tracker;

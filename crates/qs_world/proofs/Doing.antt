@@ -8,7 +8,7 @@ use Rattle.qs_model.specs.Worlds.{Image, World}
 use Rattle.qs_model.specs.Acts.{Act, Did}
 use Rattle.qs_model.specs.Guards.{MayDo}
 use Rattle.qs_outside.specs.declared.rigged_disk.Plans.{Plans}
-use Rattle.qs_model.specs.Steps.{moved, tracked, imaged, spent}
+use Rattle.qs_model.specs.Steps.{moved, tracked, imaged, plans_spent}
 use Rattle.qs_model.proofs.Basics.{put_here, put_other, same_or}
 use Rattle.qs_tracker.specs.Table.{TrackerValue}
 use Rattle.qs_world.specs.Events.{Does}
@@ -37,7 +37,7 @@ pub did_does : {D : Type 0} (seen : D → Seen) (old new : WorldValue D) (r : �
     tracked old.shape.align old.tracker q.client act ≡ new.tracker →
     ((i : Image) → StandsImage (stripe_at (stripes_of seen old)) (all_tell (stripes_of seen old)) i →
     StandsImage (stripe_at (stripes_of seen new)) (all_tell (stripes_of seen old)) (imaged old.shape.align i q.client act)) →
-    ((p : ℕ → Plans) → StandsPlans (stripe_at (stripes_of seen old)) p → StandsPlans (stripe_at (stripes_of seen new)) (spent old.shape.align p q.client act)) →
+    ((p : ℕ → Plans) → StandsPlans (stripe_at (stripes_of seen old)) p → StandsPlans (stripe_at (stripes_of seen new)) (plans_spent old.shape.align p q.client act)) →
     ((j : ℕ) → request_at new.requests j ≡ put (request_at old.requests) r (moved old.shape.align q.client q.dropped q.pads act) j) →
     Does seen old (Did r q act) new
 did_does seen old new r q act is leaves may tracks images plans requests m stands = (

@@ -35,7 +35,7 @@ use Rattle.qs_world.specs.declared.live.Live.{Live}
 use Rattle.qs_world.specs.declared.live.Member.{Member}
 use Rattle.qs_world.specs.Cores.{Handles, StepsRequest}
 use Rattle.qs_world.specs.Events.{Does, IsAsPlanned, IsInside, Steps, StepsTo, HasCause, IsNotNext, TakesMemory}
-use Rattle.qs_world.specs.Follows.{IsElement, abandoned_of, is_of}
+use Rattle.qs_world.specs.Follows.{IsElement, abandoned_of, is_live_of}
 use Rattle.qs_world.specs.Keyed.{find_by, HasKey, AreDistinct}
 use Rattle.qs_world.specs.Sound.{IsSound, IsIdle}
 use Rattle.qs_world.specs.Values.{WorldValue, request_at, session_at, session_or, member_of}
@@ -240,22 +240,22 @@ away_not m e = go m.left refl
         never g = cc
 
 -- each request of a session that leaves is abandoned
-abandoned_req : (s : ℕ) (l : Live) → (abandoned_of s l).request.value.request ≡ cond (is_of s l) (abandon l.request.value.request) l.request.value.request
-abandoned_req s l = go (is_of s l)
+abandoned_req : (s : ℕ) (l : Live) → (abandoned_of s l).request.value.request ≡ cond (is_live_of s l) (abandon l.request.value.request) l.request.value.request
+abandoned_req s l = go (is_live_of s l)
   where
     go : (b : Bool) → (cond b (record l { request = record l.request { value = record l.request.value { request = abandon l.request.value.request } } }) l).request.value.request ≡ cond b (abandon l.request.value.request) l.request.value.request
     go true = refl
     go false = refl
 
 pub abandoned_number : (s : ℕ) (l : Live) → (abandoned_of s l).number ≡ l.number
-abandoned_number s l = go (is_of s l)
+abandoned_number s l = go (is_live_of s l)
   where
     go : (b : Bool) → (cond b (record l { request = record l.request { value = record l.request.value { request = abandon l.request.value.request } } }) l).number ≡ l.number
     go true = refl
     go false = refl
 
 pub abandoned_idle : {D : Type 0} (w : WorldValue D) (s : ℕ) (l : Live) → IsIdle w.shape w.next l → IsIdle w.shape w.next (abandoned_of s l)
-abandoned_idle w s l idle = go (is_of s l)
+abandoned_idle w s l idle = go (is_live_of s l)
   where
     go : (b : Bool) → IsIdle w.shape w.next (cond b (record l { request = record l.request { value = record l.request.value { request = abandon l.request.value.request } } }) l)
     go true = record { below = idle.below; shape_is = idle.shape_is; waits = idle.waits; answered = idle.answered }
@@ -289,27 +289,27 @@ some_has (l ∷ ls) r q is = go (λ f. some_has ls r q f) (same_or l.number r)
 abbrev pub HasIn : List Live → ℕ → Type 0
 HasIn ls s = (r : ℕ) × (q : Req) × ((request_at ls r ≡ Some q) × (q.client.session ≡ s))
 
-pub any_has : (s : ℕ) (ls : List Live) → AreDistinct (λ l. l.number) ls → list_any (is_of s) ls ≡ true → HasIn ls s
+pub any_has : (s : ℕ) (ls : List Live) → AreDistinct (λ l. l.number) ls → list_any (is_live_of s) ls ≡ true → HasIn ls s
 any_has s [] apart is = absurd (never is)
   where
     never : false ≡ true → ⊥
     never e = cc
-any_has s (l ∷ ls) apart is = go (λ f. any_has s ls apart.1 f) (is_of s l) refl is
+any_has s (l ∷ ls) apart is = go (λ f. any_has s ls apart.1 f) (is_live_of s l) refl is
   where
-    go : (list_any (is_of s) ls ≡ true → HasIn ls s) → (b : Bool) → is_of s l ≡ b → (b || list_any (is_of s) ls) ≡ true → HasIn (l ∷ ls) s
+    go : (list_any (is_live_of s) ls ≡ true → HasIn ls s) → (b : Bool) → is_live_of s l ≡ b → (b || list_any (is_live_of s) ls) ≡ true → HasIn (l ∷ ls) s
     go rest true e f = (l.number, l.request.value.request, (find_head (λ x. x.number) (λ x. x.request.value.request) l ls l.number refl, grind (arith, e)))
     go rest false e f =
         let h = rest f in
         (h.0, h.1, (find_tail (λ x. x.number) (λ x. x.request.value.request) l ls h.0 (λ g. apart.0 (subst (HasKey (λ x. x.number) ls) (sym g) (some_has ls h.0 h.1 h.2.0))) ∙ h.2.0, h.2.1))
 
-pub none_has_request : (s : ℕ) (ls : List Live) → list_any (is_of s) ls ≡ false → HasIn ls s → ⊥
+pub none_has_request : (s : ℕ) (ls : List Live) → list_any (is_live_of s) ls ≡ false → HasIn ls s → ⊥
 none_has_request s [] is h = never h.1 h.2.0
   where
     never : (q : Req) → None ≡ Some q → ⊥
     never q e = cc
-none_has_request s (l ∷ ls) is h = go (λ f. none_has_request s ls f) (is_of s l) refl is (same_or l.number h.0)
+none_has_request s (l ∷ ls) is h = go (λ f. none_has_request s ls f) (is_live_of s l) refl is (same_or l.number h.0)
   where
-    go : (list_any (is_of s) ls ≡ false → HasIn ls s → ⊥) → (b : Bool) → is_of s l ≡ b → (b || list_any (is_of s) ls) ≡ false → (l.number ≡ h.0) ⊎ (l.number ≢ h.0) → ⊥
+    go : (list_any (is_live_of s) ls ≡ false → HasIn ls s → ⊥) → (b : Bool) → is_live_of s l ≡ b → (b || list_any (is_live_of s) ls) ≡ false → (l.number ≡ h.0) ⊎ (l.number ≢ h.0) → ⊥
     go rest true e f other = let no : true ≡ false = f in absurd (never no)
       where
         never : true ≡ false → ⊥
@@ -468,12 +468,12 @@ detach_other v e _ may other = absurd may
 abbrev no_next : {D : Type 0} → WorldValue D → ℕ → ℕ → Type 0
 no_next w s now = IsNotNext w (Step (ASession s) now) → ⊥
 
-is_next : {D : Type 0} (seen : D → Seen) (w : WorldValue D) (at now : ℕ) (m : Member) → IsSound seen w → IsElement w.sessions at m → m.left ≡ true → list_any (is_of m.session) w.requests ≡ false → no_next w m.session now
+is_next : {D : Type 0} (seen : D → Seen) (w : WorldValue D) (at now : ℕ) (m : Member) → IsSound seen w → IsElement w.sessions at m → m.left ≡ true → list_any (is_live_of m.session) w.requests ≡ false → no_next w m.session now
 is_next seen w at now m sound el left none (inl h) = h m.e (session_stands w.sessions at m sound.sessions el ∙ leaving_is m left)
 is_next seen w at now m sound el left none (inr h) = none_has_request m.session w.requests none h
 
 pub detached_handled : {D : Type 0} (seen : D → Seen) (old new : WorldValue D) (at now : ℕ) (m : Member) → IsSound seen old → IsElement old.sessions at m → m.left ≡ true →
-    list_any (is_of m.session) old.requests ≡ false → graph_answers old.graph (Detach m.e) Gone new.graph → new.graph.size ≡ old.graph.size →
+    list_any (is_live_of m.session) old.requests ≡ false → graph_answers old.graph (Detach m.e) Gone new.graph → new.graph.size ≡ old.graph.size →
     new ≡ record old { graph = new.graph; sessions = remove old.sessions at } → Handles seen old (Step (ASession m.session) now) (Moved (detach_note Gone)) new
 detached_handled {D = D} seen old new at now m sound el left none row size is =
     let leaving : session_at old.sessions m.session ≡ Leaving m.e = session_stands old.sessions at m sound.sessions el ∙ leaving_is m left in
@@ -500,7 +500,7 @@ detached_handled {D = D} seen old new at now m sound el left none row size is =
     no_block b f = cc
 
 pub not_attached_handled : {D : Type 0} (seen : D → Seen) (old new : WorldValue D) (at now : ℕ) (m : Member) (reply : GraphReply) (graph : GraphValue) → IsSound seen old →
-    IsElement old.sessions at m → m.left ≡ true → list_any (is_of m.session) old.requests ≡ false → graph_answers old.graph (Detach m.e) reply graph → (reply ≡ Gone → ⊥) →
+    IsElement old.sessions at m → m.left ≡ true → list_any (is_live_of m.session) old.requests ≡ false → graph_answers old.graph (Detach m.e) reply graph → (reply ≡ Gone → ⊥) →
     new ≡ record old { graph = graph } → Handles seen old (Step (ASession m.session) now) (Moved (detach_note reply)) new
 not_attached_handled {D = D} seen old new at now m reply graph sound el left none row other is =
     let leaving : session_at old.sessions m.session ≡ Leaving m.e = session_stands old.sessions at m sound.sessions el ∙ leaving_is m left in

@@ -21,7 +21,7 @@ use Rattle.qs_world.proofs.Handling.{renewed}
 use Rattle.qs_graph.proofs.Standing.{nobody as no_export}
 use Rattle.qs_model.specs.Worlds.{Hold}
 use Rattle.qs_bytes.specs.Geometry.{stripe_of}
-use Rattle.qs_model.specs.Laws.{opening}
+use Rattle.qs_model.specs.Laws.{opening_world}
 use Rattle.qs_request_state.specs.declared.shape.Shape.{Shape}
 use Rattle.qs_stripe.specs.Table.{StripeState, value_of as stripe_value, Opened}
 use Rattle.qs_tracker.specs.Table.{TrackerValue, fresh as fresh_tracker}
@@ -83,7 +83,7 @@ tells_same seen [] = refl
 tells_same seen (s ∷ ss) = ap (λ (b : Bool). (seen s.disk).tells && b) (tells_same seen ss)
 
 pub fresh_stands : {D : Type 0} (seen : D → Seen) (disks : List D) (file : List ℕ) (read_only : Bool) (w : WorldValue D) → IsFresh seen disks file read_only w →
-    Stands seen w (opening (opening_over (map seen disks) file read_only))
+    Stands seen w (opening_world (opening_over (map seen disks) file read_only))
 fresh_stands seen disks file read_only w f = record {
   tells = sym (ap (λ (ds : List _). tells_of (map seen ds)) f.stripes) ∙ tells_same seen w.stripes;
   next = sym f.next;
@@ -118,7 +118,7 @@ fresh_sound seen disks file read_only w f = record {
   requests = rw f.requests tt;
   numbers = rw f.requests tt;
   sessions = rw f.sessions tt;
-  model = (opening (opening_over (map seen disks) file read_only), fresh_stands seen disks file read_only w f);
+  model = (opening_world (opening_over (map seen disks) file read_only), fresh_stands seen disks file read_only w f);
 }
   where
     stripe : (j : ℕ) → IsAlike (map seen disks) j → IsStripe seen w j

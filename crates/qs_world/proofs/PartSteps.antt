@@ -38,7 +38,7 @@ use Rattle.qs_world.specs.Events.{HasCause, IsCaused, calls_stripe, is_of_stripe
 use Rattle.qs_world.proofs.SameDisks.{called_disks, later_disk, uncalled}
 use Rattle.qs_world.specs.Follows.{Follows, IsElement, waiting}
 use Rattle.qs_world.specs.Images.{Changed, stripe_at, all_tell, no_stripe}
-use Rattle.qs_world.specs.Notes.{tracker_note, tracker_kind, route_note, stripe_note, stripe_kind, place_of, short}
+use Rattle.qs_world.specs.Notes.{tracker_note, tracker_kind, route_note, stripe_note, stripe_kind, note_place, short}
 use Rattle.qs_world.specs.Sound.{IsSound, IsStripe}
 use Rattle.qs_world.specs.Values.{WorldValue, stripes_of}
 use Rattle.qs_world.proofs.Answering.{did_answers, req}
@@ -176,7 +176,7 @@ same_inside : (shape : Shape) (b d : ℕ) → Some b ≡ Some d → (b + 1) * sh
 same_inside shape b d is inside = subst (λ (x : ℕ). (x + 1) * shape.align ≤ shape.size) (one_number b d is) inside
 
 -- an operation is on its stripe
-pub stripe_is : (shape : Shape) (z : ℕ) (op : StripeOp) → FitsStripe shape z op → stripe_by (stripe_kind op) (Some (place_of z op)) ≡ Some z
+pub stripe_is : (shape : Shape) (z : ℕ) (op : StripeOp) → FitsStripe shape z op → stripe_by (stripe_kind op) (Some (note_place z op)) ≡ Some z
 stripe_is shape z (LoadOp b k buf) fits = ap Some (sym fits.0.stripe)
 stripe_is shape z (HoldOp b k end buf) fits = ap Some (sym fits.0.stripe)
 stripe_is shape z (StoreOp b k buf) fits = ap Some (sym fits.0.stripe)
@@ -254,7 +254,7 @@ pub stripe_steps : {D : Type 0} (seen : D → Seen) (old new : WorldValue D) (at
     stripe_at (stripes_of seen old) z ≡ stripe_value seen s → new.stripes ≡ slice_set old.stripes z t →
     stripe_answers (stripe_value seen s) op reply (stripe_value seen t) → geometry (stripe_value seen t) ≡ geometry (stripe_value seen s) →
     new.shape ≡ old.shape → new.next ≡ old.next → new.sessions ≡ old.sessions → new.graph ≡ old.graph → new.tracker ≡ old.tracker →
-    Follows (waiting l) (ByStripe reply) (stripe_note (stripe_kind op) (place_of z op) reply) at (slice_set old.requests at (waiting l)) outcome new.requests →
+    Follows (waiting l) (ByStripe reply) (stripe_note (stripe_kind op) (note_place z op) reply) at (slice_set old.requests at (waiting l)) outcome new.requests →
     StepsRequest seen old l.number outcome new
 stripe_steps seen old new at l z op reply s t outcome sound e wants fits below was is row same shape next sessions graph tracker follows =
     let c : StripeChanged seen old new z s t = record { inside = omega (arith, below, sound.count); was = was; is = is } in
@@ -271,7 +271,7 @@ stripe_steps seen old new at l z op reply s t outcome sound e wants fits below w
     let later = later_disk (stripe_at (stripes_of seen old) z) (stripe_value seen t) op reply here in
     let r = stripe_row old.shape.align (req l).client (req l).pads (req l).stage z op reply (all_tell (stripes_of seen old))
     (stripe_at (stripes_of seen old)) (stripe_at (stripes_of seen new)) wants step in
-    did_answers seen old new at l r.act (ByStripe reply) (stripe_note (stripe_kind op) (place_of z op) reply) outcome sound e
+    did_answers seen old new at l r.act (ByStripe reply) (stripe_note (stripe_kind op) (note_place z op) reply) outcome sound e
     (stripe_going old.shape.align (req l).client (req l).pads (req l).stage z op wants) r.is_row r.note
     (record {
       leaves = record {
@@ -293,10 +293,10 @@ stripe_steps seen old new at l z op reply s t outcome sound e wants fits below w
     (λ b on. (some_bytes old.shape.align sound.shape.align, block_inside old.shape z op b fits (r.on b on))) follows
     (record {
       disks = called_disks seen old new z (stripe_value seen t) (ap length is ∙ length-set old.stripes z t) change later;
-      fault = stripe_cause seen old new (waiting l) (ByStripe reply) (stripe_kind op) (place_of z op) z reply at (slice_set old.requests at (waiting l)) outcome
+      fault = stripe_cause seen old new (waiting l) (ByStripe reply) (stripe_kind op) (note_place z op) z reply at (slice_set old.requests at (waiting l)) outcome
           (stripe_is old.shape z op fits)
           (λ fault. subst (λ (v : StripeValue). Rose (stripe_at (stripes_of seen old) z).disk.faults v.disk.faults) (sym change.this)
           (rose_at (stripe_at (stripes_of seen old) z) (stripe_value seen t) op reply here fault)) follows;
-      rest = λ e. absurd (true≢false (sym (stripe_called seen (waiting l) (ByStripe reply) (stripe_kind op) (place_of z op) reply at (slice_set old.requests at (waiting l)) outcome
+      rest = λ e. absurd (true≢false (sym (stripe_called seen (waiting l) (ByStripe reply) (stripe_kind op) (note_place z op) reply at (slice_set old.requests at (waiting l)) outcome
           new.requests follows) ∙ e));
     })

@@ -15,7 +15,7 @@ use Rattle.qs_bytes.specs.Geometry.{stripe_of}
 use Rattle.qs_model.specs.Acts.{block_of, Act, Answers, Did}
 use Rattle.qs_model.specs.Guards.{MayDo}
 use Rattle.qs_outside.specs.declared.rigged_disk.Plans.{Plans}
-use Rattle.qs_model.specs.Steps.{moved, tracked, imaged, spent}
+use Rattle.qs_model.specs.Steps.{moved, tracked, imaged, plans_spent}
 use Rattle.qs_stripe.specs.Table.{StripeValue}
 use Rattle.qs_model.specs.Events.{row_outcome}
 use Rattle.qs_request.specs.declared.todo.Todo.TheVariants.{Tracker as OnTracker, Route as OnRoute, Stripe as OnStripe, Answer}
@@ -39,7 +39,7 @@ pub record AnswerRow (A : ℕ) (c : Client) (d : Bool) (p : Pads) (stage : Stage
   pub guard : (w : World) → MayDo A w c p act
   pub tracks : (t : TrackerValue) → tracked A t c act ≡ t
   pub images : (i : Image) → imaged A i c act ≡ i
-  pub plans : (q : ℕ → Plans) → spent A q c act ≡ q
+  pub plans : (q : ℕ → Plans) → plans_spent A q c act ≡ q
   pub as_planned : (s : ℕ → StripeValue) → IsRowAsPlanned s act
   pub off : block_of A c act ≡ None
 

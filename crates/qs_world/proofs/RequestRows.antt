@@ -18,7 +18,7 @@ use Rattle.qs_model.specs.Worlds.{Image, World}
 use Rattle.qs_bytes.specs.Geometry.{stripe_of}
 use Rattle.qs_model.specs.Acts.{block_of as act_block, Act, Waits, Enters, Routes, Shuts, Lists, Starts, Loads, LoadFails, Holds, HoldFails, Stores, StoreFails, Syncs, Cleans, SyncFails, Frees, Ends, Quiesced, Full, NotYet, HeldBy, Taken, Strange, NotHeld}
 use Rattle.qs_model.specs.Guards.{MayDo}
-use Rattle.qs_model.specs.Steps.{tracked, imaged, spent}
+use Rattle.qs_model.specs.Steps.{tracked, imaged, plans_spent}
 use Rattle.qs_outside.specs.Blocks.{Seen}
 use Rattle.qs_outside.specs.declared.rigged_disk.Plans.{Plans}
 use Rattle.qs_model.specs.Events.{note_of}
@@ -38,7 +38,7 @@ use Rattle.qs_request.specs.declared.todo.Todo.TheVariants.{Tracker as OnTracker
 use Rattle.qs_request.specs.Table.{WantsAt}
 use Rattle.qs_world.specs.Events.{IsRowAsPlanned}
 use Rattle.qs_world.specs.Images.{StandsImage, StandsPlans, Changed}
-use Rattle.qs_world.specs.Notes.{tracker_note, tracker_kind, route_note, stripe_note, stripe_kind, place_of}
+use Rattle.qs_world.specs.Notes.{tracker_note, tracker_kind, route_note, stripe_note, stripe_kind, note_place}
 use Rattle.qs_world.proofs.Coming.{graph_may}
 use Rattle.qs_world.proofs.StripeRows.{kept_stands, reads_stands, settled_stands, takes_stands, frees_stands, written_stands, told_past, can_read, can_hold, can_free, held_at, same_stands, holder_is, alone, not_held, can_store, may_keep, took, took_now, took_as_planned}
 use Rattle.qs_world.proofs.PlanRows.{plans_same, plans_load, plans_store, plans_sync}
@@ -51,7 +51,7 @@ pub record TrackerRow (A : ℕ) (c : Client) (p : Pads) (stage : Stage) (op : Tr
   pub guard : (w : World) → w.tracker ≡ old → MayDo A w c p act
   pub tracks : tracked A old c act ≡ new
   pub images : (i : Image) → imaged A i c act ≡ i
-  pub plans : (p : ℕ → Plans) → spent A p c act ≡ p
+  pub plans : (p : ℕ → Plans) → plans_spent A p c act ≡ p
   pub as_planned : (s : ℕ → StripeValue) → IsRowAsPlanned s act
   pub off : act_block A c act ≡ None
 
@@ -227,7 +227,7 @@ pub record GraphRow (A : ℕ) (c : Client) (p : Pads) (stage : Stage) (reply : G
   pub guard : (w : World) → w.graph ≡ v → MayDo A w c p act
   pub tracks : (t : TrackerValue) → tracked A t c act ≡ t
   pub images : (i : Image) → imaged A i c act ≡ i
-  pub plans : (p : ℕ → Plans) → spent A p c act ≡ p
+  pub plans : (p : ℕ → Plans) → plans_spent A p c act ≡ p
   pub as_planned : (s : ℕ → StripeValue) → IsRowAsPlanned s act
   pub off : act_block A c act ≡ None
 
@@ -294,11 +294,11 @@ block_of SyncOp = None
 pub record StripeRow (A : ℕ) (c : Client) (p : Pads) (stage : Stage) (z : ℕ) (op : StripeOp) (reply : StripeReply) (tells : Bool) (s t : ℕ → StripeValue) : Type 0 where
   pub act : Act stage
   pub is_row : IsRow (ByStripe reply) act
-  pub note : note_of A c act ≡ Some (stripe_note (stripe_kind op) (place_of z op) reply)
+  pub note : note_of A c act ≡ Some (stripe_note (stripe_kind op) (note_place z op) reply)
   pub guard : (w : World) → w.tells ≡ tells → StandsImage s w.tells w.image → StandsPlans s w.plans → MayDo A w c p act
   pub images : (i : Image) → StandsImage s tells i → StandsImage t tells (imaged A i c act)
   pub tracks : (r : TrackerValue) → tracked A r c act ≡ r
-  pub plans : (q : ℕ → Plans) → StandsPlans s q → StandsPlans t (spent A q c act)
+  pub plans : (q : ℕ → Plans) → StandsPlans s q → StandsPlans t (plans_spent A q c act)
   pub as_planned : IsRowAsPlanned s act
   pub on : (d : ℕ) → act_block A c act ≡ Some d → block_of op ≡ Some d
 

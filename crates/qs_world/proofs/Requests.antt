@@ -10,10 +10,10 @@ use Rattle.qs_outside.specs.Blocks.{Seen}
 use Rattle.qs_part.specs.declared.event.Event.TheVariants.{Ask as AskEvent}
 use Rattle.qs_part.specs.declared.event.Outcome.TheVariants.{Made}
 use Rattle.qs_model.proofs.Basics.{either}
-use Rattle.qs_model.specs.Requests.{Client, asked, brings_bytes, is_read, stores_bytes, takes_body, wants_buffers}
+use Rattle.qs_model.specs.Requests.{Client, new_request, brings_bytes, is_read, stores_bytes, takes_body, wants_buffers}
 use Rattle.qs_model.specs.Worlds.{Live as LiveAt}
 use Rattle.qs_model.specs.Acts.{Asked}
-use Rattle.qs_model.specs.Events.{Brings, HasNone}
+use Rattle.qs_model.specs.Events.{BringsBytes, HasNone}
 use Rattle.qs_request_state.specs.declared.shape.Blocks.{Blocks}
 use Rattle.qs_request.proofs.Made.{body_works, brings_takes, brought, given_length, unbrought}
 use Rattle.qs_request.specs.Value.{RequestValue, client_for, given_bytes, bytes_of, has_buffers}
@@ -62,11 +62,11 @@ fits (Some body) n = go (length body == n) refl
     go true is = λ x same. let e : body ≡ x = cc in ap length (sym e) ∙ grind (arith, is)
     go false is = λ x same. absurd (cc)
 
-brings : (session e : ℕ) (ask : Ask) (body : Option (List ℕ)) (blocks : Option Blocks) → Brings body (client_for session ask e (fitted body ask.length) blocks)
+brings : (session e : ℕ) (ask : Ask) (body : Option (List ℕ)) (blocks : Option Blocks) → BringsBytes body (client_for session ask e (fitted body ask.length) blocks)
 brings session e ask None blocks = lacks ask session e blocks
 brings session e ask (Some body) blocks = go (length body == ask.length) refl
   where
-    go : (b : Bool) → (length body == ask.length) ≡ b → Brings (Some body) (client_for session ask e (cond b (Some body) None) blocks)
+    go : (b : Bool) → (length body == ask.length) ≡ b → BringsBytes (Some body) (client_for session ask e (cond b (Some body) None) blocks)
     go true is = inl (grind (arith, is), λ writing. brought ask.kind body writing)
     go false is = inr (λ same. true≢false (sym (eq-eqb (length body) ask.length same) ∙ is), lacks ask session e blocks)
 
@@ -97,7 +97,7 @@ refused_body ask (Some body) blocks = go (length body == ask.length) refl
 
 -- the request as it is made
 abbrev pub made_request : {D : Type 0} → WorldValue D → Client → RequestValue
-made_request w c = record { request = asked c; shape = w.shape; waits = false; answered = false }
+made_request w c = record { request = new_request c; shape = w.shape; waits = false; answered = false }
 
 -- behind a box of its own
 abbrev pub made_live : {D : Type 0} → WorldValue D → Client → Live → Live

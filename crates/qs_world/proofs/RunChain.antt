@@ -31,13 +31,13 @@ use Rattle.qs_request.specs.RunSteps.{GoesOn as ReqGoesOn}
 use Rattle.qs_request.specs.Table.{followed}
 use Rattle.qs_request.specs.Value.{IsReady}
 use Rattle.qs_stripe.specs.declared.holds.Ends.{Ends}
-use Rattle.qs_stripe.specs.Holds.{LetsGo, end_at, ends_without, holds_of, left_of, no_ends}
+use Rattle.qs_stripe.specs.Holds.{LetsGo, held_at_end, ends_without, holds_of, hold_left, no_ends}
 use Rattle.qs_stripe.specs.Table.{StripeState, StripeValue, answers as stripe_answers, geometry, value_of as stripe_value}
 use Rattle.qs_world.specs.declared.live.Live.{Live}
 use Rattle.qs_world.specs.Cores.{StepsRequest}
 use Rattle.qs_world.specs.Follows.{Follows, IsElement, moved_to, next_of, waiting}
-use Rattle.qs_world.specs.Notes.{place_of, stripe_kind, stripe_note}
-use Rattle.qs_world.specs.Running.{GoesOn, IsStep, OneStep, Repeats, RepeatsRequest, RepeatsTo, RunsRequest, meant, stripe_meant}
+use Rattle.qs_world.specs.Notes.{note_place, stripe_kind, stripe_note}
+use Rattle.qs_world.specs.Running.{GoesOn, IsStepOutcome, OneStep, Repeats, RepeatsRequest, RepeatsTo, RunsRequest, meant, stripe_meant}
 use Rattle.qs_world.specs.Sound.{IsSound}
 use Rattle.qs_world.specs.Values.{WorldValue, request_at}
 use Rattle.qs_world.proofs.Answering.{idle_at, req, set_twice}
@@ -57,11 +57,11 @@ other_some c b n e = n (one e)
     one f = cc
 
 -- places that let a block go
-without_at : (ends : Ends) (b : ℕ) (side : Side) → end_at (ends_without ends b) side ≡ left_of (end_at ends side) b
+without_at : (ends : Ends) (b : ℕ) (side : Side) → held_at_end (ends_without ends b) side ≡ hold_left (held_at_end ends side) b
 without_at ends b Head = refl
 without_at ends b Tail = refl
 
-left_is : (k b : ℕ) (side : Side) (old new : ℕ → Side → Option ℕ) (held : Option ℕ) → LetsGo k b old new → old k side ≡ held → left_of held b ≡ new k side
+left_is : (k b : ℕ) (side : Side) (old new : ℕ → Side → Option ℕ) (held : Option ℕ) → LetsGo k b old new → old k side ≡ held → hold_left held b ≡ new k side
 left_is k b side old new None goes is = sym (goes.others k side (inr (λ e. never_some b (sym is ∙ e))) ∙ is)
 left_is k b side old new (Some c) goes is = elim (eqb_tells c b) [
   | inl same ↦ ap (λ t. if t then None else Some c) same.0 ∙ sym (goes.gone side (is ∙ ap Some same.1))
@@ -72,12 +72,12 @@ let_go_at : (places : List Ends) (k b : ℕ) (new : ℕ → Side → Option ℕ)
     holds_of (slice_set places k (ends_without (slice_index_or places k no_ends) b)) j side ≡ new j side
 let_go_at places k b new goes j side = elim (same_or j k) [
   | inr other ↦
-      ap (λ (e : Ends). end_at e side) (get_or-set_other places k j (ends_without (slice_index_or places k no_ends) b) no_ends other)
+      ap (λ (e : Ends). held_at_end e side) (get_or-set_other places k j (ends_without (slice_index_or places k no_ends) b) no_ends other)
       ∙ sym (goes.others j side (inl other))
   | inl same ↦ elim (cases_lt k (length places)) [
     | inl inside ↦
         ap (λ n. holds_of (slice_set places k (ends_without (slice_index_or places k no_ends) b)) n side) same
-        ∙ ap (λ (e : Ends). end_at e side) (get_or-set_same places k (ends_without (slice_index_or places k no_ends) b) no_ends inside)
+        ∙ ap (λ (e : Ends). held_at_end e side) (get_or-set_same places k (ends_without (slice_index_or places k no_ends) b) no_ends inside)
         ∙ without_at (slice_index_or places k no_ends) b side
         ∙ left_is k b side (holds_of places) new (holds_of places k side) goes refl
         ∙ sym (ap (λ n. new n side) same)
@@ -85,12 +85,12 @@ let_go_at places k b new goes j side = elim (same_or j k) [
         let none : slice_index_or places k no_ends ≡ no_ends = get_or-eq_default places no_ends past in
         let still = get_or-eq_default (slice_set places k (ends_without (slice_index_or places k no_ends) b)) no_ends {n = k} (omega (arith, past, length-set places k (ends_without (slice_index_or places k no_ends) b))) in
         ap (λ n. holds_of (slice_set places k (ends_without (slice_index_or places k no_ends) b)) n side) same
-        ∙ ap (λ (e : Ends). end_at e side) (still ∙ sym none)
-        ∙ sym (ap (λ n. new n side) same ∙ goes.others k side (inr (λ e. never_some b (sym (ap (λ (x : Ends). end_at x side) none ∙ nothing side) ∙ e))))
+        ∙ ap (λ (e : Ends). held_at_end e side) (still ∙ sym none)
+        ∙ sym (ap (λ n. new n side) same ∙ goes.others k side (inr (λ e. never_some b (sym (ap (λ (x : Ends). held_at_end x side) none ∙ nothing side) ∙ e))))
   ]
 ]
   where
-    nothing : (s : Side) → end_at no_ends s ≡ None
+    nothing : (s : Side) → held_at_end no_ends s ≡ None
     nothing Head = refl
     nothing Tail = refl
 
@@ -119,7 +119,7 @@ state_behind s (Store b k buf) (Fault None) note v row is = absurd row
 state_behind s _ _ note v row is = absurd is
 
 -- the note of an operation of a run is the core's
-one_note : (note : Note) (s : ℕ) (op : StripeOp) (reply : StripeReply) → IsNoted note op reply → note ≡ stripe_note (stripe_kind op) (place_of s op) reply
+one_note : (note : Note) (s : ℕ) (op : StripeOp) (reply : StripeReply) → IsNoted note op reply → note ≡ stripe_note (stripe_kind op) (note_place s op) reply
 one_note note s (Load b k buf) (Filled got) is = is
 one_note note s (Load b k buf) (Fault back) is = is
 one_note note s (Store b k buf) (Done back) is = is
@@ -144,7 +144,7 @@ step_does w at z l s t note q sound e here below does =
     let idle = idle_at w at l sound.requests e in
     let lead : next_of (waiting l) (ByStripe does.reply) ≡ q =
     ap (λ (sh : Shape). followed sh.align (req l) (ByStripe does.reply)) idle.shape_is ∙ sym does.follows in
-    let follows : Follows (waiting l) (ByStripe does.reply) (stripe_note (stripe_kind does.op) (place_of z does.op) does.reply) at (slice_set w.requests at (waiting l)) (Moved note)
+    let follows : Follows (waiting l) (ByStripe does.reply) (stripe_note (stripe_kind does.op) (note_place z does.op) does.reply) at (slice_set w.requests at (waiting l)) (Moved note)
     (slice_set w.requests at (moved_to l q)) = (
       one_note note z does.op does.reply does.is_told,
       subst (λ (r : Req). IsReady r.stage → ⊥) (sym lead) does.on,
@@ -287,7 +287,7 @@ run_repeats {D} seen old new at z n l l' s t note sound e here below ran same is
         get_or_default (map (stripe_meant seen) ss) i d (stripe_meant seen x) (omega (arith, el.inside, length-map ss (stripe_meant seen)))
         ∙ get_or-map (stripe_meant seen) ss i x ∙ ap (stripe_meant seen) (el.is x)
 
-came : (out : Outcome) → IsTold out → IsStep out
+came : (out : Outcome) → IsTold out → IsStepOutcome out
 came NotNext is = absurd is
 came Memory is = absurd is
 came _ is = tt
@@ -320,7 +320,7 @@ step_repeats seen old new r out is = record {
   sound = is.sound;
 }
 
-repeats_to : {D : Type 0} (seen : D → Seen) (old : WorldValue D) (event : Event) (out : Outcome) (new : WorldValue D) → IsStep out → Repeats seen old event out new →
+repeats_to : {D : Type 0} (seen : D → Seen) (old : WorldValue D) (event : Event) (out : Outcome) (new : WorldValue D) → IsStepOutcome out → Repeats seen old event out new →
     RepeatsTo seen old event out new
 repeats_to seen old event NotNext new comes repeats = absurd comes
 repeats_to seen old event Memory new comes repeats = absurd comes
@@ -332,7 +332,7 @@ pub request_runs : {D : Type 0} (seen : D → Seen) (old new : WorldValue D) (nu
 request_runs seen old new number now l out stands is step = record {
   repeats = repeats_to seen old (Step (ARequest number) now) out new step.comes
       (subst (λ n. Repeats seen old (Step (ARequest n) now) out new) is (step.repeats now));
-  next = (λ f. absurd (subst IsStep f step.comes), λ h. absurd (stands h));
+  next = (λ f. absurd (subst IsStepOutcome f step.comes), λ h. absurd (stands h));
   sound = step.sound;
 }
 

@@ -12,7 +12,7 @@ use Rattle.qs_model.specs.Requests.{Client, Pads, merged_at}
 use Rattle.qs_model.specs.Worlds.{Hold, Image, World}
 use Rattle.qs_bytes.specs.Geometry.{stripe_of}
 use Rattle.qs_model.specs.Guards.{CanHold, CanRead, CanStore, MayKeep}
-use Rattle.qs_model.specs.Steps.{settled, written}
+use Rattle.qs_model.specs.Steps.{stripe_settled, block_written}
 use Rattle.qs_model.proofs.Basics.{put_here, put_other, put_tells, same_or}
 use Rattle.qs_stripe.specs.Holds.{IsHeld, IsFree, IsFreeFor, Takes, LetsGo}
 use Rattle.qs_stripe.specs.Table.{StripeValue, Reads, Writes, Syncs, IsContent, IsSettled, MayBeStored}
@@ -100,7 +100,7 @@ reads_stands z v s t tells i change stands told reads same clean =
 -- the stripe was synced: a crash leaves what its blocks hold now
 pub settled_stands : (z : ℕ) (v : StripeValue) (s t : ℕ → StripeValue) (tells : Bool) (i : Image) → Changed z v s t → StandsImage s tells i →
     (IsTrue tells → IsTrue (s z).disk.tells) → Syncs (s z).disk v.disk → IsSettled (s z).disk v.disk → v.hold ≡ (s z).hold → v.clean ≡ true →
-    StandsImage t tells (settled i z)
+    StandsImage t tells (stripe_settled i z)
 settled_stands z v s t tells i change stands told syncs past same clean = record {
   now = λ tell b. changed (λ x. i.now b ≡ x.disk.now b) z v s t change (stripe_of b)
       (λ e. stands.now tell b ∙ ap (λ (j : ℕ). (s j).disk.now b) e ∙ sym (syncs.now (told tell) b)) (λ n. stands.now tell b);
@@ -312,7 +312,7 @@ pub written_stands : (z k b : ℕ) (bytes now : List ℕ) (v : StripeValue) (s t
     Changed z v s t → StandsImage s tells i → (IsTrue tells → IsTrue (s z).disk.tells) → Writes b bytes (s z).disk v.disk →
     (IsTrue tells → (v.disk.now b ≡ now) × ((c : ℕ) → c ≢ b → v.disk.now c ≡ (s z).disk.now c)) →
     LetsGo k b (s z).hold v.hold → IsFreeFor (s z).hold k b → v.clean ≡ false →
-    StandsImage t tells (written i b now (told_past tells v b))
+    StandsImage t tells (block_written i b now (told_past tells v b))
 written_stands z k b bytes now v s t tells i at change stands told writes nows goes free dirty = record {
   now = λ tell c. here_or b c (put i.now b now) (λ x. (t (stripe_of x)).disk.now x)
       (put_here i.now b now ∙ sym ((nows tell).0) ∙ sym (ap (λ (x : StripeValue). x.disk.now b) (ap t at ∙ change.this)))

@@ -17,7 +17,7 @@ use Rattle.qs_model.specs.Requests.{Req, Stage}
 use Rattle.qs_model.specs.Worlds.{World, Away, Live, Leaving}
 use Rattle.qs_bytes.specs.Geometry.{stripe_of}
 use Rattle.qs_model.specs.Acts.{Act, StoreFails, Element, Did, block_of}
-use Rattle.qs_model.specs.Guards.{May}
+use Rattle.qs_model.specs.Guards.{CanCome}
 use Rattle.qs_model.specs.Steps.{happens}
 use Rattle.qs_model.specs.Events.{IsEvent, outcome_of}
 use Rattle.qs_request_state.specs.declared.shape.Shape.{Shape}
@@ -30,7 +30,7 @@ use Rattle.qs_world.specs.Stands.{Stands}
 -- From each state of the model that the core stood for, the element may come, and the core stands for
 -- where it leads.
 abbrev pub Does : {D : Type 0} → (D → Seen) → WorldValue D → Element → WorldValue D → Type 0
-Does seen old e new = (m : World) → Stands seen old m → May old.shape.align m e × Stands seen new (happens old.shape.align m e)
+Does seen old e new = (m : World) → Stands seen old m → CanCome old.shape.align m e × Stands seen new (happens old.shape.align m e)
 
 -- a store that was planned to fail, on a disk that isn't full, left its block as the plan says
 abbrev pub IsRowAsPlanned : (ℕ → StripeValue) → {stage : Stage} → Act stage → Type 0

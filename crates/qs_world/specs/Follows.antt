@@ -18,8 +18,8 @@ pub record IsElement {X : Type 0} (xs : List X) (i : ℕ) (x : X) : Type 0 where
   pub is : (d : X) → get_or xs i d ≡ x
 
 -- a request of this session
-abbrev pub is_of : ℕ → Live → Bool
-is_of session l = l.request.value.request.client.session == session
+abbrev pub is_live_of : ℕ → Live → Bool
+is_live_of session l = l.request.value.request.client.session == session
 
 -- it may be asked for its next operation, and may be abandoned
 pub record IsFree (l : Live) : Type 0 where
@@ -29,7 +29,7 @@ pub record IsFree (l : Live) : Type 0 where
 -- abandoned where it is of this session
 abbrev pub abandoned_of : ℕ → Live → Live
 abandoned_of session l =
-    if is_of session l then record l { request = record l.request { value = record l.request.value { request = abandon l.request.value.request } } } else l
+    if is_live_of session l then record l { request = record l.request { value = record l.request.value { request = abandon l.request.value.request } } } else l
 
 -- it waits for this reply, among others
 pub record Awaits (l : Live) (reply : PartReply) : Type 0 where

@@ -33,12 +33,12 @@ stripe_kind (FreeOp b k) = Free
 stripe_kind SyncOp = Sync
 
 -- the block of an operation on stripe s, or the stripe where it is on no block
-abbrev pub place_of : ℕ → StripeOp → ℕ
-place_of s (LoadOp b k buf) = b
-place_of s (HoldOp b k end buf) = b
-place_of s (StoreOp b k buf) = b
-place_of s (FreeOp b k) = b
-place_of s SyncOp = s
+abbrev pub note_place : ℕ → StripeOp → ℕ
+note_place s (LoadOp b k buf) = b
+note_place s (HoldOp b k end buf) = b
+note_place s (StoreOp b k buf) = b
+note_place s (FreeOp b k) = b
+note_place s SyncOp = s
 
 -- a stripe's answer without its buffer
 abbrev pub short : StripeReply → StripeNote

@@ -14,7 +14,7 @@ use Rattle.qs_graph.specs.Exports.{export_at}
 use Rattle.qs_graph.specs.Table.{fresh as fresh_graph, after}
 use Rattle.qs_model.specs.Acts.{Exported, Planned as PlannedStep}
 use Rattle.qs_world.specs.Events.{Does}
-use Rattle.qs_model.specs.Laws.{opening}
+use Rattle.qs_model.specs.Laws.{opening_world}
 use Rattle.qs_model.specs.Worlds.{Opening}
 use Rattle.qs_stripe.specs.Table.{value_of as stripe_value, Opened}
 use Rattle.qs_tracker.specs.Table.{fresh as fresh_tracker}
@@ -60,7 +60,7 @@ pub record IsOpened {D : Type 0} (seen : D → Seen) (disks : List D) (file : Li
   pub tracker : w.tracker ≡ fresh_tracker 0
   pub stripes : map (λ s. s.disk) w.stripes ≡ disks
   pub free : AllByRecursion (λ s. Opened (stripe_value seen s)) w.stripes
-  pub stands : Stands seen w (opening (opening_over (map seen disks) file read_only))
+  pub stands : Stands seen w (opening_world (opening_over (map seen disks) file read_only))
 
 -- the disks come back: they break this rule first, or memory was refused
 abbrev pub ComeBack : {D : Type 0} → (D → Seen) → List D → List D → Option OpenBad → Type 0

@@ -46,10 +46,10 @@ abbrev pub Repeats : {D : Type 0} → (D → Seen) → WorldValue D → Event �
 Repeats seen old event outcome new = (n : ℕ) × EndsAt (λ i. GoesOn event) (λ i. OneStep event outcome) n (meant seen old) (meant seen new)
 
 -- the outcome of an event that came
-abbrev pub IsStep : Outcome → Type 0
-IsStep NotNext = ⊥
-IsStep Memory = ⊥
-IsStep _ = Unit {0}
+abbrev pub IsStepOutcome : Outcome → Type 0
+IsStepOutcome NotNext = ⊥
+IsStepOutcome Memory = ⊥
+IsStepOutcome _ = Unit {0}
 
 -- it comes some times, or it can't come now, and all is as before
 abbrev pub RepeatsTo : {D : Type 0} → (D → Seen) → WorldValue D → Event → Outcome → WorldValue D → Type 0
@@ -60,7 +60,7 @@ RepeatsTo seen old event outcome new = Repeats seen old event outcome new
 -- steps of request r, by any reading of the clock
 pub record RepeatsRequest {D : Type 0} (seen : D → Seen) (old : WorldValue D) (r : ℕ) (outcome : Outcome) (new : WorldValue D) : Type 0 where
   pub repeats : (now : ℕ) → Repeats seen old (Step (ARequest r) now) outcome new
-  pub comes : IsStep outcome
+  pub comes : IsStepOutcome outcome
   pub sound : IsSound seen new
 
 -- what a request does where its run of whole blocks is done as one call

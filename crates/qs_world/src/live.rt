@@ -4,7 +4,7 @@ ghost use Rattle.qs_world.specs.declared.live.Live.{Live as ALive};
 ghost use Rattle.qs_model.specs.Requests.{Ready};
 ghost use Rattle.qs_request.specs.Value.{IsReady};
 ghost use Rattle.qs_request.specs.Table.{FitsPart, Wants};
-ghost use Rattle.qs_world.specs.Follows.{Awaits, Follows, Offers, IsElement, IsFree, abandoned_of, is_of, moved_to, next_of};
+ghost use Rattle.qs_world.specs.Follows.{Awaits, Follows, Offers, IsElement, IsFree, abandoned_of, is_live_of, moved_to, next_of};
 
 use crate::spare::Spare;
 use qs_bytes::Verdict;
@@ -54,7 +54,7 @@ pub fn find_member(sessions: &[Member], session: u32) -> Option<usize>
 
 /// Whether a request of this session hasn't been answered.
 pub fn has_request(requests: &[Live], session: u32) -> bool
-    ensures { result ≡ list_any (is_of session) requests.now }
+    ensures { result ≡ list_any (is_live_of session) requests.now }
 {
     requests
         .iter()

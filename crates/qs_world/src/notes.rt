@@ -1,5 +1,5 @@
 ghost use Rattle.std.specs.Prelude.{◌≡◌};
-ghost use Rattle.qs_world.specs.Notes.{detach_note, place_of, route_note, short, stripe_kind, stripe_note, tracker_kind, tracker_note};
+ghost use Rattle.qs_world.specs.Notes.{detach_note, note_place, route_note, short, stripe_kind, stripe_note, tracker_kind, tracker_note};
 
 use qs_part::event::{GraphNote, Note, NoteReply, OpKind, StripeNote};
 use qs_part::graph::GraphReply;
@@ -47,7 +47,7 @@ pub fn route_note(reply: &GraphReply) -> Note
 /// The kind of an operation on stripe `s`, and its block, or the stripe where it is on no block.
 pub fn stripe_kind(s: u8, op: &StripeOp) -> (OpKind, u64)
     ensures kind { result.0 ≡ stripe_kind op.now }
-    ensures place { result.1 ≡ place_of s op.now }
+    ensures place { result.1 ≡ note_place s op.now }
 {
     match op {
         StripeOp::Load { b, .. } => (OpKind::Load, *b),

@@ -1,5 +1,5 @@
 ghost use Rattle.std.specs.Prelude.{◌≡◌};
-ghost use Rattle.qs_graph.specs.Readings.{info_of, name_of};
+ghost use Rattle.qs_graph.specs.Readings.{info_of, export_name_at};
 
 use super::World;
 use qs_bytes::Name;
@@ -18,7 +18,7 @@ impl<D: Disk + Drop> World<D> {
     /// The name of the standing export of this number in the order of making, from 0 on. `None` exactly
     /// where no more stand.
     pub fn export_name(&self, number: usize) -> Option<Name>
-        ensures { result ≡ name_of self.now.graph number }
+        ensures { result ≡ export_name_at self.now.graph number }
     {
         self.core.graph.export_name(number)
     }

@@ -1,6 +1,6 @@
-use Rattle.qs_model.specs.Laws.{opening}
+use Rattle.qs_model.specs.Laws.{opening_world}
 use Rattle.qs_model.proofs.Evented.{evented as law}
 use Rattle.qs_model.proofs.laws.evented.Goals as goal
 
 pub returns : goal.returns
-returns c = λ A o es run. law A (opening o) es run
+returns c = λ A o es run. law A (opening_world o) es run

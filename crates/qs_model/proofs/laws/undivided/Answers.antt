@@ -1,7 +1,7 @@
-use Rattle.qs_model.specs.Laws.{opening}
+use Rattle.qs_model.specs.Laws.{opening_world}
 use Rattle.qs_model.proofs.Kept.{new_ok}
 use Rattle.qs_model.proofs.Undivided.{undivided as law}
 use Rattle.qs_model.proofs.laws.undivided.Goals as goal
 
 pub returns : goal.returns
-returns c = λ A o es pos run. law A (opening o) es pos (new_ok A 0 o) run
+returns c = λ A o es pos run. law A (opening_world o) es pos (new_ok A 0 o) run

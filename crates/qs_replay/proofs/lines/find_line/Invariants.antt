@@ -1,6 +1,6 @@
 -- What was taken so far is a front of the line, and nothing waits.
 use Rattle.std.proofs.Common.{◌-◌, length}
-use Rattle.qs_script.specs.Cuts.{longest}
+use Rattle.qs_script.specs.Cuts.{longest_line}
 use Rattle.qs_stream.specs.Flows.{flow}
 use Rattle.qs_replay.proofs.Coming.{Sought}
 use Rattle.qs_replay.proofs.lines.find_line.Given as goal
@@ -12,4 +12,4 @@ invariant-pieces g l =
     (flow g.I.Source.left g.I.Source.read_faults g.O.Sink.sent g.O.Sink.write_faults l.input l.output l.stream)
 
 abbrev pub decreases-pieces : goal.decreases-pieces
-decreases-pieces g l = longest - length l.cutter
+decreases-pieces g l = longest_line - length l.cutter

@@ -1,7 +1,7 @@
 -- What is told is the command's.
 use Rattle.std.proofs.Common.{◌≡◌, IfSome, arith, sym, ◌∙◌, subst, refl}
 use Rattle.std.specs.Prelude.{Option, Some, None}
-use Rattle.qs_replay_words.specs.Words.{Tells, whole}
+use Rattle.qs_replay_words.specs.Words.{TellsWords, words_of_reading}
 use Rattle.qs_replay_words.specs.declared.words.ReplayWords.{ReplayWords as Told}
 use Rattle.qs_replay_words.proofs.FromLeft.{goes_first, goes_more, goes_none, none_told, some_told}
 use Rattle.qs_replay_words.proofs.words.replay_words.Goals as goal

@@ -3,7 +3,7 @@ use Rattle.std.proofs.Common.{arith, true, false, not, refl, subst}
 use Rattle.std.specs.Prelude.{codes}
 use Rattle.qs_stream.specs.Buffers.{Buffers}
 use Rattle.qs_stream.specs.Flows.{side}
-use Rattle.qs_stdio.specs.Runs.{Sitting, first, last_scene, plain_mode}
+use Rattle.qs_stdio.specs.Runs.{Sitting, opening_scene, last_scene, plain_mode}
 use Rattle.qs_stdio.proofs.Running.{sits_of}
 use Rattle.qs_stdio.proofs.run.serve_stream.Goals as goal
 
@@ -24,7 +24,7 @@ returns g c = λ disks read_only begins.
     let input' = side g.I.Source.left g.I.Source.read_faults c.serve.new.input in
     let output' = side g.O.Sink.sent g.O.Sink.write_faults c.serve.new.output in
     sits_of seen disks read_only true c.args.budget input output c.args.world.now c.attach.new.world (codes "disk") c.in-Some.field-0 plain_mode
-    (first input output c.attach.new.world).flow c.serve.result input' output' c.serve.new.self.stream c.serve.new.world
+    (opening_scene input output c.attach.new.world).flow c.serve.result input' output' c.serve.new.self.stream c.serve.new.world
     begins attached (refl, refl, refl)
     (subst (λ (b : Buffers). Sitting seen 0 (not read_only) false c.args.budget (last_scene input output b c.attach.new.world) (last_scene input' output' c.serve.new.self.stream c.serve.new.world) c.serve.result)
     c.in-Ok.ensures.1 (c.serve.ensures (not read_only) attached.rests))

@@ -1,7 +1,7 @@
 -- The request that was answered is taken out.
 use Rattle.std.proofs.Common.{Some, sym, ap, ◌∙◌}
 use Rattle.qs_part.specs.declared.event.Outcome.TheVariants.{Answered}
-use Rattle.qs_replay_lines.specs.Tables.{Names, settled}
+use Rattle.qs_replay_lines.specs.Tables.{Names, names_settled}
 use Rattle.qs_replay_lines.proofs.Lives.{live_remove, used_less}
 use Rattle.qs_replay_lines.proofs.table.Table.settle.Goals as goal
 
@@ -15,5 +15,5 @@ returns-in-Some-Answered c =
       used = c.self.inside.used;
       live = live_remove c.self.inside.live c.remove.new.self c.in-Some-Answered.key c.remove.ensures.updates i;
     })
-    ∙ ap (λ (t : Names). settled t (Some c.in-Some-Answered.key) (Answered c.in-Some-Answered.field-0-1 c.in-Some-Answered.field-1-1)) c.self.view_is
-    ∙ (λ i. settled c.args.self.now (sym c.in-Some-Answered.is-0 i) (sym c.in-Some-Answered.is-1 i))
+    ∙ ap (λ (t : Names). names_settled t (Some c.in-Some-Answered.key) (Answered c.in-Some-Answered.field-0-1 c.in-Some-Answered.field-1-1)) c.self.view_is
+    ∙ (λ i. names_settled c.args.self.now (sym c.in-Some-Answered.is-0 i) (sym c.in-Some-Answered.is-1 i))

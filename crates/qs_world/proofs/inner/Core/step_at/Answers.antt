@@ -11,7 +11,7 @@ use Rattle.qs_stripe.specs.Table.{value_of as stripe_value, geometry, Fits as Fi
 use Rattle.qs_stripe.specs.declared.geometry.Geometry.{Geometry}
 use Rattle.qs_world.specs.declared.live.Live.{Live}
 use Rattle.qs_world.specs.Cores.{StepsRequest, value_of}
-use Rattle.qs_world.specs.Notes.{tracker_note, tracker_kind, stripe_note, stripe_kind, place_of}
+use Rattle.qs_world.specs.Notes.{tracker_note, tracker_kind, stripe_note, stripe_kind, note_place}
 use Rattle.qs_world.proofs.Answering.{idle_at}
 use Rattle.qs_world.proofs.Indexing.{awaits_reply, follow_tells, one_element, stripe_here}
 use Rattle.qs_world.proofs.Keyed.{element, remove_set}
@@ -134,11 +134,11 @@ returns-in-Stripe g c = λ l e.
     c.args.at x c.from.result c.in-Stripe.op c.one-reply.result c.index_mut-in-Stripe.result.now c.one-reply.new.self c.follow-in-Stripe.result
     c.requires.sound at wants fits below here refl c.one-reply.ensures.row c.one-reply.ensures.same refl refl refl refl refl
     (follow_tells c.args.self.now.requests.items c.args.at x c.next.new.self (ByStripe c.one-reply.result)
-    (stripe_note (stripe_kind c.in-Stripe.op) (place_of c.from.result c.in-Stripe.op) c.one-reply.result)
+    (stripe_note (stripe_kind c.in-Stripe.op) (note_place c.from.result c.in-Stripe.op) c.one-reply.result)
     c.stripe_note-note.result c.follow-in-Stripe.result c.follow-in-Stripe.new.requests.items c.requires.inside c.in-Stripe.ensures.gives
     (c.stripe_note-note.ensures ∙ ap (λ (k : OpKind). stripe_note k c.stripe_kind-kind.result.1 c.one-reply.result) c.stripe_kind-kind.ensures.kind
     ∙ ap (λ (b : ℕ). stripe_note (stripe_kind c.in-Stripe.op) b c.one-reply.result)
-    (c.stripe_kind-kind.ensures.place ∙ ap (λ (z : ℕ). place_of z c.in-Stripe.op) (sym c.from.ensures))) c.follow-in-Stripe.ensures))
+    (c.stripe_kind-kind.ensures.place ∙ ap (λ (z : ℕ). note_place z c.in-Stripe.op) (sym c.from.ensures))) c.follow-in-Stripe.ensures))
 
 pub returns-in-Answer : goal.returns-in-Answer
 returns-in-Answer g c = λ l e.

@@ -13,7 +13,7 @@ use Rattle.qs_part.specs.declared.event.Actor.TheVariants.{Session as ASession}
 use Rattle.qs_world.specs.declared.live.Live.{Live}
 use Rattle.qs_world.specs.declared.live.Member.{Member}
 use Rattle.qs_world.specs.Cores.{Handles, value_of}
-use Rattle.qs_world.specs.Follows.{is_of}
+use Rattle.qs_world.specs.Follows.{is_live_of}
 use Rattle.qs_world.proofs.Handling.{not_next, detached_handled, not_attached_handled, member_stands, nowhere_leaving, live_not_leaving, any_has}
 use Rattle.qs_world.proofs.inner.Core.step_session.Goals as goal
 
@@ -45,7 +45,7 @@ pub returns-then-has_request : goal.returns-then-has_request
 returns-then-has_request g c =
     not_next g.D.Disk.seen (value_of c.args.self.now) _ c.requires.sound
     (inr (any_has c.args.session c.args.self.now.requests.items c.requires.sound.numbers
-    (ap (λ (xs : List Live). list_any (is_of c.args.session) xs) (sym c.deref-2.ensures.value) ∙ sym c.has_request.ensures ∙ c.if-has_request.true)))
+    (ap (λ (xs : List Live). list_any (is_live_of c.args.session) xs) (sym c.deref-2.ensures.value) ∙ sym c.has_request.ensures ∙ c.if-has_request.true)))
 
 pub returns-in-Detached : goal.returns-in-Detached
 returns-in-Detached g c =
@@ -53,9 +53,9 @@ returns-in-Detached g c =
     (ap (λ (xs : List Member). position (λ m. m.session == c.args.session) xs) (sym c.deref.ensures.value) ∙ sym c.find_member.ensures ∙ c.in-Some.is) in
     let same : c.index-member.result.now ≡ at.0 = c.index-member.ensures ∙ at.1.0.is c.index-member.result.now in
     let left : at.0.left ≡ true = sym (ap (λ (m : Member). m.left) same) ∙ not_false c.index-member.result.now.left c.if-not-member.false in
-    let none : list_any (is_of at.0.session) c.args.self.now.requests.items ≡ false =
-    ap (λ (s : _). list_any (is_of s) c.args.self.now.requests.items) at.1.1
-    ∙ ap (λ (xs : List Live). list_any (is_of c.args.session) xs) (sym c.deref-2.ensures.value) ∙ sym c.has_request.ensures ∙ c.if-has_request.false in
+    let none : list_any (is_live_of at.0.session) c.args.self.now.requests.items ≡ false =
+    ap (λ (s : _). list_any (is_live_of s) c.args.self.now.requests.items) at.1.1
+    ∙ ap (λ (xs : List Live). list_any (is_live_of c.args.session) xs) (sym c.deref-2.ensures.value) ∙ sym c.has_request.ensures ∙ c.if-has_request.false in
     let row : graph_answers c.args.self.now.graph (Detach at.0.e) Gone c.step-reply.new.self =
     subst (λ (r : GraphReply). graph_answers c.args.self.now.graph (Detach at.0.e) r c.step-reply.new.self) c.in-Detached.is
     (subst (λ (m : Member). graph_answers c.args.self.now.graph (Detach m.e) c.step-reply.result c.step-reply.new.self) same c.step-reply.ensures.legal) in
@@ -74,9 +74,9 @@ returns-in_default-reply g c =
     (ap (λ (xs : List Member). position (λ m. m.session == c.args.session) xs) (sym c.deref.ensures.value) ∙ sym c.find_member.ensures ∙ c.in-Some.is) in
     let same : c.index-member.result.now ≡ at.0 = c.index-member.ensures ∙ at.1.0.is c.index-member.result.now in
     let left : at.0.left ≡ true = sym (ap (λ (m : Member). m.left) same) ∙ not_false c.index-member.result.now.left c.if-not-member.false in
-    let none : list_any (is_of at.0.session) c.args.self.now.requests.items ≡ false =
-    ap (λ (s : _). list_any (is_of s) c.args.self.now.requests.items) at.1.1
-    ∙ ap (λ (xs : List Live). list_any (is_of c.args.session) xs) (sym c.deref-2.ensures.value) ∙ sym c.has_request.ensures ∙ c.if-has_request.false in
+    let none : list_any (is_live_of at.0.session) c.args.self.now.requests.items ≡ false =
+    ap (λ (s : _). list_any (is_live_of s) c.args.self.now.requests.items) at.1.1
+    ∙ ap (λ (xs : List Live). list_any (is_live_of c.args.session) xs) (sym c.deref-2.ensures.value) ∙ sym c.has_request.ensures ∙ c.if-has_request.false in
     let row : graph_answers c.args.self.now.graph (Detach at.0.e) c.step-reply.result c.step-reply.new.self =
     subst (λ (m : Member). graph_answers c.args.self.now.graph (Detach m.e) c.step-reply.result c.step-reply.new.self) same c.step-reply.ensures.legal in
     subst (λ (n : Note). Handles g.D.Disk.seen (value_of c.args.self.now) (Step (ASession c.args.session) c.args.now) (Moved n)
