@@ -1,4 +1,5 @@
--- A request that is alone: it is asked where no request is live, and only its own steps follow. What its answer then says of the bytes.
+-- A request that is alone: it is asked where no request is live, and only its own steps follow. What its answer then
+-- says of the bytes.
 use Rattle.std.specs.Prelude.{◌≡◌, ℕ, ◌+◌, ◌<◌, ◌⊎◌, Bool, true, false, ◌&&◌, nat_lt, if◌then◌else◌, List, ◌∷◌, ◌++◌, length, Option, Some, None, IsTrue}
 use Rattle.std.specs.List.{AllByRecursion}
 use Rattle.qs_bytes.specs.Geometry.{stripe_of}
@@ -36,12 +37,14 @@ IsWaitStep (Did s q act) = IsWaitRow act
 IsWaitStep _ = ⊥
 
 -- Request r was made for client c where no request was live, and only its own steps follow.
-pub record IsAlone (A : ℕ) (o : Opening) (before : List Element) (r : ℕ) (c : Client) (steps : List Element) : Type 0 where
+pub record IsAlone (A : ℕ) (o : Opening) (before : List Element) (r : ℕ) (c : Client)
+    (steps : List Element) : Type 0 where
   pub run : Runs A (opening_world o) (before ++ Asked r c ∷ steps)
   pub idle : IsIdle (world_after A (opening_world o) before)
   pub own : AreOf r steps
 
--- what the graph says of the way of the export at place e: ESHUTDOWN where none stands there (this server's table of replies)
+-- what the graph says of the way of the export at place e: ESHUTDOWN where none stands there (this server's table of
+-- replies)
 abbrev pub way_by : ℕ → Option Export → Way
 way_by size None = Shut
 way_by size (Some x) = Given (route_of size x)
@@ -57,8 +60,8 @@ routed_in g c = record c { route = route_by (way_in g c.export) }
 abbrev pub written_to : ℕ → Image → Client → ℕ → ℕ → ℕ
 written_to A old c n x = if writes c && covers c x && nat_lt x n then body_at c x else byte_at A old x
 
--- What the answer says of the bytes: a READ that is Got has the bytes that it covers, a write that is Fine wrote all of its bytes, one
--- that failed a front of them; nothing else changes a byte (NBD proto.md, "Request types").
+-- What the answer says of the bytes: a READ that is Got has the bytes that it covers, a write that is Fine wrote all
+-- of its bytes, one that failed a front of them; nothing else changes a byte (NBD proto.md, "Request types").
 abbrev pub AnswerChanges : ℕ → Image → Client → Verdict → Image → Type 0
 AnswerChanges A old c (Got bytes) new =
     (length bytes ≡ c.ask.length) × ((x : ℕ) → covers c x ≡ true → reply_at c bytes x ≡ byte_at A old x)
@@ -107,10 +110,10 @@ abbrev pub IsOff : Element → Type 0
 IsOff (Did r q act) = IsOffRow act
 IsOff _ = ⊥
 
--- The answer v of a request alone, between the states w and w': a line of the table of replies, over the way that the graph
--- gives. A READ that is Got has as many bytes as it asked for. An answer that only a request without work gets comes without a
--- step on a stripe, and leaves the image wholly as it was; so does a request that neither stores nor syncs. Then no request is
--- live; sessions, exports and clients are as they were.
+-- The answer v of a request alone, between the states w and w': a line of the table of replies, over the way that the
+-- graph gives. A READ that is Got has as many bytes as it asked for. An answer that only a request without work gets
+-- comes without a step on a stripe, and leaves the image wholly as it was; so does a request that neither stores nor
+-- syncs. Then no request is live; sessions, exports and clients are as they were.
 pub record IsServed (A : ℕ) (w : World) (c : Client) (steps : List Element) (v : Verdict) (w' : World) : Type 0 where
   pub fault : Bool
   pub got : List ℕ

@@ -11,8 +11,8 @@ abbrev pub units_of : List Admission → ℕ
 units_of [] = 0
 units_of (a ∷ xs) = a.units + units_of xs
 
--- what is owed at reading t: the greatest of 0 and, over each suffix of the admissions, of what the suffix admitted less
--- what leaked since it began
+-- what is owed at reading t: the greatest of 0 and, over each suffix of the admissions, of what the suffix admitted
+-- less what leaked since it began
 abbrev pub owed : ℕ → List Admission → ℕ → ℕ
 owed rate [] t = 0
 owed rate (a ∷ xs) t = max (units_of (a ∷ xs) - rate * (t - a.reading)) (owed rate xs t)

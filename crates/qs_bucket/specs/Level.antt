@@ -5,7 +5,8 @@ use Rattle.qs_bucket.specs.declared.bucket.Ask.{Ask}
 use Rattle.qs_bucket.specs.declared.bucket.Ask.TheVariants.{Go, Wait}
 use Rattle.qs_bucket.specs.Admissions.{Admission, owed, UpTo}
 
--- a level: what leaks in a nanosecond, above what it holds back, the nano-units at the reading of the last admission, that reading
+-- a level: what leaks in a nanosecond, above what it holds back, the nano-units at the reading of the last admission,
+-- that reading
 pub record LevelValue : Type 0 where
   pub rate : ℕ
   pub bucket : ℕ
@@ -36,7 +37,12 @@ wait_at b now = if b.rate == 0 then 0 else div_ceil (level_at b (effective b now
 -- the level with one admission more; where there is no limit nothing is counted
 abbrev pub level_added : LevelValue → ℕ → ℕ → LevelValue
 level_added b now units =
-    if b.rate == 0 then b else record { rate = b.rate; bucket = b.bucket; level = level_at b (effective b now) + units; last = effective b now }
+    if b.rate == 0 then b else record {
+      rate = b.rate;
+      bucket = b.bucket;
+      level = level_at b (effective b now) + units;
+      last = effective b now;
+    }
 
 -- the level is what these admissions owe
 pub record IsOwedBy (b : LevelValue) (xs : List Admission) : Type 0 where

@@ -16,7 +16,8 @@ pub fn level_is_owed()
     ensures asked { (b : LevelValue) (xs : List Admission) (now : ℕ) (answer : Ask) → IsOwedBy b xs →
         Asked b.rate b.bucket (level_at b (effective b now)) answer →
         Asked b.rate b.bucket (owed b.rate xs (effective b now)) answer }
-    ensures ruled { (b : LevelValue) (xs : List Admission) (now units : ℕ) → b.rate ≢ 0 → IsOwedBy b xs → wait_at b now ≡ 0 →
+    ensures ruled { (b : LevelValue) (xs : List Admission) (now units : ℕ) → b.rate ≢ 0 → IsOwedBy b xs →
+        wait_at b now ≡ 0 →
         AdmittedByRule b.rate b.bucket xs →
         AdmittedByRule b.rate b.bucket (xs ++ record { reading = effective b now; units = units } ∷ []) }
 {}
@@ -30,7 +31,8 @@ pub fn bucket_is_owed()
         Holds (opened_bucket rate bucket burst) [] }
     ensures kept { (b : BucketValue) (xs : List Admission) (now units : ℕ) → Holds b xs →
         Holds (filled b now units) (xs ++ record { reading = effective b.first now; units = units } ∷ []) }
-    ensures asked { (b : BucketValue) (xs : List Admission) (now : ℕ) (answer : Ask) → Holds b xs → AsksBucket b now answer →
+    ensures asked { (b : BucketValue) (xs : List Admission) (now : ℕ) (answer : Ask) → Holds b xs →
+        AsksBucket b now answer →
         let t = effective b.first now in
         AskedOf b (owed b.first.rate xs t) (owed b.second.rate xs t) answer }
 {}

@@ -25,7 +25,8 @@ impl Model for Level {
 
     ghost view = { λ l. record { rate = l.rate; bucket = l.bucket; level = l.level; last = l.last } };
 
-    ghost invariant = { λ l. (l.rate ≤ 10 ^ 15) × (l.bucket ≤ 10 ^ 27) × (l.level ≤ 10 ^ 27 + 2 ^ 94) × (l.last < 2 ^ 64) };
+    ghost invariant = { λ l. (l.rate ≤ 10 ^ 15) × (l.bucket ≤ 10 ^ 27) × (l.level ≤ 10 ^ 27 + 2 ^ 94)
+        × (l.last < 2 ^ 64) };
 }
 
 impl Level {

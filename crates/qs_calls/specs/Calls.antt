@@ -16,8 +16,8 @@ use Rattle.qs_world.specs.Images.{stripe_at}
 use Rattle.qs_world.specs.Openings.{Exports, Planned}
 use Rattle.qs_world.specs.Values.{WorldValue, stripes_of}
 
--- An event with its outcome; a failure that is planned for the disk of a stripe; a crash, by what was chosen, with the blocks
--- that it left; or the making of an export, by an operation of the graph, at a place.
+-- An event with its outcome; a failure that is planned for the disk of a stripe; a crash, by what was chosen, with
+-- the blocks that it left; or the making of an export, by an operation of the graph, at a place.
 pub data Call : Type 0 where
   Happened : Event → Outcome → Call
   Rigged : (stripe : ℕ) → Fail → Call
@@ -29,7 +29,8 @@ abbrev pub anew : GraphValue → GraphOp
 anew g = ExportAdd (codes "disk") (codes "disk") g.file (not g.read_only) true
 
 -- that export was made
-pub record MakesExport {D : Type 0} (seen : D → Seen) (w : WorldValue D) (op : GraphOp) (place : ℕ) (w' : WorldValue D) : Type 0 where
+pub record MakesExport {D : Type 0} (seen : D → Seen) (w : WorldValue D) (op : GraphOp) (place : ℕ)
+    (w' : WorldValue D) : Type 0 where
   pub exports : Exports seen w (codes "disk") (not w.graph.read_only) w'
   pub op_is : op ≡ anew w.graph
   pub place_is : place ≡ exports.place
@@ -58,9 +59,11 @@ AreCalls A (ExportMade op place ∷ cs) (e ∷ es) = (e ≡ ExportedStep op plac
 
 -- the call makes of the core what `Makes` says, and does it by this step of the model
 abbrev pub MakesStep : {D : Type 0} → (D → Seen) → WorldValue D → Call → Element → WorldValue D → Type 0
-MakesStep seen w (Happened event outcome) e w' = (step : Steps seen w event outcome w') × (e ≡ step.element) × HasCause seen w outcome w'
+MakesStep seen w (Happened event outcome) e w' = (step : Steps seen w event outcome w') × (e ≡ step.element)
+    × HasCause seen w outcome w'
 MakesStep seen w (Rigged stripe fail) e w' = Planned seen w stripe fail w' × (e ≡ PlannedStep stripe fail)
-MakesStep seen w (PowerFailed choice left) e w' = Crashed seen w choice w' × (left ≡ left_at (stripes_of seen w) choice) × (e ≡ CrashedStep left)
+MakesStep seen w (PowerFailed choice left) e w' = Crashed seen w choice w'
+    × (left ≡ left_at (stripes_of seen w) choice) × (e ≡ CrashedStep left)
 MakesStep seen w (ExportMade op place) e w' = MakesExport seen w op place w' × (e ≡ ExportedStep op place)
 
 -- what the disk of each stripe tells of being full
@@ -68,7 +71,8 @@ abbrev pub full_at : {D : Type 0} → (D → Seen) → WorldValue D → ℕ → 
 full_at seen w j = (stripe_at (stripes_of seen w) j).disk.full
 
 -- The calls, one after the other: each by its step of the model, and before it the disks tell this of being full.
-abbrev pub Walks : {D : Type 0} → (D → Seen) → WorldValue D → List Call → List Element → List (ℕ → Option Bool) → WorldValue D → Type 0
+abbrev pub Walks : {D : Type 0} → (D → Seen) → WorldValue D → List Call → List Element → List (ℕ → Option Bool) →
+    WorldValue D → Type 0
 Walks seen w [] [] [] w' = w' ≡ w
 Walks seen w (c ∷ cs) (e ∷ es) (full ∷ fulls) w' =
     (full ≡ full_at seen w) × (mid : WorldValue _) × (MakesStep seen w c e mid × Walks seen mid cs es fulls w')

@@ -51,7 +51,8 @@ pub record RunsOut (made : Event) (calls : List Call) (last : Outcome) : Type 0 
   pub ends : goes_on last ≡ false
 
 -- the steps of one actor up to its last one, over disks that are their meaning: calls of the core, one behind the other
-pub record RanOut {D : Type 0} (seen : D → Seen) (w : WorldValue D) (made : Event) (last : Outcome) (w' : WorldValue D) : Type 0 where
+pub record RanOut {D : Type 0} (seen : D → Seen) (w : WorldValue D) (made : Event) (last : Outcome)
+    (w' : WorldValue D) : Type 0 where
   pub calls : List Call
   pub plays : Plays (λ d. d) (meant seen w) calls (meant seen w')
   pub out : RunsOut made calls last

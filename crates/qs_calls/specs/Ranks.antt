@@ -7,8 +7,9 @@ use Rattle.qs_part.specs.declared.stripe.Side.TheVariants.{Head, Tail}
 use Rattle.qs_model.specs.Requests.{Req, Stage, ToRoute, ToList, ToStart, ToLoad, ToHold, ToStore, ToSync, ToFree, ToEnd, Ready, Entering, In}
 use Rattle.qs_world.specs.Values.{WorldValue, request_at}
 
--- How many steps of a request may still go on, at most, by its stage. It makes one for each block from its first one on, and
--- an image of `size` bytes has no more blocks than that; behind them it makes one for each of the eight stripes.
+-- How many steps of a request may still go on, at most, by its stage. It makes one for each block from its first one
+-- on, and an image of `size` bytes has no more blocks than that; behind them it makes one for each of the eight
+-- stripes.
 abbrev pub rank_of : ℕ → Stage → ℕ
 rank_of size (Ready v) = 0
 rank_of size Entering = size + 17

@@ -29,25 +29,31 @@ image_export read_only = ExportAdd (codes "disk") (codes "disk") (codes "file0")
 
 -- the state behind the making of that export, at this place
 abbrev pub exported : List Seen → Bool → ℕ → World
-exported disks read_only place = happens (align_of disks) (opened_world disks read_only) (Exported (image_export read_only) place)
+exported disks read_only place = happens (align_of disks) (opened_world disks read_only)
+    (Exported (image_export read_only) place)
 
 -- A run of the model from its opening state: the export is made, and then each step is a call's, in order, as the core
 -- went through them; before each the disks told this of being full. The headline holds of it, and so do the other laws
--- of runs; where the disks tell their content and were handed in settled, a crash leaves nothing older than an acknowledged
--- flush. The core stands for where it leads.
-pub record HasRun {D : Type 0} (seen : D → Seen) (disks : List Seen) (read_only : Bool) (start : WorldValue D) (calls : List Call) (w : WorldValue D) : Type 0 where
+-- of runs; where the disks tell their content and were handed in settled, a crash leaves nothing older than an
+-- acknowledged flush. The core stands for where it leads.
+pub record HasRun {D : Type 0} (seen : D → Seen) (disks : List Seen) (read_only : Bool) (start : WorldValue D)
+    (calls : List Call) (w : WorldValue D) : Type 0 where
   pub place : ℕ
   pub elements : List Element
   pub fulls : List (ℕ → Option Bool)
   pub are : AreCalls (align_of disks) calls elements
   pub walked : Walks seen start calls elements fulls w
   pub run : Runs (align_of disks) (opened_world disks read_only) (Exported (image_export read_only) place ∷ elements)
-  pub headline : Headline (align_of disks) (opened_world disks read_only) (Exported (image_export read_only) place ∷ elements)
-  pub besides : Besides (align_of disks) (opened_world disks read_only) (Exported (image_export read_only) place ∷ elements)
-  pub judged : Judged (align_of disks) (opened_world disks read_only) (Exported (image_export read_only) place ∷ elements)
+  pub headline : Headline (align_of disks) (opened_world disks read_only)
+      (Exported (image_export read_only) place ∷ elements)
+  pub besides : Besides (align_of disks) (opened_world disks read_only)
+      (Exported (image_export read_only) place ∷ elements)
+  pub judged : Judged (align_of disks) (opened_world disks read_only)
+      (Exported (image_export read_only) place ∷ elements)
   pub durable : IsTrue (tells_of disks) → IsHandedInSettled (opening_over disks (codes "file0") read_only) →
       Durable (align_of disks) (opened_world disks read_only) (Exported (image_export read_only) place ∷ elements)
-  pub stands : Stands seen w (world_after (align_of disks) (opened_world disks read_only) (Exported (image_export read_only) place ∷ elements))
+  pub stands : Stands seen w (world_after (align_of disks) (opened_world disks read_only)
+      (Exported (image_export read_only) place ∷ elements))
 
 -- A core over the disks, with the file node `file0` and the export `disk`.
 pub record Begins {D : Type 0} (seen : D → Seen) (disks : List D) (read_only : Bool) (w : WorldValue D) : Type 0 where

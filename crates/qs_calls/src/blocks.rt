@@ -17,9 +17,11 @@ use qs_world::world::World;
 /// last step lets the request go on, the next one can come, and fewer are left.
 fn blocks_on<D: Disk + Drop>(world: &mut World<D>, number: u64, now: u64) -> Option<Outcome>
     ensures some { IfSome result (λ outcome. (front : List Call) × (All (GoesOn (AStep (ARequest number) now)) front
-        × Plays (λ d. d) (meant D.seen world.old) (front ++ Happened (AStep (ARequest number) now) outcome ∷ []) (meant D.seen world.new))) }
+        × Plays (λ d. d) (meant D.seen world.old) (front ++ Happened (AStep (ARequest number) now) outcome ∷ [])
+        (meant D.seen world.new))) }
     ensures on { IfSome result (λ outcome. goes_on outcome ≡ true →
-        (rank_at world.new (AStep (ARequest number) now) < rank_at world.old (AStep (ARequest number) now)) × (IsNotNext world.new (AStep (ARequest number) now) → ⊥)) }
+        (rank_at world.new (AStep (ARequest number) now) < rank_at world.old (AStep (ARequest number) now))
+        × (IsNotNext world.new (AStep (ARequest number) now) → ⊥)) }
     ensures none { IfNone result (IsNotNext world.old (AStep (ARequest number) now) × (world.new ≡ world.old)) }
 {
     match world.run_request(number, now) {

@@ -43,9 +43,11 @@ pub fn outcome_goes_on(outcome: &Outcome) -> bool
 /// An actor's next step; `None` where it can't come now. Where it lets the actor go on, the next one can
 /// come, and fewer are left.
 fn step_on<D: Disk + Drop>(world: &mut World<D>, actor: Actor, now: u64) -> Option<Outcome>
-    ensures some { IfSome result (λ outcome. Plays D.seen world.old (Happened (AStep actor now) outcome ∷ []) world.new) }
+    ensures some { IfSome result (λ outcome. Plays D.seen world.old (Happened (AStep actor now) outcome ∷ [])
+        world.new) }
     ensures on { IfSome result (λ outcome. goes_on outcome ≡ true →
-        (rank_at world.new (AStep actor now) < rank_at world.old (AStep actor now)) × (IsNotNext world.new (AStep actor now) → ⊥)) }
+        (rank_at world.new (AStep actor now) < rank_at world.old (AStep actor now))
+        × (IsNotNext world.new (AStep actor now) → ⊥)) }
     ensures none { IfNone result (IsNotNext world.old (AStep actor now) × (world.new ≡ world.old)) }
 {
     match world.step(Event::Step { actor, now }) {
@@ -72,7 +74,8 @@ pub fn run_counted<D: Disk + Drop>(
     actor: Actor,
     now: u64,
 ) -> Option<StepsMade>
-    ensures some { IfSome result (λ made. (calls : List Call) × (Plays D.seen world.old calls world.new × RunsOut (AStep actor now) calls made.last ×
+    ensures some { IfSome result (λ made. (calls : List Call)
+        × (Plays D.seen world.old calls world.new × RunsOut (AStep actor now) calls made.last ×
         (made.count ≡ length calls % 2 ^ 64))) }
     ensures none { IfNone result (IsNotNext world.old (AStep actor now) × (world.new ≡ world.old)) }
 {
@@ -90,7 +93,8 @@ pub fn run_counted<D: Disk + Drop>(
 
 /// The steps of an actor as `run_counted` makes them, and the outcome of the last one.
 pub fn run_out<D: Disk + Drop>(world: &mut World<D>, actor: Actor, now: u64) -> Option<Outcome>
-    ensures some { IfSome result (λ last. (calls : List Call) × (Plays D.seen world.old calls world.new × RunsOut (AStep actor now) calls last)) }
+    ensures some { IfSome result (λ last. (calls : List Call)
+        × (Plays D.seen world.old calls world.new × RunsOut (AStep actor now) calls last)) }
     ensures none { IfNone result (IsNotNext world.old (AStep actor now) × (world.new ≡ world.old)) }
 {
     match run_counted(world, actor, now) {

@@ -28,11 +28,13 @@ IsRun runs session first last = get by_session runs (session, first) ≡ Some la
 -- each run goes forward, and ends before the next of its session begins
 pub record AreApart (runs : CookieRuns) : Type 0 where
   pub forward : (session first last : ℕ) → IsRun runs session first last → first ≤ last
-  pub apart : (session first last next end : ℕ) → IsRun runs session first last → IsRun runs session next end → first < next → last < next
+  pub apart : (session first last next end : ℕ) → IsRun runs session first last → IsRun runs session next end →
+      first < next → last < next
 
 -- a cookie of the session is in a run
 abbrev pub IsInRun : CookieRuns → ℕ → ℕ → Type 0
-IsInRun runs session cookie = (first : ℕ) × (last : ℕ) × (IsRun runs session first last × (first ≤ cookie) × (cookie ≤ last))
+IsInRun runs session cookie = (first : ℕ) × (last : ℕ)
+    × (IsRun runs session first last × (first ≤ cookie) × (cookie ≤ last))
 
 -- the last run of the session that begins at the cookie or before it
 pub record IsBefore (runs : CookieRuns) (session cookie first last : ℕ) : Type 0 where

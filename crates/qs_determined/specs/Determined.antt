@@ -10,8 +10,8 @@ use Rattle.qs_bytes.specs.Geometry.{stripe_of}
 use Rattle.qs_model.specs.Acts.{Act, LoadFails, HoldFails, StoreFails, SyncFails, Element, Asked, Did, Exported, Planned, Crashed}
 use Rattle.qs_model.specs.Events.{IsEvent}
 
--- What comes from outside: an event; a failure that is planned for the disk of a stripe; a crash, with what was chosen and the
--- blocks that it left; or the making of an export by an operation of the graph.
+-- What comes from outside: an event; a failure that is planned for the disk of a stripe; a crash, with what was
+-- chosen and the blocks that it left; or the making of an export by an operation of the graph.
 pub data Input : Type 0 where
   Happens : Event → Input
   Fails : (j : ℕ) → Fail → Input

@@ -30,11 +30,12 @@ pub record WasRefusedSince (A x v : ℕ) (since steps : List Element) : Type 0 w
   pub took : Bool
   pub entry : cell_at A x store ≡ Maybe number v took ∷ []
 
--- The byte v for x, as it may be found behind these steps, is no older than the position `since`: x had it there or later, or a
--- store that was refused later had it for x.
+-- The byte v for x, as it may be found behind these steps, is no older than the position `since`: x had it there or
+-- later, or a store that was refused later had it for x.
 abbrev pub IsNoOlder : ℕ → World → ℕ → ℕ → List Element → List Element → Type 0
 IsNoOlder A w x v since steps = WasSince A w x v since steps ⊎ WasRefusedSince A x v since steps
 
 -- whatever a crash leaves of the byte at x behind these steps is no older than the position `since`
 abbrev pub LeavesNoOlder : ℕ → World → ℕ → List Element → List Element → Type 0
-LeavesNoOlder A w x since steps = (v : ℕ) → MayBeLeft A (world_after A w steps).image x v → IsNoOlder A w x v since steps
+LeavesNoOlder A w x since steps = (v : ℕ) → MayBeLeft A (world_after A w steps).image x v →
+    IsNoOlder A w x v since steps

@@ -19,7 +19,8 @@ abbrev pub IsEnter : ℕ → Element → Type 0
 IsEnter r (Did s q act) = (s ≡ r) × IsEnterRow act
 IsEnter r _ = ⊥
 
--- A FLUSH that was reached: it entered behind the steps `entered`, and was answered Fine by the final one of the steps `answered`.
+-- A FLUSH that was reached: it entered behind the steps `entered`, and was answered Fine by the final one of the
+-- steps `answered`.
 pub record ReachedFlush (entered answered : List Element) : Type 0 where
   pub number : ℕ
   pub client : Client
@@ -54,7 +55,8 @@ abbrev pub Acknowledges : ℕ → Element → Type 0
 Acknowledges r (Did s q act) = (s ≡ r) × ((v : Verdict) × ((answer_of q.dropped act ≡ Some v) × IsSuccess v))
 Acknowledges r _ = ⊥
 
--- The final one of the steps `written` is a write of the byte at x, and its request was acknowledged before the position `entered`.
+-- The final one of the steps `written` is a write of the byte at x, and its request was acknowledged before the
+-- position `entered`.
 pub record Acknowledged (A x : ℕ) (written entered : List Element) : Type 0 where
   pub number : ℕ
   pub wrote : HasWritten A x number written
@@ -64,8 +66,8 @@ pub record Acknowledged (A x : ℕ) (written entered : List Element) : Type 0 wh
   pub stands : ComesBehind position answer entered
   pub acknowledged : Acknowledges number answer
 
--- A WRITE or WRITE_ZEROES with FUA that covers x: the byte was written by the final one of the steps `written`, and the request was
--- answered Fine by the final one of the steps `answered`.
+-- A WRITE or WRITE_ZEROES with FUA that covers x: the byte was written by the final one of the steps `written`, and
+-- the request was answered Fine by the final one of the steps `answered`.
 pub record Forced (A x : ℕ) (written answered : List Element) : Type 0 where
   pub number : ℕ
   pub client : Client
@@ -77,14 +79,18 @@ pub record Forced (A x : ℕ) (written answered : List Element) : Type 0 where
   pub fine : Answered number client Fine answer
   pub course : answered ≡ written ++ (between ++ answer ∷ [])
 
--- Behind the steps `answered` the byte at x may not be older than a position: than any up to which a FLUSH that was reached hadn't
--- entered; than a write of the byte that was acknowledged before that; than a write of the byte by a request with FUA that is Fine; and than
--- the answer of a FLUSH that was reached, where nothing but the FLUSH did a step from its Enter to its answer.
+-- Behind the steps `answered` the byte at x may not be older than a position: than any up to which a FLUSH that was
+-- reached hadn't entered; than a write of the byte that was acknowledged before that; than a write of the byte by a
+-- request with FUA that is Fine; and than the answer of a FLUSH that was reached, where nothing but the FLUSH did a
+-- step from its Enter to its answer.
 pub data IsBound : (A x : ℕ) (position answered : List Element) → Type 0 where
   Flushed : {A x : ℕ} {entered answered : List Element} → ReachedFlush entered answered → IsBound A x entered answered
-  WrittenBefore : {A x : ℕ} {written entered answered : List Element} → Acknowledged A x written entered → ReachedFlush entered answered → IsBound A x written answered
-  WrittenThrough : {A x : ℕ} {written answered : List Element} → Forced A x written answered → IsBound A x written answered
-  FlushedAlone : {A x : ℕ} {entered answered : List Element} → (f : ReachedFlush entered answered) → AreOwn f.number f.between → IsBound A x answered answered
+  WrittenBefore : {A x : ℕ} {written entered answered : List Element} → Acknowledged A x written entered →
+      ReachedFlush entered answered → IsBound A x written answered
+  WrittenThrough : {A x : ℕ} {written answered : List Element} → Forced A x written answered →
+      IsBound A x written answered
+  FlushedAlone : {A x : ℕ} {entered answered : List Element} → (f : ReachedFlush entered answered) →
+      AreOwn f.number f.between → IsBound A x answered answered
 
 -- stripe s was synced in this step, or had nothing to be synced
 abbrev pub IsSyncedRow : ℕ → {stage : Stage} → Act stage → Type 0

@@ -1,4 +1,5 @@
--- A run that a crash ends: a WRITE_ZEROES of the second block, and then a FLUSH, over two blocks of 4 bytes, 1 2 3 4 and 5 6 7 8.
+-- A run that a crash ends: a WRITE_ZEROES of the second block, and then a FLUSH, over two blocks of 4 bytes, 1 2 3 4
+-- and 5 6 7 8.
 use Rattle.std.specs.Prelude.{true, false, List, [], ◌∷◌, ◌++◌}
 use Rattle.qs_bytes.specs.declared.ask.Kind.TheVariants.{Zero}
 use Rattle.qs_bytes.specs.declared.ask.Verdict.TheVariants.{Fine}

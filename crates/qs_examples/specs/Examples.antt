@@ -148,4 +148,5 @@ abbrev pub refusing : List Element
 refusing = routed outsider (Did 0 (request (outsider image_route) no_pads (In 0 (ToEnd (Refused Inval)))) Ends ∷ [])
 
 abbrev pub refusing_answers : List Outcome
-refusing_answers = routed_answers (Answered (Refused Inval) (Some (record { kind = End; at = None; reply = OfTracker Ended })) ∷ [])
+refusing_answers = routed_answers (Answered (Refused Inval)
+    (Some (record { kind = End; at = None; reply = OfTracker Ended })) ∷ [])

@@ -1,4 +1,5 @@
--- Runs of the other kinds of request, over the same image: a FLUSH, a WRITE_ZEROES with FUA, and a TRIM that may not be.
+-- Runs of the other kinds of request, over the same image: a FLUSH, a WRITE_ZEROES with FUA, and a TRIM that may not
+-- be.
 use Rattle.std.specs.Prelude.{true, false, not, List, [], ◌∷◌, ◌==◌, Some, None}
 use Rattle.qs_bytes.specs.declared.ask.Kind.TheVariants.{Zero, Trim, Flush}
 use Rattle.qs_bytes.specs.declared.ask.Errno.TheVariants.{Perm}

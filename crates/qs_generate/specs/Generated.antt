@@ -37,7 +37,8 @@ pass_begun g round pass (first ∷ others) = ran g round pass first
 -- a pass goes on with the first request that is left, else the next one begins; there are 16
 abbrev pub pass_over : Generated → ℕ → ℕ → List LiveRequest → Option LiveRequest → Made
 pass_over g round pass live (Some next) = ran g round pass next
-pass_over g round pass live None = if nat_lt pass 16 then pass_begun g round (pass + 1) live else round_asked g (round + 1)
+pass_over g round pass live None = if nat_lt pass 16 then pass_begun g round (pass + 1) live
+    else round_asked g (round + 1)
 
 -- passes come behind each 16th round
 abbrev pub round_settled : Generated → ℕ → List LiveRequest → Made
@@ -54,7 +55,10 @@ stepped g round left live =
 
 -- a session is made; there are four
 abbrev pub session_attached : Generated → ℕ → Made
-session_attached g session = (Some (attach_line session), record g { turn = if nat_lt session 3 then next_move.Attach (session + 1) else next_move.Ask 1 })
+session_attached g session = (
+  Some (attach_line session),
+  record g { turn = if nat_lt session 3 then next_move.Attach (session + 1) else next_move.Ask 1 },
+)
 
 -- what comes next
 abbrev pub made_at : Generated → List LiveRequest → NextMove → Made

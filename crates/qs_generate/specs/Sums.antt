@@ -11,4 +11,5 @@ weighted place (byte ∷ bytes) = byte * (place + 1) + weighted (place + 1) byte
 -- `requests 10000 errors E steps T sum S`
 abbrev pub totals_line : RunTotals → List ℕ
 totals_line t =
-    codes "requests 10000 errors " ++ decimal t.errors ++ codes " steps " ++ decimal t.steps ++ codes " sum " ++ decimal t.sum ++ codes "\n"
+    codes "requests 10000 errors " ++ decimal t.errors ++ codes " steps " ++ decimal t.steps ++ codes " sum "
+    ++ decimal t.sum ++ codes "\n"

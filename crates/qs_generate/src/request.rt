@@ -80,7 +80,8 @@ fn write_line(
     round: u64,
     draws: &RoundDraws,
 ) -> Result<Line, LineFault>
-    ensures { LineComes (line.Write session round draws.now.offset (replicate draws.now.length draws.now.byte) false) result }
+    ensures { LineComes (line.Write session round draws.now.offset (replicate draws.now.length draws.now.byte) false)
+        result }
 {
     let RoundDraws {
         offset,

@@ -146,7 +146,8 @@ impl GeneratedRun {
         live: &[LiveRequest],
     ) -> Option<Result<Line, LineFault>>
         requires { round ≤ 10000 }
-        ensures line { Makes (pass_over self.old round pass live.now (find (λ r. nat_lt done r.cookie) live.now)) result self.new }
+        ensures line { Makes (pass_over self.old round pass live.now (find (λ r. nat_lt done r.cookie) live.now))
+            result self.new }
         ensures ends { IsSome result → turn_rank self.new.turn < turn_rank (next_move.Run round pass done) }
     {
         match first_left(live, done) {

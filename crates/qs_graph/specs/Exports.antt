@@ -8,7 +8,13 @@ use Rattle.qs_graph.specs.declared.export.Right.TheVariants.{Read, Write}
 
 -- an export without clients
 abbrev pub new_export : List ℕ → List ℕ → Bool → Bool → Export
-new_export id name writable share_write = record { id = id; name = name; writable = writable; share_write = share_write; clients = 0 }
+new_export id name writable share_write = record {
+  id = id;
+  name = name;
+  writable = writable;
+  share_write = share_write;
+  clients = 0;
+}
 
 -- every export takes read, and a writable one takes write
 abbrev pub takes : Export → Right → Bool

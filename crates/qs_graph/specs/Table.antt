@@ -43,14 +43,21 @@ info_at v e = record { e = e; size = v.size; writable = writable_of (export_at v
 
 -- place e is now so
 abbrev pub export_placed : GraphValue → ℕ → Option Export → GraphValue
-export_placed v e place = record { size = v.size; file = v.file; read_only = v.read_only; places = slice_set v.places e place }
+export_placed v e place = record {
+  size = v.size;
+  file = v.file;
+  read_only = v.read_only;
+  places = slice_set v.places e place;
+}
 
 -- what an answer leaves
 abbrev pub after : GraphValue → GraphOp → GraphReply → GraphValue
-after v (ExportAdd id name node writable share_write) (Added e) = export_placed v e (Some (new_export id name writable share_write))
+after v (ExportAdd id name node writable share_write) (Added e) = export_placed v e
+    (Some (new_export id name writable share_write))
 after v (Attach name) (Attached info) =
     export_placed v info.e (clients_counted (export_at v.places info.e) (clients_of (export_at v.places info.e) + 1))
-after v (Detach e) Detached = export_placed v e (clients_counted (export_at v.places e) (clients_of (export_at v.places e) - 1))
+after v (Detach e) Detached = export_placed v e
+    (clients_counted (export_at v.places e) (clients_of (export_at v.places e) - 1))
 after v _ _ = v
 
 -- no standing export has the id or the name of a new one
@@ -71,8 +78,8 @@ IsShared v x node = IsPermitted v x node × (first_against v.places x ≡ None)
 
 -- The answers to a new export over a node. Users of the file node are the standing exports, in the
 -- order in which they were made, and the new one last. No two standing ones conflict, so the second of
--- the first pair of users that conflicts is the new one (the law first_pair). All memory is taken when the graph is made,
--- so that want of it is never answered.
+-- the first pair of users that conflicts is the new one (the law first_pair). All memory is taken when the graph is
+-- made, so that want of it is never answered.
 abbrev pub MayAdd : GraphValue → Export → List ℕ → GraphReply → Type 0
 MayAdd v x node (Duplicate e) = position (has_alike x.id x.name) v.places ≡ Some e
 MayAdd v x node (NoNode name) = IsNew v x × (node ≢ v.file) × (name ≡ node)
@@ -85,7 +92,8 @@ MayAdd v x node _ = ⊥
 
 -- the answers to an operation
 abbrev pub May : GraphValue → GraphOp → GraphReply → Type 0
-May v (ExportAdd id name node writable share_write) reply = MayAdd v (new_export id name writable share_write) node reply
+May v (ExportAdd id name node writable share_write) reply = MayAdd v (new_export id name writable share_write) node
+    reply
 May v (Find name) NoExport = found_at v.places name ≡ None
 May v (Find name) (Found info) = (found_at v.places name ≡ Some info.e) × (info ≡ info_at v info.e)
 May v (Attach name) NoExport = found_at v.places name ≡ None

@@ -34,7 +34,12 @@ impl Model for Graph {
 
     ghost Value = { GraphValue };
 
-    ghost view = { λ g. record { size = g.size; file = g.file.value; read_only = g.read_only; places = g.places.items } };
+    ghost view = { λ g. record {
+      size = g.size;
+      file = g.file.value;
+      read_only = g.read_only;
+      places = g.places.items;
+    } };
 
     ghost invariant = { λ g. length g.places.items ≡ 64 };
 }

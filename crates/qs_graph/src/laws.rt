@@ -22,19 +22,23 @@ pub fn allowed()
 pub fn first_pair()
     ensures { (size : ℕ) (file : List ℕ) (read_only : Bool) (cs : List (Call GraphOp GraphReply)) (v : GraphValue)
         (new : Standing) → StandsForFresh size file read_only cs v →
-        conflicting_pair (standing v.places ++ new ∷ []) ≡ option_map (λ (x : Standing). (x, new)) (first_against v.places new) }
+        conflicting_pair (standing v.places ++ new ∷ [])
+        ≡ option_map (λ (x : Standing). (x, new)) (first_against v.places new) }
 {}
 
 /// In every history of a new graph every way lies inside the image.
 pub fn inside()
-    ensures { (size : ℕ) (file : List ℕ) (read_only : Bool) (cs : List (Call GraphOp GraphReply)) (v : GraphValue) (e : ℕ)
-        (way : Way) → StandsForFresh size file read_only cs v → May v (Route e) (Routed way) → way.offset + way.size ≤ size }
+    ensures { (size : ℕ) (file : List ℕ) (read_only : Bool) (cs : List (Call GraphOp GraphReply)) (v : GraphValue)
+        (e : ℕ)
+        (way : Way) → StandsForFresh size file read_only cs v → May v (Route e) (Routed way) →
+        way.offset + way.size ≤ size }
 {}
 
 /// In every history an export that stands keeps its place, with or without clients, and each Route
 /// of that place answers for it.
 pub fn stays()
-    ensures place { (opening : GraphValue) (cs : List (Call GraphOp GraphReply)) (v : GraphValue) (e : ℕ) (x : Standing) →
+    ensures place { (opening : GraphValue) (cs : List (Call GraphOp GraphReply)) (v : GraphValue) (e : ℕ)
+        (x : Standing) →
         StandsFor lawful_call opening cs v → StandsAt opening e x → (y : Standing) × (StandsAt v e y × SameExport x y) }
     ensures way { (opening : GraphValue) (cs : List (Call GraphOp GraphReply)) (v : GraphValue) (e : ℕ) (x : Standing)
         (reply : GraphReply) → StandsFor lawful_call opening cs v → StandsAt opening e x →

@@ -40,7 +40,10 @@ last_set l (c ∷ cs) = last_set (set_by l c.op c.reply) cs
 abbrev pub counted_go : Dim → GroupValue → Option Queued → ℕ → List Admission → List Admission
 counted_go dim v None now xs = xs
 counted_go dim v (Some w) now xs =
-    if applies dim w.dir then xs ++ record { reading = reading_at v.budget now; units = units_for v.budget dim w.bytes } ∷ [] else xs
+    if applies dim w.dir then xs ++ record {
+      reading = reading_at v.budget now;
+      units = units_for v.budget dim w.bytes;
+    } ∷ [] else xs
 
 -- the admissions of a limit after one answer more: Go adds one, Set forgets them
 abbrev pub admissions_counted : Dim → GroupValue → GroupOp → GroupReply → List Admission → List Admission

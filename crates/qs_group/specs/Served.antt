@@ -33,4 +33,5 @@ pub record OneServed (v : GroupValue) (d : Dir) : Type 0 where
   pub ticket : ℕ
   pub waits : WaitsIn v d ticket
   pub served : (now : ℕ) → (reply : GroupReply) × ServesTicket reply × May v (Admit ticket now) reply
-  pub only : (t now : ℕ) (reply : GroupReply) → WaitsIn v d t → May v (Admit t now) reply → ServesTicket reply → t ≡ ticket
+  pub only : (t now : ℕ) (reply : GroupReply) → WaitsIn v d t → May v (Admit t now) reply → ServesTicket reply →
+      t ≡ ticket

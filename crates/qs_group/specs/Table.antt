@@ -59,7 +59,11 @@ ticket_passed v (Some w) now = record {
 -- what an answer leaves; answers other than Ticket, Go, Withdrawn and Set change nothing
 abbrev pub after : GroupValue → GroupOp → GroupReply → GroupValue
 after v (Queue m d n) (Ticket t) =
-    record { waiting = v.waiting ++ record { ticket = t; member = m; dir = d; bytes = n } ∷ []; turns = v.turns; budget = v.budget }
+    record {
+      waiting = v.waiting ++ record { ticket = t; member = m; dir = d; bytes = n } ∷ [];
+      turns = v.turns;
+      budget = v.budget;
+    }
 after v (Admit t now) Go = ticket_passed v (ticket_at v.waiting t) now
 after v (Withdraw t) Withdrawn = record { waiting = queue_without v.waiting t; turns = v.turns; budget = v.budget }
 after v (SetTo l) IsSet = opened_group l

@@ -34,7 +34,8 @@ impl Model for Group {
 
     ghost view = { λ g. record { waiting = g.waiting.items; turns = g.turns; budget = g.budget.value } };
 
-    ghost invariant = { λ g. (256 ≤ vec_capacity g.waiting) × (length g.waiting.items ≤ 256) × All InRange g.waiting.items × (g.turns.read < 64) × (g.turns.write < 64) };
+    ghost invariant = { λ g. (256 ≤ vec_capacity g.waiting) × (length g.waiting.items ≤ 256)
+        × All InRange g.waiting.items × (g.turns.read < 64) × (g.turns.write < 64) };
 }
 
 impl Group {

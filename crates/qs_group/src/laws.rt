@@ -70,5 +70,6 @@ pub fn answers()
         (reply : GroupReply) × May v op reply }
     ensures one { (cs : List (Call GroupOp GroupReply)) (v : GroupValue) (op : GroupOp)
         (first second : GroupReply) → StandsForFresh cs v → May v op first → May v op second → first ≡ second }
-    ensures unchanged { (v : GroupValue) (op : GroupOp) (reply : GroupReply) → (ChangesGroup reply → ⊥) → after v op reply ≡ v }
+    ensures unchanged { (v : GroupValue) (op : GroupOp) (reply : GroupReply) → (ChangesGroup reply → ⊥) →
+        after v op reply ≡ v }
 {}

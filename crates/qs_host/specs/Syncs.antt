@@ -47,7 +47,8 @@ is_covered k (Stored j ∷ older) = not (j == k) && is_covered k older
 is_covered k (Began ∷ older) = is_covered k older
 is_covered k (Ended well ∷ older) = (well && not (stored_since k older)) || is_covered k older
 
--- what a sync through a handle has to do: after a failed one all fail, and else the file is called unless all is covered
+-- what a sync through a handle has to do: after a failed one all fail, and else the file is called unless all is
+-- covered
 abbrev pub needed : List Act → ℕ → SyncNeed
 needed history k = if has_failed history then Fails else if is_covered k history then Nothing else Call
 

@@ -70,7 +70,17 @@ impl<R: Wait> FileDisk<R> {
 impl<R: Wait> Disk for FileDisk<R> {
     ghost use Rattle.std.specs.Prelude.{false, [], None};
 
-    ghost seen = { λ d. record { stripe = d.stripe; align = d.align; size = d.length; faults = d.faults.count; tells = false; now = λ b. []; past = λ b. []; planned = None; full = None } };
+    ghost seen = { λ d. record {
+      stripe = d.stripe;
+      align = d.align;
+      size = d.length;
+      faults = d.faults.count;
+      tells = false;
+      now = λ b. [];
+      past = λ b. [];
+      planned = None;
+      full = None;
+    } };
 
     fn stripe(&self) -> u8 {
         self.stripe

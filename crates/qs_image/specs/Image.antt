@@ -74,7 +74,8 @@ abbrev pub IsFrontWritten : List ℕ → ℕ → List ℕ → List ℕ → Type 
 IsFrontWritten old at bytes new = (n : ℕ) × ((n ≤ length bytes) × (new ≡ overlay old at (take n bytes)))
 
 -- bytes were read from a place of the image on; nothing was written, and a crash leaves what it left before
-pub record Loads {E : Type 0} (old : List Seen) (at : ℕ) (bytes : List ℕ) (result : Result Unit E) (new : List Seen) : Type 0 where
+pub record Loads {E : Type 0} (old : List Seen) (at : ℕ) (bytes : List ℕ) (result : Result Unit E)
+    (new : List Seen) : Type 0 where
   pub bytes_are : AllTell old → OnOk result (bytes ≡ part (content old) at (length bytes))
   pub kept : AllTell old → content new ≡ content old
   pub past : AllTell old → Same (block_past old) (block_past new)
@@ -82,7 +83,8 @@ pub record Loads {E : Type 0} (old : List Seen) (at : ℕ) (bytes : List ℕ) (r
   pub cause : OnErr result (RoseAt old at (length bytes) new)
 
 -- bytes were written from a place of the image on; where that failed, a front of them at most
-pub record Stores {E : Type 0} (old : List Seen) (at : ℕ) (bytes : List ℕ) (result : Result Unit E) (new : List Seen) : Type 0 where
+pub record Stores {E : Type 0} (old : List Seen) (at : ℕ) (bytes : List ℕ) (result : Result Unit E)
+    (new : List Seen) : Type 0 where
   pub written : AllTell old → OnOk result (content new ≡ overlay (content old) at bytes)
   pub cut : AllTell old → OnErr result (IsFrontWritten (content old) at bytes (content new))
   pub same : SameDisks old new

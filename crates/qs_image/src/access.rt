@@ -10,7 +10,8 @@ pub fn load_block<D: Disk>(disks: &mut [D], b: u64, into: &mut [u8]) -> Result<(
     requires image { IsImage (map D.seen disks.old) }
     requires inside { (b + 1) * align_of (map D.seen disks.old) ≤ size_of (map D.seen disks.old) }
     requires whole { length into.old ≡ align_of (map D.seen disks.old) }
-    ensures { Loads (map D.seen disks.old) (b * align_of (map D.seen disks.old)) into.new result (map D.seen disks.new) }
+    ensures { Loads (map D.seen disks.old) (b * align_of (map D.seen disks.old)) into.new result
+        (map D.seen disks.new) }
 {
     let k = usize::from(stripe_of(b));
     disks[k].load(b, into)
@@ -21,7 +22,8 @@ pub fn store_block<D: Disk>(disks: &mut [D], b: u64, bytes: &[u8]) -> Result<(),
     requires image { IsImage (map D.seen disks.old) }
     requires inside { (b + 1) * align_of (map D.seen disks.old) ≤ size_of (map D.seen disks.old) }
     requires whole { length bytes.now ≡ align_of (map D.seen disks.old) }
-    ensures { Stores (map D.seen disks.old) (b * align_of (map D.seen disks.old)) bytes.now result (map D.seen disks.new) }
+    ensures { Stores (map D.seen disks.old) (b * align_of (map D.seen disks.old)) bytes.now result
+        (map D.seen disks.new) }
 {
     let k = usize::from(stripe_of(b));
     disks[k].store(b, bytes)

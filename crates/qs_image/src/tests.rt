@@ -33,7 +33,17 @@ impl DeadDisk {
 impl Disk for DeadDisk {
     ghost use Rattle.std.specs.Prelude.{false, [], None};
 
-    ghost seen = { λ d. record { stripe = d.stripe; align = d.align; size = d.length; faults = d.faults; tells = false; now = λ b. []; past = λ b. []; planned = None; full = None } };
+    ghost seen = { λ d. record {
+      stripe = d.stripe;
+      align = d.align;
+      size = d.length;
+      faults = d.faults;
+      tells = false;
+      now = λ b. [];
+      past = λ b. [];
+      planned = None;
+      full = None;
+    } };
 
     fn stripe(&self) -> u8 {
         self.stripe

@@ -33,7 +33,8 @@ joined [] = []
 joined (text ∷ []) = spelled text
 joined (text ∷ other ∷ texts) = spelled text ++ comma ∷ joined (other ∷ texts)
 
--- a text that isn't first begins with no comma, and is empty at the end alone: so that the comma before it is no half of a pair
+-- a text that isn't first begins with no comma, and is empty at the end alone: so that the comma before it is no half
+-- of a pair
 abbrev pub StandsApart : List (List ℕ) → Type 0
 StandsApart [] = Unit {0}
 StandsApart ([] ∷ []) = Unit {0}

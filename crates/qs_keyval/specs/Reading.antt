@@ -46,7 +46,8 @@ parts_of (b ∷ bytes) = if b == dot then [] ∷ parts_of bytes else onto b (par
 -- each part has some bytes, all of them a key's; where the part that goes on has none yet, one is still wanted
 abbrev pub is_dotted_key : Bool → List ℕ → Bool
 is_dotted_key is_empty [] = not is_empty
-is_dotted_key is_empty (b ∷ bytes) = if b == dot then not is_empty && is_dotted_key true bytes else is_key_byte b && is_dotted_key false bytes
+is_dotted_key is_empty (b ∷ bytes) = if b == dot then not is_empty && is_dotted_key true bytes
+    else is_key_byte b && is_dotted_key false bytes
 
 abbrev pub is_part : List ℕ → Bool
 is_part [] = false
@@ -68,10 +69,12 @@ alone (Some key) item = Ok (record { key = key ∷ []; value = item.text })
 
 abbrev pub keyed : Option (List ℕ) → Item → Option Sides → Result Entry KeyvalFault
 keyed implied item None = alone implied item
-keyed implied item (Some parts) = if is_dotted_key true parts.0 then Ok (record { key = parts_of parts.0; value = parts.1 }) else Err (BadKey item.at)
+keyed implied item (Some parts) = if is_dotted_key true parts.0
+    then Ok (record { key = parts_of parts.0; value = parts.1 }) else Err (BadKey item.at)
 
 abbrev pub entry_of : Option (List ℕ) → Item → Result Entry KeyvalFault
-entry_of implied item = if length item.text == 0 then Err (BadKey item.at) else keyed implied item (split_first equals item.text)
+entry_of implied item = if length item.text == 0 then Err (BadKey item.at)
+    else keyed implied item (split_first equals item.text)
 
 -- the members with a value at the key: no object may stand there
 abbrev pub holds_object : Option Data → Bool
@@ -80,7 +83,8 @@ holds_object (Some d) = is_some (as_object d)
 
 abbrev pub set_at : List ℕ → List ℕ → List ℕ → Members → Result Members KeyvalFault
 set_at before part value members =
-    if holds_object (get_member part members) then Err (Clash (before ++ part)) else Ok (put part (string value) members)
+    if holds_object (get_member part members) then Err (Clash (before ++ part))
+    else Ok (put part (string value) members)
 
 -- the members of the object at the key: no value may stand there
 abbrev pub inner_of : List ℕ → Option Members → Result Members KeyvalFault

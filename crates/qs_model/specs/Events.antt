@@ -95,7 +95,8 @@ pub record HasNone (c : Client) : Type 0 where
 abbrev pub BringsBytes : Option (List ℕ) → Client → Type 0
 BringsBytes None c = HasNone c
 BringsBytes (Some body) c =
-    ((length body ≡ c.ask.length) × (brings_bytes c.ask.kind ≡ true → body ≡ c.body)) ⊎ ((length body ≢ c.ask.length) × HasNone c)
+    ((length body ≡ c.ask.length) × (brings_bytes c.ask.kind ≡ true → body ≡ c.body))
+    ⊎ ((length body ≢ c.ask.length) × HasNone c)
 
 -- the event that a step answers; the clock's reading of a Step is free where no group is asked
 abbrev pub IsEvent : Event → Element → Type 0

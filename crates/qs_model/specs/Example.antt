@@ -35,7 +35,14 @@ abbrev pub example_ask : Ask
 example_ask = record { kind = Write; fua = false; flags_fit = true; cookie = 1; offset = 3; length = 2 }
 
 abbrev pub example_client : Route → Client
-example_client route = record { session = 1; export = 0; ask = example_ask; body = 7 ∷ 8 ∷ []; buffered = true; route = route }
+example_client route = record {
+  session = 1;
+  export = 0;
+  ask = example_ask;
+  body = 7 ∷ 8 ∷ [];
+  buffered = true;
+  route = route;
+}
 
 abbrev pub pads : List ℕ → List ℕ → Pads
 pads head tail = record { head = head; tail = tail }
@@ -68,8 +75,10 @@ padded =
     ∷ Did 0 (padded_request image_route (pads [] []) (In 0 ToStart)) Starts
     ∷ Did 0 (padded_request image_route (pads [] []) (In 0 (ToHold Head))) (Holds zeros)
     ∷ Did 0 (padded_request image_route (pads zeros []) (In 0 (ToHold Tail))) (Holds zeros)
-    ∷ Did 0 (padded_request image_route (pads zeros zeros) (In 0 (ToStore 0))) (Stores (0 ∷ 0 ∷ 0 ∷ 7 ∷ []) (zeros ∷ (0 ∷ 0 ∷ 0 ∷ 7 ∷ []) ∷ []))
-    ∷ Did 0 (padded_request image_route (pads zeros zeros) (In 0 (ToStore 1))) (Stores (8 ∷ 0 ∷ 0 ∷ 0 ∷ []) (zeros ∷ (8 ∷ 0 ∷ 0 ∷ 0 ∷ []) ∷ []))
+    ∷ Did 0 (padded_request image_route (pads zeros zeros) (In 0 (ToStore 0)))
+    (Stores (0 ∷ 0 ∷ 0 ∷ 7 ∷ []) (zeros ∷ (0 ∷ 0 ∷ 0 ∷ 7 ∷ []) ∷ []))
+    ∷ Did 0 (padded_request image_route (pads zeros zeros) (In 0 (ToStore 1)))
+    (Stores (8 ∷ 0 ∷ 0 ∷ 0 ∷ []) (zeros ∷ (8 ∷ 0 ∷ 0 ∷ 0 ∷ []) ∷ []))
     ∷ Did 0 (padded_request image_route (pads zeros zeros) (In 0 (ToEnd Fine))) Ends
     ∷ []
 

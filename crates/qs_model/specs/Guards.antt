@@ -33,7 +33,8 @@ pub record CanHold (i : Image) (k b : ℕ) (side : Side) : Type 0 where
 
 -- Store: nobody else holds the block. It gets the covered bytes, and the kept pad's bytes outside.
 -- What a crash may leave of it is something from before, or these bytes.
-pub record CanStore (A : ℕ) (i : Image) (k : ℕ) (c : Client) (p : Pads) (b : ℕ) (bytes : List ℕ) (past : List (List ℕ)) : Type 0 where
+pub record CanStore (A : ℕ) (i : Image) (k : ℕ) (c : Client) (p : Pads) (b : ℕ) (bytes : List ℕ)
+    (past : List (List ℕ)) : Type 0 where
   pub free : (h : Hold) → i.holder b ≡ Some h → h.place ≡ k
   pub whole : length bytes ≡ A
   pub merged : (x : ℕ) → x < A → get_or bytes x 0 ≡ merged_at A c p b x
@@ -70,7 +71,8 @@ MayDo A w c p (Lists {k = k} n) = TrackerMay w.tracker (list_op A c k) (Listed n
 MayDo A w c p (Starts {k = k}) = TrackerMay w.tracker (Start k) Started
 MayDo A w c p (Loads {b = b} bytes) = CanRead A w b bytes
 MayDo A w c p LoadFails = Unit {0}
-MayDo A w c p (Holds {k = k} {side = side} bytes) = CanHold w.image k (edge A c side) side × CanRead A w (edge A c side) bytes
+MayDo A w c p (Holds {k = k} {side = side} bytes) = CanHold w.image k (edge A c side) side
+    × CanRead A w (edge A c side) bytes
 MayDo A w c p (HoldFails {k = k} {side = side}) = CanHold w.image k (edge A c side) side
 MayDo A w c p (Stores {k = k} {b = b} bytes past) =
     CanStore A w.image k c p b bytes past × MayKeep w b bytes past × ((w.plans (stripe_of b)).store ≡ None)
@@ -82,8 +84,8 @@ MayDo A w c p (SyncFails {s = s}) = w.image.clean s ≡ false
 MayDo A w c p (Frees {k = k} {side = side}) = (h : Hold) × ((w.image.holder (edge A c side) ≡ Some h) × (h.place ≡ k))
 MayDo A w c p (Ends {k = k}) = TrackerMay w.tracker (End k) Ended
 
--- A request is made for a session that is attached. It has no way yet; one that wants no buffer was refused none; a WRITE
--- has the bytes that it announced, or none where its buffers were refused, and no other request has any.
+-- A request is made for a session that is attached. It has no way yet; one that wants no buffer was refused none; a
+-- WRITE has the bytes that it announced, or none where its buffers were refused, and no other request has any.
 pub record CanAsk (w : World) (r : ℕ) (c : Client) : Type 0 where
   pub next : r ≡ w.next
   pub room : r < 2 ^ 64 - 1

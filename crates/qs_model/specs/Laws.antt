@@ -86,7 +86,8 @@ pub record ReadsOnce (A : ℕ) (es : List Element) : Type 0 where
 -- A write that is Fine has written each byte that it covers exactly once, and no disk refused it.
 abbrev pub WritesOnce : ℕ → List Element → Type 0
 WritesOnce A es = (r : ℕ) (c : Client) (before : List Element) (e : Element) → ComesBehind before e es →
-    Answered r c Fine e → writes c ≡ true → (x : ℕ) → covers c x ≡ true → entries A x r before ≡ Write r (body_at c x) ∷ []
+    Answered r c Fine e → writes c ≡ true → (x : ℕ) → covers c x ≡ true →
+    entries A x r before ≡ Write r (body_at c x) ∷ []
 
 -- Between two block entries of a serialising request no block entry of another stands on a block of
 -- its span aligned outward.
@@ -175,8 +176,8 @@ abbrev pub WasAnswered : ℕ → List Element → Type 0
 WasAnswered r [] = ⊥
 WasAnswered r (e ∷ es) = IsAnswer r e ⊎ WasAnswered r es
 
--- Behind these steps a session has seen the entry e of the byte at x, which stands behind `front`: it is an entry of one of its
--- requests, and that request was answered.
+-- Behind these steps a session has seen the entry e of the byte at x, which stands behind `front`: it is an entry of
+-- one of its requests, and that request was answered.
 pub record HasSeen (A x session : ℕ) (steps front : List Element) (e : Element) : Type 0 where
   pub stands : ComesBehind front e steps
   pub number : ℕ
@@ -195,19 +196,20 @@ pub record IsNoneOlder (A x r : ℕ) (before : List Element) : Type 0 where
   pub seen : (front : List Element) (e : Element) → HasSeen A x client.session made front e → ComesBehind front e before
 
 abbrev pub NoneOlder : ℕ → List Element → Type 0
-NoneOlder A es = (x r : ℕ) (before : List Element) (e : Element) → ComesBehind before e es → IsRead A x r e → IsNoneOlder A x r before
+NoneOlder A es = (x r : ℕ) (before : List Element) (e : Element) → ComesBehind before e es → IsRead A x r e →
+    IsNoneOlder A x r before
 
--- The headline, clause by clause: each byte's reads and writes form one legal history of a single cell, none older than its session
--- had seen; only a write covering a byte changes it; a padded write is undivided. Where the disks tell no content, nothing is
--- said of the bytes.
+-- The headline, clause by clause: each byte's reads and writes form one legal history of a single cell, none older
+-- than its session had seen; only a write covering a byte changes it; a padded write is undivided. Where the disks
+-- tell no content, nothing is said of the bytes.
 pub record Headline (A : ℕ) (w : World) (es : List Element) : Type 0 where
   pub one_history : IsTrue w.tells → Histories A w es
   pub none_older : NoneOlder A es
   pub covered : IsTrue w.tells → Covered A w es
   pub undivided : Undivided A es
 
--- What is kept besides: when requests act, what each READ and WRITE has done once, no odd answer, no store without leave and none
--- over a read-only file node, the order of spans, places, and that each step is an event's.
+-- What is kept besides: when requests act, what each READ and WRITE has done once, no odd answer, no store without
+-- leave and none over a read-only file node, the order of spans, places, and that each step is an event's.
 pub record Besides (A : ℕ) (w : World) (es : List Element) : Type 0 where
   pub between : Between es
   pub reads_once : ReadsOnce A es

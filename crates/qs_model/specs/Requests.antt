@@ -162,8 +162,8 @@ new_request c = record {
 abbrev pub success : Client → List ℕ → Verdict
 success c got = if reads c then Got got else Fine
 
--- A request that has its way: the first rule that refuses it; a FLUSH syncs, whatever places it names; nothing is to be done
--- to no place, nor by a TRIM; else List.
+-- A request that has its way: the first rule that refuses it; a FLUSH syncs, whatever places it names; nothing is to
+-- be done to no place, nor by a TRIM; else List.
 unfoldable pub routed : Client → Step
 routed c =
     if wants_writable c.ask.kind && not c.route.writable then ToEnd (Refused Perm)

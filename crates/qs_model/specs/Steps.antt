@@ -25,7 +25,8 @@ abbrev pub moved : ℕ → Client → Bool → Pads → {stage : Stage} → Act 
 moved A c d p Answers = None
 moved A c d p (Waits {stage = stage} wait) = request_if_kept c d p stage
 moved A c d p (Enters k) = request_if_kept c d p (In k ToRoute)
-moved A c d p (Routes {k = k} route) = request_if_kept (record c { route = route }) d p (In k (routed (record c { route = route })))
+moved A c d p (Routes {k = k} route) = request_if_kept (record c { route = route }) d p
+    (In k (routed (record c { route = route })))
 moved A c d p (Shuts {k = k}) = request_if_kept c d p (In k (ToEnd (Refused Shutdown)))
 moved A c d p (Lists {k = k} n) = request_if_kept c d p (In k ToStart)
 moved A c d p (Starts {k = k}) = request_if_kept c d p (In k (started A c))

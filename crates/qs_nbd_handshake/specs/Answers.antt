@@ -61,7 +61,8 @@ names_text other = []
 -- the informations on an export: EXPORT always, BLOCK_SIZE where it was asked for
 abbrev pub informations : ℕ → Bool → Bool → ExportInfo2 → List ℕ
 informations number structured sizes info =
-    reply_bytes number (Export info.size (flags_of_export info structured)) ++ (if sizes then reply_bytes number BlockSize else [])
+    reply_bytes number (Export info.size (flags_of_export info structured))
+    ++ (if sizes then reply_bytes number BlockSize else [])
 
 -- INFO and GO: the informations and an ACK, or why there are none
 abbrev pub info_text : ℕ → Bool → Bool → Told → List ℕ

@@ -31,7 +31,8 @@ pub record ReadsOnce : Type 0 where
 -- an event that wants something, what one may be told who wants this.
 pub record GoesOn : Type 0 where
   pub none : (old new : Reader) → (bytes : List ℕ) → Reaches old bytes None new → CanFeed new.phase
-  pub flags : (old new : Reader) → (bytes : List ℕ) → (flags : ℕ) → Reaches old bytes (Some (event.Flags flags)) new → CanFeed new.phase
+  pub flags : (old new : Reader) → (bytes : List ℕ) → (flags : ℕ) → Reaches old bytes (Some (event.Flags flags)) new →
+      CanFeed new.phase
   pub wanted : (old new : Reader) → (bytes : List ℕ) → (w : Want) → (t : Told) →
       Reaches old bytes (Some (event.Wanted w)) new → CanTell w t → CanAnswer new.phase t
   pub stays : (terms : Terms) → (phase : Phase) → (t : Told) → (new : Reader) →
@@ -39,6 +40,8 @@ pub record GoesOn : Type 0 where
 
 -- A question is read as its name and numbers, and data that are taken are the spelling of the question that is read.
 pub record SpellsQuestions : Type 0 where
-  pub again : (q : Question) → FitsQuestion q → (inquiry_of (question_bytes q) ≡ Some (inquiry_for q)) × (question_of (question_bytes q) ≡ q)
+  pub again : (q : Question) → FitsQuestion q →
+      (inquiry_of (question_bytes q) ≡ Some (inquiry_for q)) × (question_of (question_bytes q) ≡ q)
   pub one : (bytes : List ℕ) → (inquiry : Inquiry) → AreBytes bytes → inquiry_of bytes ≡ Some inquiry →
-      FitsQuestion (question_of bytes) × (bytes ≡ question_bytes (question_of bytes)) × (inquiry ≡ inquiry_for (question_of bytes))
+      FitsQuestion (question_of bytes) × (bytes ≡ question_bytes (question_of bytes))
+      × (inquiry ≡ inquiry_for (question_of bytes))

@@ -29,7 +29,10 @@ pub record Reader : Type 0 where
 
 -- nothing is agreed on yet
 abbrev pub opening_reader : Reader
-opening_reader = record { terms = record { fixed = false; mode = record { no_zeroes = false; structured = false } }; phase = InFlags [] }
+opening_reader = record {
+  terms = record { fixed = false; mode = record { no_zeroes = false; structured = false } };
+  phase = InFlags [];
+}
 
 -- bytes are awaited, or all that follows is refused
 abbrev pub CanFeed : Phase → Type 0
@@ -45,7 +48,13 @@ flags_event flags None = event.Bad (BadFlags flags)
 -- and the handshake behind them
 abbrev pub behind_flags : Terms → ℕ → Option ClientFlags → Reader
 behind_flags terms flags (Some known) = record {
-  terms = record { fixed = known.fixed; mode = record { no_zeroes = known.no_zeroes; structured = terms.mode.structured } };
+  terms = record {
+    fixed = known.fixed;
+    mode = record {
+      no_zeroes = known.no_zeroes;
+      structured = terms.mode.structured;
+    };
+  };
   phase = InOption [];
 }
 behind_flags terms flags None = record { terms = terms; phase = Stuck (BadFlags flags) }
@@ -58,7 +67,8 @@ data_size None size = size
 -- how many bytes the option has that begins with these, or what is refused of it; its head's 16 until
 -- they are there
 abbrev pub option_size : Bool → List ℕ → ℕ
-option_size fixed bytes = let h = option_head_of bytes in if nat_lt (length bytes) 16 then 16 else 16 + data_size (option_fault fixed h) h.length
+option_size fixed bytes = let h = option_head_of bytes in if nat_lt (length bytes) 16 then 16
+    else 16 + data_size (option_fault fixed h) h.length
 
 -- what a whole option tells, or a refused head
 abbrev pub event_of : Option SessionEnd → Wish → HandEvent
@@ -88,14 +98,16 @@ FlagsTell terms bytes (Some told) new =
 
 -- What stands at the end of these bytes of an option, and the handshake there.
 abbrev pub OptionTells : Terms → List ℕ → Option HandEvent → Reader → Type 0
-OptionTells terms bytes None new = (length bytes < option_size terms.fixed bytes) × (new ≡ record { terms = terms; phase = InOption bytes })
+OptionTells terms bytes None new = (length bytes < option_size terms.fixed bytes)
+    × (new ≡ record { terms = terms; phase = InOption bytes })
 OptionTells terms bytes (Some told) new =
     (length bytes ≡ option_size terms.fixed bytes) × (told ≡ option_event terms.fixed bytes)
     × (new ≡ record { terms = terms; phase = option_phase terms.fixed bytes })
 
 -- A refusal stays: nothing is taken, and it is told again.
 abbrev pub StaysStuck : Terms → SessionEnd → List ℕ → Option HandEvent → Reader → Type 0
-StaysStuck terms bad bytes told new = (bytes ≡ []) × (told ≡ Some (event.Bad bad)) × (new ≡ record { terms = terms; phase = Stuck bad })
+StaysStuck terms bad bytes told new = (bytes ≡ []) × (told ≡ Some (event.Bad bad))
+    × (new ≡ record { terms = terms; phase = Stuck bad })
 
 -- From this phase, these bytes, with this event at their end and none before it, lead to `new`.
 -- Without an event, they are less than what leads to one.

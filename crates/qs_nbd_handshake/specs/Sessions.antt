@@ -66,7 +66,8 @@ EndsWith fixed (InFlags held) rest last = ⊥
 EndsWith fixed (InOption held) rest last = (rest ≡ held) × (length held < option_size fixed held) × (last ≡ [])
 EndsWith fixed (Asked w) rest last = (rest ≡ []) × (last ≡ [])
 EndsWith fixed (Over how) rest last = (rest ≡ []) × (last ≡ [])
-EndsWith fixed (Stuck bad) rest last = IsRefused fixed rest bad × ((again : ℕ) × (last ≡ replicate (again + 1) (event.Bad bad)))
+EndsWith fixed (Stuck bad) rest last = IsRefused fixed rest bad
+    × ((again : ℕ) × (last ≡ replicate (again + 1) (event.Bad bad)))
 
 -- The bytes that were taken are the client's flags, whole options and a rest; what was told is told of
 -- the flags, of these options, each once and in order, and of the rest.
@@ -98,7 +99,8 @@ pub record AwaitsFlags (new : Reader) (bytes : List ℕ) (events : List HandEven
   pub none : events ≡ []
 
 abbrev pub TellsEvents : Reader → List ℕ → List HandEvent → Type 0
-TellsEvents new bytes events = AwaitsFlags new bytes events ⊎ (RefusesFlags new bytes events ⊎ TellsOptions new bytes events)
+TellsEvents new bytes events = AwaitsFlags new bytes events
+    ⊎ (RefusesFlags new bytes events ⊎ TellsOptions new bytes events)
 
 -- however a stream is cut, its flags and options are told, and nothing else
 abbrev pub ReadsSessions : Type 0

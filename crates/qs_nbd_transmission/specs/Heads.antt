@@ -15,7 +15,8 @@ pub record IsHeadFront (bytes : List ℕ) : Type 0 where
 
 -- the types of proto.md, "Request types"
 abbrev pub kind_of : ℕ → Kind
-kind_of n = if n == 0 then Read else (if n == 1 then Write else (if n == 3 then Flush else (if n == 4 then Trim else (if n == 6 then Zero else Unknown n))))
+kind_of n = if n == 0 then Read else (if n == 1 then Write
+    else (if n == 3 then Flush else (if n == 4 then Trim else (if n == 6 then Zero else Unknown n))))
 
 -- one of the flags of proto.md, "Command flags", is set: FUA is 1, NO_HOLE 2 and DF 4
 abbrev pub has_flag : ℕ → ℕ → Bool
@@ -25,7 +26,8 @@ has_flag flags flag = not (bit_and flags flag == 0)
 -- structured, and no other flag fits any
 abbrev pub flags_fit_of : Bool → RequestHead → Bool
 flags_fit_of structured h =
-    nat_lt h.flags 8 && (not (has_flag h.flags 2) || h.kind == 6) && (not (has_flag h.flags 4) || (structured && h.kind == 0))
+    nat_lt h.flags 8 && (not (has_flag h.flags 2) || h.kind == 6) && (not
+    (has_flag h.flags 4) || (structured && h.kind == 0))
 
 -- what the head asks for
 abbrev pub ask_of : Bool → RequestHead → Ask

@@ -21,7 +21,8 @@ JoinsPieces =
 
 -- where two streams begin alike, the first event of each stands at the same place, and it is the same
 pub record ReadsOnce : Type 0 where
-  pub same : (structured : Bool) → (old one other : Phase) → (first second more rest : List ℕ) → (told again : WireEvent) →
+  pub same : (structured : Bool) → (old one other : Phase) → (first second more rest : List ℕ) →
+      (told again : WireEvent) →
       Reaches structured old first (Some told) one → Reaches structured old second (Some again) other →
       first ++ more ≡ second ++ rest → (first ≡ second) × (told ≡ again) × (one ≡ other)
   pub none : (structured : Bool) → (old one other : Phase) → (first more : List ℕ) → (told : WireEvent) →
@@ -30,7 +31,8 @@ pub record ReadsOnce : Type 0 where
 -- a message is told whole: its head with what it asks for, and the data of a WRITE in the room given
 pub record TellsMessages : Type 0 where
   pub head : (structured : Bool) → (m : Message) → IsMessage m →
-      Reaches structured (InHead []) (head_bytes m.head) (Some (event.Head (ask_of structured m.head))) (behind_head m.head)
+      Reaches structured (InHead []) (head_bytes m.head) (Some (event.Head (ask_of structured m.head)))
+      (behind_head m.head)
   pub kept : (structured : Bool) → (m : Message) → IsMessage m → has_body m.head ≡ true →
       Reaches structured (Fills m.head []) m.body (Some (event.Body (Keep m.body))) (InHead [])
   pub dropped : (structured : Bool) → (m : Message) → IsMessage m → has_body m.head ≡ true →
@@ -49,7 +51,8 @@ pub record AsksRoom : Type 0 where
 -- a stream is these messages and no others, up to a rest that begins with no whole message
 abbrev pub HasOneReading : Type 0
 HasOneReading =
-    (xs ys : List Message) → (rest other : List ℕ) → All IsMessage xs → All IsMessage ys → BeginsNone rest → BeginsNone other →
+    (xs ys : List Message) → (rest other : List ℕ) → All IsMessage xs → All IsMessage ys → BeginsNone rest →
+    BeginsNone other →
     flat_map spelling xs ++ rest ≡ flat_map spelling ys ++ other → (xs ≡ ys) × (rest ≡ other)
 
 -- an event by which a session ends
@@ -62,18 +65,21 @@ IsEnding other = ⊥
 -- what is refused or leaves, whatever follows it
 pub record RestsBegin : Type 0 where
   pub front : (bytes : List ℕ) → IsHeadFront bytes → BeginsNone bytes
-  pub partial : (h : RequestHead) → (got : List ℕ) → FitsHead h → has_body h ≡ true → length got < h.size → BeginsNone (head_bytes h ++ got)
+  pub partial : (h : RequestHead) → (got : List ℕ) → FitsHead h → has_body h ≡ true → length got < h.size →
+      BeginsNone (head_bytes h ++ got)
   pub refused : (structured : Bool) → (bytes more : List ℕ) → (told : WireEvent) → (new : Phase) → IsEnding told →
       Reaches structured (InHead []) bytes (Some told) new → BeginsNone (bytes ++ more)
 
 -- of two replies to one request, neither is the beginning of the other, unless they are equal
 abbrev pub RepliesStandApart : Type 0
 RepliesStandApart =
-    (structured : Bool) → (ask : Ask) → (verdict other : Verdict) → (more : List ℕ) → CanReply ask verdict → CanReply ask other →
+    (structured : Bool) → (ask : Ask) → (verdict other : Verdict) → (more : List ℕ) → CanReply ask verdict →
+    CanReply ask other →
     reply_of structured ask other ≡ reply_of structured ask verdict ++ more → more ≡ []
 
 -- what is wanted until the next event falls with each byte that brings none
 abbrev pub WantsLess : Type 0
 WantsLess =
-    (structured : Bool) → (old new : Phase) → (bytes : List ℕ) → 0 < length bytes → Reaches structured old bytes None new →
+    (structured : Bool) → (old new : Phase) → (bytes : List ℕ) → 0 < length bytes →
+    Reaches structured old bytes None new →
     need new < need old

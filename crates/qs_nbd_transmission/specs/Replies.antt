@@ -45,7 +45,8 @@ chunk_head kind cookie size = bytes32 0x668e33ef ++ bytes16 1 ++ bytes16 kind ++
 -- else OFFSET_DATA (1) with the offset
 abbrev pub bytes_front : Ask → List ℕ
 bytes_front ask =
-    if ask.length == 0 then chunk_head 0 ask.cookie 0 else chunk_head 1 ask.cookie (8 + ask.length) ++ bytes64 ask.offset
+    if ask.length == 0 then chunk_head 0 ask.cookie 0
+    else chunk_head 1 ask.cookie (8 + ask.length) ++ bytes64 ask.offset
 
 -- the chunk that answers a READ with an error: of type ERROR (0x8001), with the number and an empty text
 abbrev pub error_front : ℕ → Errno → List ℕ

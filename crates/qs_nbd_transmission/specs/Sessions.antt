@@ -23,7 +23,8 @@ CallLeads structured old (Gave room) new = CanGive old room × (new ≡ phase_wi
 -- the calls lead, one after the other, from one phase to another
 abbrev pub CallsLead : Bool → Phase → List ReaderCall → Phase → Type 0
 CallsLead structured old [] new = new ≡ old
-CallsLead structured old (call ∷ calls) new = (middle : Phase) × (CallLeads structured old call middle × CallsLead structured middle calls new)
+CallsLead structured old (call ∷ calls) new = (middle : Phase)
+    × (CallLeads structured old call middle × CallsLead structured middle calls new)
 
 -- the bytes that a call took
 abbrev pub taken_by : ReaderCall → List ℕ
@@ -72,14 +73,17 @@ pub record IsAwaiting (h : RequestHead) : Type 0 where
 -- head and less than its data; a DISC; or what is refused, which is told once or more often.
 abbrev pub EndsWith : Bool → Phase → List ℕ → List WireEvent → Type 0
 EndsWith structured (InHead held) rest last = (rest ≡ held) × IsHeadFront held × (last ≡ [])
-EndsWith structured (Wants h) rest last = IsAwaiting h × (rest ≡ head_bytes h) × (last ≡ event.Head (ask_of structured h) ∷ [])
+EndsWith structured (Wants h) rest last = IsAwaiting h × (rest ≡ head_bytes h)
+    × (last ≡ event.Head (ask_of structured h) ∷ [])
 EndsWith structured (Fills h got) rest last =
     IsAwaiting h × (rest ≡ head_bytes h ++ got) × (length got < h.size) × (last ≡ event.Head (ask_of structured h) ∷ [])
 EndsWith structured (Skips h left) rest last =
-    IsAwaiting h × ((got : List ℕ) × ((rest ≡ head_bytes h ++ got) × (length got + left ≡ h.size))) × (0 < left) × (last ≡ event.Head (ask_of structured h) ∷ [])
+    IsAwaiting h × ((got : List ℕ) × ((rest ≡ head_bytes h ++ got) × (length got + left ≡ h.size))) × (0 < left)
+    × (last ≡ event.Head (ask_of structured h) ∷ [])
 EndsWith structured Over rest last = HeadTells structured rest (Some event.Disc) Over × (last ≡ event.Disc ∷ [])
 EndsWith structured (Stuck bad) rest last =
-    HeadTells structured rest (Some (event.Bad bad)) (Stuck bad) × ((again : ℕ) × (last ≡ replicate (again + 1) (event.Bad bad)))
+    HeadTells structured rest (Some (event.Bad bad)) (Stuck bad)
+    × ((again : ℕ) × (last ≡ replicate (again + 1) (event.Bad bad)))
 
 -- The bytes that were taken are the spellings of whole messages and a rest; what was told is told of
 -- these messages, each once and in order, and of the rest.

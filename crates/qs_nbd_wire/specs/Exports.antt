@@ -42,4 +42,5 @@ zeros_told left_out = if left_out then [] else replicate 124 0
 
 -- the answer to EXPORT_NAME
 abbrev pub export_answer : Mode → ExportInfo2 → List ℕ
-export_answer mode info = bytes64 info.size ++ bytes16 (flags_of_export info mode.structured) ++ zeros_told mode.no_zeroes
+export_answer mode info = bytes64 info.size ++ bytes16 (flags_of_export info mode.structured)
+    ++ zeros_told mode.no_zeroes

@@ -10,4 +10,5 @@ greeting_bytes = bytes64 0x4e42444d41474943 ++ bytes64 option_magic ++ bytes16 3
 
 -- the client's flags, of the same meanings; a bit above 1 has none
 abbrev pub flags_of : ℕ → Option ClientFlags
-flags_of flags = if nat_lt 3 flags then None else Some (record { fixed = flags == 1 || flags == 3; no_zeroes = nat_lt 1 flags })
+flags_of flags = if nat_lt 3 flags then None else Some
+    (record { fixed = flags == 1 || flags == 3; no_zeroes = nat_lt 1 flags })

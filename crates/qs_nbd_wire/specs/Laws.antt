@@ -19,7 +19,8 @@ pub record SpellsFlags : Type 0 where
 pub record SpellsOptions : Type 0 where
   pub whole : (o : ClientOption) → length (option_bytes o) ≡ 16 + length o.content
   pub again : (o : ClientOption) → (more : List ℕ) → FitsOption o →
-      option_head_of (option_bytes o ++ more) ≡ record { magic = option_magic; number = o.number; length = length o.content }
+      option_head_of (option_bytes o ++ more)
+      ≡ record { magic = option_magic; number = o.number; length = length o.content }
   pub one : (bytes : List ℕ) → AreBytes bytes → (option_head_of bytes).magic ≡ option_magic →
       length bytes ≡ 16 + (option_head_of bytes).length →
       bytes ≡ option_bytes (record { number = (option_head_of bytes).number; content = drop 16 bytes })

@@ -18,7 +18,8 @@ pub record FitsHead (h : RequestHead) : Type 0 where
 
 -- the one spelling of a head
 unfoldable pub head_bytes : RequestHead → List ℕ
-head_bytes h = bytes32 request_magic ++ bytes16 h.flags ++ bytes16 h.kind ++ bytes64 h.cookie ++ bytes64 h.offset ++ bytes32 h.size
+head_bytes h = bytes32 request_magic ++ bytes16 h.flags ++ bytes16 h.kind ++ bytes64 h.cookie ++ bytes64 h.offset
+    ++ bytes32 h.size
 
 -- the head that 28 bytes spell
 unfoldable pub head_of : List ℕ → RequestHead

@@ -91,7 +91,8 @@ first_of (Some user) other = Some user
 
 -- the first user of the node at a place: the first node over it, else the export
 abbrev pub user_of : List Node → ℕ → Option (List ℕ) → Option User
-user_of nodes place export = first_of (option_map (λ (n : Node). NodeUser n.name) (first_user nodes place)) (option_map ExportUser export)
+user_of nodes place export = first_of (option_map (λ (n : Node). NodeUser n.name) (first_user nodes place))
+    (option_map ExportUser export)
 
 -- the first user of a node that would get another size
 abbrev pub resized_user : List Node → Node → ℕ → Option (List ℕ) → Option User

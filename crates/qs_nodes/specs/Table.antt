@@ -75,7 +75,8 @@ AddsRaw v name child offset size read_only (Err (OutOfRange all)) new =
 AddsRaw v name child offset size read_only (Err Full) new =
     (below : Node) × (IsOver v name child below × Lies below.size offset size × LowestFree v.nodes None × (new ≡ v))
 AddsRaw v name child offset size read_only (Err Memory) new =
-    (below : Node) × (place : ℕ) × (IsOver v name child below × Lies below.size offset size × LowestFree v.nodes (Some place) × (new ≡ v))
+    (below : Node) × (place : ℕ) × (IsOver v name child below × Lies below.size offset size
+    × LowestFree v.nodes (Some place) × (new ≡ v))
 AddsRaw v name child offset size read_only (Err _) new = ⊥
 AddsRaw v name child offset size read_only (Ok place) new =
     (below : Node) × (IsOver v name child below × Lies below.size offset size × LowestFree v.nodes (Some place)
@@ -100,7 +101,8 @@ AddsThrottle v name child group read_only (Err NoGroup) new =
 AddsThrottle v name child group read_only (Err Deep) new =
     (below : Node) × (slot : ℕ) × (IsMember v name child group below slot × (8 ≤ below.depth) × (new ≡ v))
 AddsThrottle v name child group read_only (Err Full) new =
-    (below : Node) × (slot : ℕ) × (IsMember v name child group below slot × (below.depth < 8) × LowestFree v.nodes None × (new ≡ v))
+    (below : Node) × (slot : ℕ) × (IsMember v name child group below slot × (below.depth < 8)
+    × LowestFree v.nodes None × (new ≡ v))
 AddsThrottle v name child group read_only (Err Memory) new =
     (below : Node) × (slot : ℕ) × (place : ℕ)
     × (IsMember v name child group below slot × (below.depth < 8) × LowestFree v.nodes (Some place) × (new ≡ v))
@@ -120,12 +122,14 @@ Deletes v name export (Err (NoNode missing)) new =
     (position (has_name name) v.nodes ≡ None) × (missing ≡ name) × (new ≡ v)
 Deletes v name export (Err Root) new = (i : ℕ) × (n : Node) × (IsAt v name i n × (n.place ≡ 0) × (new ≡ v))
 Deletes v name export (Err (InUse (NodeUser above))) new =
-    (i : ℕ) × (n : Node) × (m : Node) × (IsUpper v name i n × (first_user v.nodes n.place ≡ Some m) × (above ≡ m.name) × (new ≡ v))
+    (i : ℕ) × (n : Node) × (m : Node) × (IsUpper v name i n × (first_user v.nodes n.place ≡ Some m) × (above ≡ m.name)
+    × (new ≡ v))
 Deletes v name export (Err (InUse (ExportUser id))) new =
     (i : ℕ) × (n : Node) × (IsUpper v name i n × (first_user v.nodes n.place ≡ None) × (export ≡ Some id) × (new ≡ v))
 Deletes v name export (Err _) new = ⊥
 Deletes v name export (Ok done) new =
-    (i : ℕ) × (n : Node) × (IsUpper v name i n × (first_user v.nodes n.place ≡ None) × (export ≡ None) × (new ≡ without_node v i))
+    (i : ℕ) × (n : Node) × (IsUpper v name i n × (first_user v.nodes n.place ≡ None) × (export ≡ None)
+    × (new ≡ without_node v i))
 
 -- the node of this name, and that of its child's
 abbrev pub AreAt : NodesValue → List ℕ → List ℕ → ℕ → Node → Node → Type 0
@@ -143,7 +147,8 @@ Reopens v name child offset size i n below =
     AreAt v name child i n below × (raw_child n.kind ≡ Some below.place) × Lies below.size offset size
 
 -- What answers another part for a raw node, and what it leaves. `export` is the first export over it.
-abbrev pub ReopensRaw : NodesValue → List ℕ → List ℕ → ℕ → Option ℕ → Option (List ℕ) → Result Unit Refused → NodesValue → Type 0
+abbrev pub ReopensRaw : NodesValue → List ℕ → List ℕ → ℕ → Option ℕ → Option (List ℕ) → Result Unit Refused →
+    NodesValue → Type 0
 ReopensRaw v name child offset size export (Err (NoNode missing)) new = IsMissing v name child missing × (new ≡ v)
 ReopensRaw v name child offset size export (Err OtherKind) new =
     (i : ℕ) × (n : Node) × (below : Node) × (AreAt v name child i n below × (raw_child n.kind ≡ None) × (new ≡ v))
@@ -175,10 +180,12 @@ ReopensThrottle v name child group (Err OtherFile) new =
     (i : ℕ) × (n : Node) × (below : Node) × (other : ℕ)
     × (AreAt v name child i n below × (throttle_child n.kind ≡ Some other) × (other ≢ below.place) × (new ≡ v))
 ReopensThrottle v name child group (Err NoGroup) new =
-    (i : ℕ) × (n : Node) × (below : Node) × (IsThrottle v name child i n below × (slot_of v.groups group ≡ None) × (new ≡ v))
+    (i : ℕ) × (n : Node) × (below : Node) × (IsThrottle v name child i n below × (slot_of v.groups group ≡ None)
+    × (new ≡ v))
 ReopensThrottle v name child group (Err _) new = ⊥
 ReopensThrottle v name child group (Ok done) new =
-    (i : ℕ) × (n : Node) × (below : Node) × (slot : ℕ) × (IsThrottle v name child i n below × (slot_of v.groups group ≡ Some slot)
+    (i : ℕ) × (n : Node) × (below : Node) × (slot : ℕ)
+    × (IsThrottle v name child i n below × (slot_of v.groups group ≡ Some slot)
     × (new ≡ set_node v i (record n { kind = Throttle below.place slot })))
 
 -- what answers a new group, and what it leaves
@@ -193,7 +200,9 @@ AddsGroup v id (Ok slot) new =
 abbrev pub EndsGroup : NodesValue → List ℕ → Result Unit Refused → NodesValue → Type 0
 EndsGroup v id (Err NoGroup) new = (slot_of v.groups id ≡ None) × (new ≡ v)
 EndsGroup v id (Err (InUse (NodeUser name))) new =
-    (slot : ℕ) × (n : Node) × ((slot_of v.groups id ≡ Some slot) × (first_member v.nodes slot ≡ Some n) × (name ≡ n.name) × (new ≡ v))
+    (slot : ℕ) × (n : Node) × ((slot_of v.groups id ≡ Some slot) × (first_member v.nodes slot ≡ Some n)
+    × (name ≡ n.name) × (new ≡ v))
 EndsGroup v id (Err _) new = ⊥
 EndsGroup v id (Ok done) new =
-    (slot : ℕ) × ((slot_of v.groups id ≡ Some slot) × (first_member v.nodes slot ≡ None) × (new ≡ with_group v slot None))
+    (slot : ℕ) × ((slot_of v.groups id ≡ Some slot) × (first_member v.nodes slot ≡ None)
+    × (new ≡ with_group v slot None))

@@ -5,7 +5,8 @@ use Rattle.qs_nbd_handshake.specs.declared.event.HandEvent.{HandEvent}
 use Rattle.qs_stream.specs.Flows.{Flow, IsUsedUp, Moved, Tells}
 
 -- the handshake took a front of the bytes that wait, all of them where it found nothing
-pub record Feeds (old : Reader) (waiting : List ℕ) (found : Option HandEvent) (new : Reader) (waiting' : List ℕ) : Type 0 where
+pub record Feeds (old : Reader) (waiting : List ℕ) (found : Option HandEvent) (new : Reader)
+    (waiting' : List ℕ) : Type 0 where
   pub taken : List ℕ
   pub joined : waiting ≡ taken ++ waiting'
   pub reaches : Reaches old taken found new
@@ -18,7 +19,8 @@ Finds old taken (Ok None) new after = Reaches old taken None new × IsUsedUp aft
 Finds old taken (Err e) new after = Reaches old taken None new
 
 -- the next event was sought in the input
-pub record Seeks {E : Type 0} (old : Reader) (before : Flow) (result : Result (Option HandEvent) E) (new : Reader) (after : Flow) : Type 0 where
+pub record Seeks {E : Type 0} (old : Reader) (before : Flow) (result : Result (Option HandEvent) E) (new : Reader)
+    (after : Flow) : Type 0 where
   pub taken : List ℕ
   pub moved : Moved taken [] before after
   pub tells : Tells result after.stream.state

@@ -1,4 +1,5 @@
--- Options, one after the other, and what answers them. All of it is determined by the client's bytes and by the exports.
+-- Options, one after the other, and what answers them. All of it is determined by the client's bytes and by the
+-- exports.
 use Rattle.std.specs.Prelude.{◌≡◌, ℕ, List, [], ◌∷◌, ◌++◌}
 use Rattle.qs_graph.specs.Table.{GraphValue}
 use Rattle.qs_nbd_handshake.specs.declared.event.HandStep.{HandStep}
@@ -35,10 +36,12 @@ terms_after terms (option ∷ options) = terms_after (terms_behind terms option)
 -- what they are answered, in their order
 abbrev pub answers_to : GraphValue → Terms → List (List ℕ) → List ℕ
 answers_to graph terms [] = []
-answers_to graph terms (option ∷ options) = text_for graph terms option ++ answers_to graph (terms_behind terms option) options
+answers_to graph terms (option ∷ options) = text_for graph terms option
+    ++ answers_to graph (terms_behind terms option) options
 
 -- each is a whole option, behind which options go on
 abbrev pub AllStay : GraphValue → Terms → List (List ℕ) → Type 0
 AllStay graph terms [] = Unit {0}
 AllStay graph terms (option ∷ options) =
-    IsOption terms.fixed option × (step_for graph terms option ≡ Stay) × AllStay graph (terms_behind terms option) options
+    IsOption terms.fixed option × (step_for graph terms option ≡ Stay)
+    × AllStay graph (terms_behind terms option) options

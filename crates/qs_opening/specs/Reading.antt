@@ -21,9 +21,11 @@ flags_call flags = Took flags (Some (event.Flags (number32 flags 0)))
 
 -- an option was taken, and what the exports tell was told for it
 abbrev pub option_calls : GraphValue → List ℕ → List HandshakeCall
-option_calls graph option = Took option (Some (event.Wanted (want_of (wish_in option)))) ∷ (Answered (told_for graph option) ∷ [])
+option_calls graph option = Took option (Some (event.Wanted (want_of (wish_in option))))
+    ∷ (Answered (told_for graph option) ∷ [])
 
--- Calls of a handshake lead from its opening, one after the other: they took the flags, each option and the rest, in this order.
+-- Calls of a handshake lead from its opening, one after the other: they took the flags, each option and the rest, in
+-- this order.
 pub record IsRead (graph : GraphValue) (flags : List ℕ) (options : List (List ℕ)) (rest : List ℕ) : Type 0 where
   pub behind : List HandshakeCall
   pub new : Reader
@@ -33,5 +35,7 @@ pub record IsRead (graph : GraphValue) (flags : List ℕ) (options : List (List 
 -- every handshake is read so, as far as it came
 abbrev pub ReadsHandshakes : {D : Type 0} → (D → Seen) → Type 0
 ReadsHandshakes {D} seen =
-    (session : ℕ) → (writable : Bool) → (budget : ℕ) → (before after : Flow) → (old new : WorldValue D) → (result : Result Opened Failed) →
-    (agrees : Agrees {E = Failed} seen session writable budget before old result after new) → IsRead old.graph agrees.flags agrees.options agrees.rest
+    (session : ℕ) → (writable : Bool) → (budget : ℕ) → (before after : Flow) → (old new : WorldValue D) →
+    (result : Result Opened Failed) →
+    (agrees : Agrees {E = Failed} seen session writable budget before old result after new) →
+    IsRead old.graph agrees.flags agrees.options agrees.rest

@@ -29,8 +29,10 @@ graph_told graph (want.Attach name) = told_name graph name
 graph_told graph want.Names = told.Names (names_of graph)
 
 -- the session was attached to this export by a name, or nothing changed where there is none
-abbrev pub JoinsAt : {D : Type 0} → (D → Seen) → ℕ → Bool → WorldValue D → List ℕ → Option ExportInfo → WorldValue D → Type 0
-JoinsAt seen session writable old name (Some known) new = (info : ExportInfo) × Attaches seen session writable old name info new
+abbrev pub JoinsAt : {D : Type 0} → (D → Seen) → ℕ → Bool → WorldValue D → List ℕ → Option ExportInfo → WorldValue D →
+    Type 0
+JoinsAt seen session writable old name (Some known) new = (info : ExportInfo)
+    × Attaches seen session writable old name info new
 JoinsAt seen session writable old name None new = new ≡ old
 
 abbrev pub Joins : {D : Type 0} → (D → Seen) → ℕ → Bool → WorldValue D → Option (List ℕ) → WorldValue D → Type 0

@@ -58,26 +58,32 @@ pub record IsAsked (terms : Terms) (taken : List ℕ) (new : Reader) : Type 0 wh
 -- an option came, or the session ended before; where the stream failed, less than an option came
 abbrev pub Comes : {E : Type 0} → Terms → List ℕ → Result Came E → Reader → Flow → Type 0
 Comes terms taken (Ok (came.Asked want)) new after = IsAsked terms taken new × (want ≡ want_of (wish_in taken))
-Comes terms taken (Ok (came.Ended status)) new after = IsCut terms.fixed status taken after ⊎ IsBad terms.fixed status taken
+Comes terms taken (Ok (came.Ended status)) new after = IsCut terms.fixed status taken after
+    ⊎ IsBad terms.fixed status taken
 Comes terms taken (Err e) new after = (length taken < option_size terms.fixed taken) × (after.stream.state ≢ Open)
 
 -- the next option was sought
-pub record Asking {E : Type 0} (terms : Terms) (before : Flow) (result : Result Came E) (new : Reader) (after : Flow) : Type 0 where
+pub record Asking {E : Type 0} (terms : Terms) (before : Flow) (result : Result Came E) (new : Reader)
+    (after : Flow) : Type 0 where
   pub taken : List ℕ
   pub moved : Moved taken [] before after
   pub comes : Comes terms taken result new after
 
--- An option was answered: by what the core tells, and the answer was put. For want of memory no answer was put, and a session may have been
--- attached before.
-abbrev pub AnswersOption : {D : Type 0} → (D → Seen) → ℕ → Bool → Terms → Wish → WorldValue D → Option HandStep → Reader → WorldValue D → Side → Buffers → Side → Buffers → Type 0
+-- An option was answered: by what the core tells, and the answer was put. For want of memory no answer was put, and a
+-- session may have been attached before.
+abbrev pub AnswersOption : {D : Type 0} → (D → Seen) → ℕ → Bool → Terms → Wish → WorldValue D → Option HandStep →
+    Reader → WorldValue D → Side → Buffers → Side → Buffers → Type 0
 AnswersOption seen session writable terms w old (Some step) reader new output stream output' stream' =
-    (step ≡ hand_step_of terms.mode w (graph_told old.graph (want_of w))) × (reader ≡ reader_behind terms w (graph_told old.graph (want_of w)))
-    × WantChanges seen session writable old (want_of w) new × Puts (text_of terms.mode w (graph_told old.graph (want_of w))) output stream output' stream'
+    (step ≡ hand_step_of terms.mode w (graph_told old.graph (want_of w)))
+    × (reader ≡ reader_behind terms w (graph_told old.graph (want_of w)))
+    × WantChanges seen session writable old (want_of w) new
+    × Puts (text_of terms.mode w (graph_told old.graph (want_of w))) output stream output' stream'
 AnswersOption seen session writable terms w old None reader new output stream output' stream' =
     ((new ≡ old) ⊎ WantChanges seen session writable old (want_of w) new) × (stream' ≡ stream) × (output' ≡ output)
 
 -- Requests follow: the last option was answered so, and the session is attached.
-pub record Transmits {D : Type 0} (seen : D → Seen) (session : ℕ) (writable : Bool) (terms : Terms) (old : WorldValue D) (opened : Opened) (rest given : List ℕ) (new : WorldValue D) : Type 0 where
+pub record Transmits {D : Type 0} (seen : D → Seen) (session : ℕ) (writable : Bool) (terms : Terms)
+    (old : WorldValue D) (opened : Opened) (rest given : List ℕ) (new : WorldValue D) : Type 0 where
   pub mode : Mode
   pub opened_is : opened ≡ Transmit mode
   pub option : IsOption terms.fixed rest
@@ -86,7 +92,8 @@ pub record Transmits {D : Type 0} (seen : D → Seen) (session : ℕ) (writable 
   pub changes : WantChanges seen session writable old (want_of (wish_in rest)) new
 
 -- The last option was answered, and closed the session.
-pub record Closes {D : Type 0} (terms : Terms) (old : WorldValue D) (opened : Opened) (rest given : List ℕ) (new : WorldValue D) : Type 0 where
+pub record Closes {D : Type 0} (terms : Terms) (old : WorldValue D) (opened : Opened) (rest given : List ℕ)
+    (new : WorldValue D) : Type 0 where
   pub how : SessionEnd
   pub opened_is : opened ≡ Ends (status_at how)
   pub option : IsOption terms.fixed rest
@@ -95,14 +102,16 @@ pub record Closes {D : Type 0} (terms : Terms) (old : WorldValue D) (opened : Op
   pub same : new ≡ old
 
 -- Memory was refused for the answer to the last option.
-pub record Starves {D : Type 0} (seen : D → Seen) (session : ℕ) (writable : Bool) (terms : Terms) (old : WorldValue D) (opened : Opened) (rest given : List ℕ) (new : WorldValue D) : Type 0 where
+pub record Starves {D : Type 0} (seen : D → Seen) (session : ℕ) (writable : Bool) (terms : Terms) (old : WorldValue D)
+    (opened : Opened) (rest given : List ℕ) (new : WorldValue D) : Type 0 where
   pub opened_is : opened ≡ Ends Memory
   pub option : IsOption terms.fixed rest
   pub given_is : given ≡ []
   pub changes : (new ≡ old) ⊎ WantChanges seen session writable old (want_of (wish_in rest)) new
 
 -- No whole option that may be sent came.
-pub record Stops {D : Type 0} (terms : Terms) (old : WorldValue D) (opened : Opened) (rest given : List ℕ) (after : Flow) (new : WorldValue D) : Type 0 where
+pub record Stops {D : Type 0} (terms : Terms) (old : WorldValue D) (opened : Opened) (rest given : List ℕ)
+    (after : Flow) (new : WorldValue D) : Type 0 where
   pub status : Status
   pub opened_is : opened ≡ Ends status
   pub given_is : given ≡ []
@@ -110,33 +119,42 @@ pub record Stops {D : Type 0} (terms : Terms) (old : WorldValue D) (opened : Ope
   pub same : new ≡ old
 
 -- How options end, where these bytes were taken and given behind the last that stayed.
-abbrev pub Concludes : {D : Type 0} → (D → Seen) → ℕ → Bool → Terms → WorldValue D → Opened → List ℕ → List ℕ → Flow → WorldValue D → Type 0
+abbrev pub Concludes : {D : Type 0} → (D → Seen) → ℕ → Bool → Terms → WorldValue D → Opened → List ℕ → List ℕ → Flow →
+    WorldValue D → Type 0
 Concludes seen session writable terms old opened rest given after new =
     Transmits seen session writable terms old opened rest given new
-    ⊎ (Closes terms old opened rest given new ⊎ (Starves seen session writable terms old opened rest given new ⊎ Stops terms old opened rest given after new))
+    ⊎ (Closes terms old opened rest given new
+    ⊎ (Starves seen session writable terms old opened rest given new
+    ⊎ Stops terms old opened rest given after new))
 
 -- The stream failed within an option.
-pub record Fails {D : Type 0} (terms : Terms) (old : WorldValue D) (rest given : List ℕ) (after : Flow) (new : WorldValue D) : Type 0 where
+pub record Fails {D : Type 0} (terms : Terms) (old : WorldValue D) (rest given : List ℕ) (after : Flow)
+    (new : WorldValue D) : Type 0 where
   pub short : length rest < option_size terms.fixed rest
   pub given_is : given ≡ []
   pub failed : after.stream.state ≢ Open
   pub same : new ≡ old
 
 -- an option was answered, and options go on
-pub record GoesOn {D : Type 0} (terms : Terms) (old : WorldValue D) (taken given : List ℕ) (reader : Reader) (new : WorldValue D) : Type 0 where
+pub record GoesOn {D : Type 0} (terms : Terms) (old : WorldValue D) (taken given : List ℕ) (reader : Reader)
+    (new : WorldValue D) : Type 0 where
   pub option : IsOption terms.fixed taken
   pub step : step_for old.graph terms taken ≡ Stay
   pub given_is : given ≡ text_for old.graph terms taken
   pub reader_is : reader ≡ record { terms = terms_behind terms taken; phase = InOption [] }
   pub same : new ≡ old
 
-abbrev pub Turns : {E D : Type 0} → (D → Seen) → ℕ → Bool → Terms → WorldValue D → Result Negotiation E → List ℕ → List ℕ → Reader → Flow → WorldValue D → Type 0
-Turns seen session writable terms old (Ok negotiation.Stays) taken given reader after new = GoesOn terms old taken given reader new
-Turns seen session writable terms old (Ok (negotiation.Over opened)) taken given reader after new = Concludes seen session writable terms old opened taken given after new
+abbrev pub Turns : {E D : Type 0} → (D → Seen) → ℕ → Bool → Terms → WorldValue D → Result Negotiation E → List ℕ →
+    List ℕ → Reader → Flow → WorldValue D → Type 0
+Turns seen session writable terms old (Ok negotiation.Stays) taken given reader after new = GoesOn terms old taken
+    given reader new
+Turns seen session writable terms old (Ok (negotiation.Over opened)) taken given reader after new = Concludes seen
+    session writable terms old opened taken given after new
 Turns seen session writable terms old (Err e) taken given reader after new = Fails terms old taken given after new
 
 -- one option was read and answered, or the session ended before, or the stream failed
-pub record TakesTurn {E D : Type 0} (seen : D → Seen) (session : ℕ) (writable : Bool) (terms : Terms) (before : Flow) (old : WorldValue D) (result : Result Negotiation E) (reader : Reader) (after : Flow)
+pub record TakesTurn {E D : Type 0} (seen : D → Seen) (session : ℕ) (writable : Bool) (terms : Terms) (before : Flow)
+    (old : WorldValue D) (result : Result Negotiation E) (reader : Reader) (after : Flow)
     (new : WorldValue D) : Type 0 where
   pub taken : List ℕ
   pub given : List ℕ

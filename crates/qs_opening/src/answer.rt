@@ -27,7 +27,8 @@ pub fn answer_option<O: Sink, D: Disk + Drop>(
 ) -> Option<HandStep>
     requires begins { (disks : List D) × (read_only : Bool) × Begins D.seen disks read_only world.old }
     requires asked { (w : Wish) × ((reader.old.phase ≡ Asked w) × (want.now ≡ want_of w)) }
-    ensures { (w : Wish) (disks : List D) (read_only : Bool) → reader.old.phase ≡ Asked w → want.now ≡ want_of w → Begins D.seen disks read_only world.old →
+    ensures { (w : Wish) (disks : List D) (read_only : Bool) → reader.old.phase ≡ Asked w → want.now ≡ want_of w →
+        Begins D.seen disks read_only world.old →
         AnswersOption D.seen session (not read_only) reader.old.terms w world.old result reader.new world.new
         (side O.sent O.write_faults output.old) stream.old (side O.sent O.write_faults output.new) stream.new }
 {

@@ -54,7 +54,8 @@ fn find<D: Disk + Drop>(world: &World<D>, name: &Option<Name>) -> Told
 fn join_by<D: Disk + Drop>(world: &mut World<D>, session: u32, name: Name) -> Option<Told>
     requires begins { (disks : List D) × (read_only : Bool) × Begins D.seen disks read_only world.old }
     ensures told { IfSome result (λ told. told ≡ told_info (info_of world.old.graph name)) }
-    ensures joins { IfSome result (λ told. (disks : List D) (read_only : Bool) → Begins D.seen disks read_only world.old →
+    ensures joins { IfSome result (λ told. (disks : List D) (read_only : Bool) →
+        Begins D.seen disks read_only world.old →
         JoinsAt D.seen session (not read_only) world.old name (info_of world.old.graph name) world.new) }
     ensures none { IfNone result (world.new ≡ world.old) }
 {
@@ -72,7 +73,8 @@ fn join_by<D: Disk + Drop>(world: &mut World<D>, session: u32, name: Name) -> Op
 fn join<D: Disk + Drop>(world: &mut World<D>, session: u32, name: &Option<Name>) -> Option<Told>
     requires begins { (disks : List D) × (read_only : Bool) × Begins D.seen disks read_only world.old }
     ensures told { IfSome result (λ told. told ≡ told_name world.old.graph name.now) }
-    ensures joins { IfSome result (λ told. (disks : List D) (read_only : Bool) → Begins D.seen disks read_only world.old →
+    ensures joins { IfSome result (λ told. (disks : List D) (read_only : Bool) →
+        Begins D.seen disks read_only world.old →
         Joins D.seen session (not read_only) world.old name.now world.new) }
     ensures none { IfNone result (world.new ≡ world.old) }
 {
@@ -92,7 +94,8 @@ pub fn tell<D: Disk + Drop>(
 ) -> Option<Told>
     requires begins { (disks : List D) × (read_only : Bool) × Begins D.seen disks read_only world.old }
     ensures told { IfSome result (λ told. told ≡ graph_told world.old.graph want.now) }
-    ensures changes { IfSome result (λ told. (disks : List D) (read_only : Bool) → Begins D.seen disks read_only world.old →
+    ensures changes { IfSome result (λ told. (disks : List D) (read_only : Bool) →
+        Begins D.seen disks read_only world.old →
         WantChanges D.seen session (not read_only) world.old want.now world.new) }
     ensures none { IfNone result (world.new ≡ world.old) }
 {

@@ -53,7 +53,8 @@ fn next_option<I: Source, O: Sink>(
     output: &mut O,
 ) -> Result<Came, Failed>
     requires awaits { reader.old.phase ≡ InOption [] }
-    ensures { Asking reader.old.terms (flow I.left I.read_faults O.sent O.write_faults input.old output.old stream.old) result
+    ensures { Asking reader.old.terms (flow I.left I.read_faults O.sent O.write_faults input.old output.old
+        stream.old) result
         reader.new (flow I.left I.read_faults O.sent O.write_faults input.new output.new stream.new) }
 {
     stream.check()?;

@@ -17,8 +17,8 @@ chosen choice b = number_of choice.rest choice.picks b
 abbrev pub left_of : List (List ℕ) → ℕ → List ℕ
 left_of past n = slice_index_or past (min n (length past - 1)) []
 
--- A disk crashed: each block holds the chosen one of the contents that a crash might leave, and another crash leaves just that.
--- No failure is planned any more, and none is counted.
+-- A disk crashed: each block holds the chosen one of the contents that a crash might leave, and another crash leaves
+-- just that. No failure is planned any more, and none is counted.
 pub record Crashes (choice : CrashChoice) (old new : Seen) : Type 0 where
   pub fixed : Fixed old new
   pub now : IsTrue old.tells → Same (λ b. left_of (old.past b) (chosen choice b)) new.now

@@ -22,7 +22,12 @@ block_of held b = if stripe_of b == held.stripe then part held.bytes (holder_ran
 
 -- a stripe's blocks of zeros, in whole rounds of the eight stripes
 abbrev pub zeros_of : ℕ → ℕ → ℕ → Held
-zeros_of stripe align size = record { stripe = stripe; align = align; size = size; bytes = replicate (div_ceil (size / align) 128 * 16 * align) 0 }
+zeros_of stripe align size = record {
+  stripe = stripe;
+  align = align;
+  size = size;
+  bytes = replicate (div_ceil (size / align) 128 * 16 * align) 0;
+}
 
 -- what a disk means that writes through and never fails
 abbrev pub quiet_seen : Held → Seen

@@ -44,7 +44,8 @@ journal_seen disk = record {
 -- the stores that a disk keeps as the numbers of their blocks and, one after another, the blocks' bytes
 abbrev pub kept_of : ℕ → List ℕ → List ℕ → List KeptStore
 kept_of align [] bytes = []
-kept_of align (b ∷ blocks) bytes = record { block = b; bytes = take align bytes } ∷ kept_of align blocks (drop align bytes)
+kept_of align (b ∷ blocks) bytes = record { block = b; bytes = take align bytes }
+    ∷ kept_of align blocks (drop align bytes)
 
 -- a list of stores, each of a block of so many bytes, with a limit on their number
 pub record KeptStores : Type 0 where

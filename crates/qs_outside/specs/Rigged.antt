@@ -37,8 +37,8 @@ abbrev pub LeftAsPlanned : Bool → ℕ → List ℕ → Seen → Seen → Type 
 LeftAsPlanned false b bytes old new = Same old.now new.now
 LeftAsPlanned true b bytes old new = Stored b bytes old.now new.now
 
--- A store that was planned to fail. On a disk that isn't full its block is as the plan says, and a crash may leave the bytes all
--- the same. On a full one nothing is stored.
+-- A store that was planned to fail. On a disk that isn't full its block is as the plan says, and a crash may leave
+-- the bytes all the same. On a full one nothing is stored.
 pub record Refuses (writes : Bool) (b : ℕ) (bytes : List ℕ) (old new : Seen) : Type 0 where
   pub left : old.full ≡ Some false → LeftAsPlanned writes b bytes old new
   pub past : old.full ≡ Some false → Contains (new.past b) bytes
@@ -46,7 +46,8 @@ pub record Refuses (writes : Bool) (b : ℕ) (bytes : List ℕ) (old new : Seen)
   pub full_past : old.full ≡ Some true → Same old.past new.past
 
 abbrev pub AsPlanned : ℕ → List ℕ → Seen → Seen → Type 0
-AsPlanned b bytes old new = (writes : Bool) → IsTrue old.tells → (plans_of old.planned).store ≡ Some writes → Refuses writes b bytes old new
+AsPlanned b bytes old new = (writes : Bool) → IsTrue old.tells → (plans_of old.planned).store ≡ Some writes →
+    Refuses writes b bytes old new
 
 -- a failed call counts
 abbrev pub counted_if : Bool → ℕ → ℕ

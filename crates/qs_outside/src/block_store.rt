@@ -26,7 +26,8 @@ impl Model for BlockStore {
 
     ghost view = { λ s. record { stripe = s.stripe; align = s.align; size = s.length; bytes = s.bytes.items } };
 
-    ghost invariant = { λ s. (b : ℕ) → stripe_of b ≡ s.stripe → (b + 1) * s.align ≤ s.length → (holder_rank b + 1) * s.align ≤ vec_len s.bytes };
+    ghost invariant = { λ s. (b : ℕ) → stripe_of b ≡ s.stripe → (b + 1) * s.align ≤ s.length →
+        (holder_rank b + 1) * s.align ≤ vec_len s.bytes };
 }
 
 /// How many bytes the blocks of a stripe take, in whole rounds of the eight stripes.

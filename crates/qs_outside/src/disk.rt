@@ -46,8 +46,10 @@ pub trait Disk {
     fn store(&mut self, b: u64, bytes: &[u8]) -> Result<(), Failed>
         requires block { IsBlock (seen self.old) b }
         requires whole { length bytes.now ≡ (seen self.old).align }
-        ensures stored { IsTrue (seen self.old).tells → OnOk result (Stored b bytes.now (seen self.old).now (seen self.new).now) }
-        ensures refused { IsTrue (seen self.old).tells → OnErr result (StoredOrNot b bytes.now (seen self.old).now (seen self.new).now) }
+        ensures stored { IsTrue (seen self.old).tells →
+            OnOk result (Stored b bytes.now (seen self.old).now (seen self.new).now) }
+        ensures refused { IsTrue (seen self.old).tells →
+            OnErr result (StoredOrNot b bytes.now (seen self.old).now (seen self.new).now) }
         ensures past { IsTrue (seen self.old).tells → MayLeave b bytes.now (seen self.old).past (seen self.new).past }
         ensures past_now { IsTrue (seen self.old).tells → Contains ((seen self.old).past b) ((seen self.old).now b) →
             Contains ((seen self.new).past b) ((seen self.new).now b) }
@@ -60,8 +62,10 @@ pub trait Disk {
     /// Makes each block's content the one that a crash leaves. A failed sync changes nothing but the
     /// count of faults and the plans. Where a failure is planned it fails.
     fn sync(&mut self) -> Result<(), Failed>
-        ensures settled { IsTrue (seen self.old).tells → OnOk result (Same (λ b. (seen self.old).now b ∷ []) (seen self.new).past) }
-        ensures unsettled { IsTrue (seen self.old).tells → OnErr result (Same (seen self.old).past (seen self.new).past) }
+        ensures settled { IsTrue (seen self.old).tells →
+            OnOk result (Same (λ b. (seen self.old).now b ∷ []) (seen self.new).past) }
+        ensures unsettled { IsTrue (seen self.old).tells →
+            OnErr result (Same (seen self.old).past (seen self.new).past) }
         ensures now { IsTrue (seen self.old).tells → Same (seen self.old).now (seen self.new).now }
         ensures fixed { Fixed (seen self.old) (seen self.new) }
         ensures works { OnOk result (MaySync (seen self.old)) }

@@ -34,7 +34,14 @@ impl Model for MemDisk {
 
     ghost Value = { Journal };
 
-    ghost view = { λ d. record { now = d.now; synced = d.synced; stores = d.log.stores; room = d.log.room; faults = d.faults; planned = d.planned } };
+    ghost view = { λ d. record {
+      now = d.now;
+      synced = d.synced;
+      stores = d.log.stores;
+      room = d.log.room;
+      faults = d.faults;
+      planned = d.planned;
+    } };
 
     ghost invariant = { λ d. IsOneDisk d.now d.synced d.log.align d.log.stores };
 }
@@ -105,7 +112,10 @@ impl MemDisk {
         requires room { length self.old.stores < self.old.room }
         requires block { IsBlock (journal_seen self.old) b }
         requires whole { length bytes.now ≡ self.old.now.align }
-        ensures { self.new ≡ record self.old { stores = self.old.stores ++ (record { block = b; bytes = bytes.now }) ∷ [] } }
+        ensures { self.new ≡ record self.old {
+          stores = self.old.stores ++ (record { block = b; bytes = bytes.now })
+              ∷ [];
+        } }
     {
         self.log.push(b, bytes);
     }
@@ -152,7 +162,10 @@ impl Disk for MemDisk {
         ensures bytes { OnOk result (into.new ≡ (journal_seen self.old).now b) }
         ensures counted { self.new.faults ≡ counted_if self.old.planned.load self.old.faults }
         ensures cause { HasCause self.old.faults self.new.faults result }
-        ensures same { self.new ≡ record self.old { planned = record self.old.planned { load = false }; faults = self.new.faults } }
+        ensures same { self.new ≡ record self.old {
+          planned = record self.old.planned { load = false };
+          faults = self.new.faults;
+        } }
     {
         let planned = self.spend_load();
         if planned {
@@ -176,7 +189,8 @@ impl Disk for MemDisk {
         ensures planned { self.new.planned ≡ record self.old.planned { store = None } }
 
         // Where it is full nothing else changes.
-        ensures full { self.old.room ≤ length self.old.stores → (self.new.now ≡ self.old.now) × (self.new.stores ≡ self.old.stores) }
+        ensures full { self.old.room ≤ length self.old.stores →
+            (self.new.now ≡ self.old.now) × (self.new.stores ≡ self.old.stores) }
 
         // Else these bytes are kept behind the other stores, also where a failure is planned; and the
         // block has them, but where the planned failure leaves the old content.
@@ -226,7 +240,8 @@ impl Disk for MemDisk {
         ensures fails { IsErr result ↔ IsTrue self.old.planned.sync }
         ensures counted { self.new.faults ≡ counted_if self.old.planned.sync self.old.faults }
         ensures cause { HasCause self.old.faults self.new.faults result }
-        ensures unsettled { OnErr result (self.new ≡ record self.old { planned = record self.old.planned { sync = false }; faults = self.new.faults }) }
+        ensures unsettled { OnErr result (self.new
+            ≡ record self.old { planned = record self.old.planned { sync = false }; faults = self.new.faults }) }
         ensures settled { OnOk result (self.new ≡ record self.old {
           synced = self.old.now;
           stores = [];

@@ -34,7 +34,11 @@ impl MemSink {
     /// A sink with room for so many bytes, which are taken here; no write takes memory. The writes whose
     /// numbers, from 0, are in `fails` fail.
     pub fn new(alloc: Global, room: usize, fails: Vec<u64>) -> Result<Self, Memory>
-        ensures { IfOk result (λ s. s ≡ record { sent = []; room = room; calls = record { failing = fails.items; made = 0; faults = 0 } }) }
+        ensures { IfOk result (λ s. s ≡ record {
+          sent = [];
+          room = room;
+          calls = record { failing = fails.items; made = 0; faults = 0 };
+        }) }
     {
         match Vec::with_capacity(alloc, room) {
             Ok(bytes) => Ok(MemSink {
@@ -66,7 +70,8 @@ impl Sink for MemSink {
         ensures cause { HasCause self.old.calls.faults self.new.calls.faults result }
 
         // It fails exactly where it was told to or no room is left, and else takes what there is room for.
-        ensures fails { IsErr result ↔ (Contains self.old.calls.failing self.old.calls.made ⊎ (room_left self.old ≡ 0)) }
+        ensures fails { IsErr result ↔ (Contains self.old.calls.failing self.old.calls.made
+            ⊎ (room_left self.old ≡ 0)) }
         ensures amount { IfOk result (λ n. n ≡ min (length piece.now) (room_left self.old)) }
         ensures after { self.new ≡ after_write self.old piece.now result }
     {

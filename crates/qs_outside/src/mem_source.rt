@@ -46,7 +46,11 @@ impl MemSource {
     /// A source of these bytes. Read `i`, counted from 0, gives at most `cuts[i]` bytes, but one where
     /// that is 0; behind the end of `cuts` nothing is cut. The reads whose numbers are in `fails` fail.
     pub fn new(bytes: Bytes, cuts: Vec<usize>, fails: Vec<u64>) -> Self
-        ensures { result ≡ record { left = bytes; cuts = cuts.items; calls = record { failing = fails.items; made = 0; faults = 0 } } }
+        ensures { result ≡ record {
+          left = bytes;
+          cuts = cuts.items;
+          calls = record { failing = fails.items; made = 0; faults = 0 };
+        } }
     {
         MemSource {
             bytes,

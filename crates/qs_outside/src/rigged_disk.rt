@@ -64,7 +64,8 @@ pub trait RiggedDisk: Disk {
     /// The next call of this kind fails once. A later plan of the same kind replaces an earlier one;
     /// the two failures of a store are one kind. Nothing else changes.
     fn plan(&mut self, fail: Fail)
-        ensures { Self.seen self.new ≡ record (Self.seen self.old) { planned = Some (planned_too fail (plans_of (Self.seen self.old).planned)) } };
+        ensures { Self.seen self.new ≡ record
+            (Self.seen self.old) { planned = Some (planned_too fail (plans_of (Self.seen self.old).planned)) } };
 
     /// The power fails: each block holds the content that is chosen of those that a crash may leave, and
     /// that alone may be left by another one. No failure is planned any more.

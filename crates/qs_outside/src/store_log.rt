@@ -26,9 +26,14 @@ impl Model for StoreLog {
 
     ghost Value = { KeptStores };
 
-    ghost view = { λ s. record { align = s.align; room = s.room; stores = kept_of s.align s.blocks.items s.bytes.items } };
+    ghost view = { λ s. record {
+      align = s.align;
+      room = s.room;
+      stores = kept_of s.align s.blocks.items s.bytes.items;
+    } };
 
-    ghost invariant = { λ s. HasRoom s.align s.room (vec_len s.blocks) (vec_capacity s.blocks) (vec_len s.bytes) (vec_capacity s.bytes) };
+    ghost invariant = { λ s. HasRoom s.align s.room (vec_len s.blocks) (vec_capacity s.blocks) (vec_len s.bytes)
+        (vec_capacity s.bytes) };
 }
 
 /// How often a block is among these.
@@ -64,7 +69,10 @@ impl StoreLog {
     pub fn push(&mut self, b: u64, bytes: &[u8])
         requires room { length self.old.stores < self.old.room }
         requires whole { length bytes.now ≡ self.old.align }
-        ensures { self.new ≡ record self.old { stores = self.old.stores ++ (record { block = b; bytes = bytes.now }) ∷ [] } }
+        ensures { self.new ≡ record self.old {
+          stores = self.old.stores ++ (record { block = b; bytes = bytes.now })
+              ∷ [];
+        } }
     {
         match self.blocks.push(b) {
             Ok(()) => {}
@@ -107,9 +115,11 @@ impl StoreLog {
     fn replay_at(&self, j: usize, choice: &CrashChoice, into: &mut BlockStore)
         requires inside { j < length self.now.stores }
         requires whole { IsStoreOf into.old (store_at self.now.stores j) }
-        ensures taken { length (contents_of (store_at self.now.stores j).block (take j self.now.stores)) < chosen choice.now (store_at self.now.stores j).block →
+        ensures taken { length (contents_of (store_at self.now.stores j).block (take j self.now.stores)) < chosen
+            choice.now (store_at self.now.stores j).block →
             Stored (store_at self.now.stores j).block (store_at self.now.stores j).bytes (block_of into.old) (block_of into.new) }
-        ensures passed { chosen choice.now (store_at self.now.stores j).block ≤ length (contents_of (store_at self.now.stores j).block (take j self.now.stores)) →
+        ensures passed { chosen choice.now (store_at self.now.stores j).block ≤ length
+            (contents_of (store_at self.now.stores j).block (take j self.now.stores)) →
             into.new ≡ into.old }
         ensures fixed { Fixed (quiet_seen into.old) (quiet_seen into.new) }
         ensures room { length into.new.bytes ≡ length into.old.bytes }
@@ -123,7 +133,8 @@ impl StoreLog {
     /// Makes of the blocks at the last sync those that a crash leaves.
     pub fn replay(&self, choice: &CrashChoice, into: &mut BlockStore)
         requires whole { AreStoresOf into.old self.now.stores }
-        ensures left { (b : ℕ) → block_of into.new b ≡ left_of (block_of into.old b ∷ contents_of b self.now.stores) (chosen choice.now b) }
+        ensures left { (b : ℕ) → block_of into.new b
+            ≡ left_of (block_of into.old b ∷ contents_of b self.now.stores) (chosen choice.now b) }
         ensures fixed { Fixed (quiet_seen into.old) (quiet_seen into.new) }
         ensures room { length into.new.bytes ≡ length into.old.bytes }
     {

@@ -28,8 +28,10 @@ pub fn plan(span: &Span, align: u32) -> Plan
     requires size { span.now.hi ≤ 2 ^ 40 }
     requires align { (align ≡ 512) ⊎ (align ≡ 4096) }
     ensures whole { result.whole ≡ aligned_out span.now align }
-    ensures head { SomeIff result.head (CoversBlock span.now align (first_block span.now align) → ⊥) (first_block span.now align) }
-    ensures tail { SomeIff result.tail ((CoversBlock span.now align (last_block span.now align) → ⊥) × (last_block span.now align ≢ first_block span.now align)) (last_block span.now align) }
+    ensures head { SomeIff result.head (CoversBlock span.now align (first_block span.now align) → ⊥)
+        (first_block span.now align) }
+    ensures tail { SomeIff result.tail ((CoversBlock span.now align (last_block span.now align) → ⊥)
+        × (last_block span.now align ≢ first_block span.now align)) (last_block span.now align) }
 {
     let size = u64::from(align);
     let first = span.lo() / size;
@@ -49,7 +51,8 @@ pub fn plan(span: &Span, align: u32) -> Plan
 pub fn merge(block: &mut [u8], b: u64, span: &Span, bytes: &[u8])
     requires { span.now.lo + length bytes.now ≡ span.now.hi }
     ensures { (i : ℕ) → i < length block.old →
-        slice_index_or block.new i 0 ≡ merged_at span.now bytes.now (b * length block.old + i) (slice_index_or block.old i 0) }
+        slice_index_or block.new i 0 ≡ merged_at span.now bytes.now (b * length block.old + i)
+        (slice_index_or block.old i 0) }
 {
     let lo = span.lo();
     let hi = span.hi();

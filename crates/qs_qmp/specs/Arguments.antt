@@ -21,9 +21,11 @@ is_limit_key k =
     bytes_eq k (codes "bps-total") || bytes_eq k (codes "bps-total-max") || bytes_eq k (codes "bps-total-max-length") ||
     bytes_eq k (codes "bps-read") || bytes_eq k (codes "bps-read-max") || bytes_eq k (codes "bps-read-max-length") ||
     bytes_eq k (codes "bps-write") || bytes_eq k (codes "bps-write-max") || bytes_eq k (codes "bps-write-max-length") ||
-    bytes_eq k (codes "iops-total") || bytes_eq k (codes "iops-total-max") || bytes_eq k (codes "iops-total-max-length") ||
+    bytes_eq k (codes "iops-total") || bytes_eq k (codes "iops-total-max") || bytes_eq k
+    (codes "iops-total-max-length") ||
     bytes_eq k (codes "iops-read") || bytes_eq k (codes "iops-read-max") || bytes_eq k (codes "iops-read-max-length") ||
-    bytes_eq k (codes "iops-write") || bytes_eq k (codes "iops-write-max") || bytes_eq k (codes "iops-write-max-length") ||
+    bytes_eq k (codes "iops-write") || bytes_eq k (codes "iops-write-max") || bytes_eq k
+    (codes "iops-write-max-length") ||
     bytes_eq k (codes "iops-size")
 
 abbrev pub is_key : Keys → List ℕ → Bool

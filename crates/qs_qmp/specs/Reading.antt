@@ -1,4 +1,5 @@
--- What a QMP message asks for, and the first refusal that applies (QMP specification; QAPI, "block-core", "block-export").
+-- What a QMP message asks for, and the first refusal that applies (QMP specification; QAPI, "block-core",
+-- "block-export").
 use Rattle.std.specs.Prelude.{◌≡◌, ℕ, Bool, true, false, if◌then◌else◌, List, ◌++◌, codes, Option, Some, None, is_some, option_map, option_and_then, unwrap_or, Result, Ok, Err, ⊤, string_bytes}
 use Rattle.std.specs.Str.{bytes_eq}
 use Rattle.serde_json.specs.Data.{Data}

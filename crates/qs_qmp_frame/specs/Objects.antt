@@ -37,8 +37,11 @@ ends other b = false
 
 -- the place behind a byte that doesn't end the object
 abbrev pub next : Place → ℕ → Place
-next (Outside depth) b = if b == quote then InString depth else (if b == open_brace then Outside (depth + 1) else (if b == close_brace then Outside (depth - 1) else Outside depth))
-next (InString depth) b = if b == quote then Outside depth else (if b == backslash then Escaped depth else InString depth)
+next (Outside depth) b = if b == quote then InString depth
+    else (if b == open_brace then Outside (depth + 1)
+    else (if b == close_brace then Outside (depth - 1) else Outside depth))
+next (InString depth) b = if b == quote then Outside depth
+    else (if b == backslash then Escaped depth else InString depth)
 next (Escaped depth) b = InString depth
 
 -- the last of these bytes, and no earlier one, ends the object

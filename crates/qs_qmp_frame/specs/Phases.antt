@@ -24,7 +24,8 @@ begin b = if is_blank b then Gap else (if b == open_brace then Part (Outside 0) 
 
 -- behind the byte b of an object, with which so many bytes of it came
 abbrev pub go_on : Place → List ℕ → ℕ → Phase
-go_on place kept b = if ends place b then Whole kept else (if length kept == limit then Long else Part (next place b) kept)
+go_on place kept b = if ends place b then Whole kept
+    else (if length kept == limit then Long else Part (next place b) kept)
 
 -- behind one more byte
 abbrev pub phase_after : Phase → ℕ → Phase

@@ -115,8 +115,10 @@ reached old (call ∷ calls) = reached call.new calls
 
 -- However the bytes are cut into pieces, the objects told and the phase reached are those of the bytes.
 pub record JoinsPieces : Type 0 where
-  pub objects : (old : Phase) → (calls : List FramerCall) → AreFramerCalls old calls → flat_map told_by calls ≡ objects old (flat_map fed_bytes calls)
-  pub phase : (old : Phase) → (calls : List FramerCall) → AreFramerCalls old calls → reached old calls ≡ run old (flat_map fed_bytes calls)
+  pub objects : (old : Phase) → (calls : List FramerCall) → AreFramerCalls old calls →
+      flat_map told_by calls ≡ objects old (flat_map fed_bytes calls)
+  pub phase : (old : Phase) → (calls : List FramerCall) → AreFramerCalls old calls →
+      reached old calls ≡ run old (flat_map fed_bytes calls)
 
 -- a call that takes bytes takes none behind a refused one
 abbrev pub RefusesAtOnce : Type 0

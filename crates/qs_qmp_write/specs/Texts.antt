@@ -38,7 +38,8 @@ class_text GenericError = codes "GenericError"
 class_text CommandNotFound = codes "CommandNotFound"
 
 abbrev pub error : Class → List ℕ → Data
-error class desc = object (member (codes "class") (string (class_text class)) (member (codes "desc") (string desc) no_members))
+error class desc = object (member (codes "class") (string (class_text class))
+    (member (codes "desc") (string desc) no_members))
 
 abbrev pub failed : Class → List ℕ → Option Data → List ℕ
 failed class desc id = message (answer_data (codes "error") (error class desc) id)
@@ -96,7 +97,8 @@ refusal_text (refusals.Duplicate name) = codes "Duplicate name '" ++ name ++ cod
 refusal_text (refusals.NoNode name) = codes "Node '" ++ name ++ codes "' not found"
 refusal_text (refusals.NoGroup name) = codes "Group '" ++ name ++ codes "' not found"
 refusal_text (refusals.NoExport name) = codes "Export '" ++ name ++ codes "' not found"
-refusal_text (refusals.OutOfRange name size) = codes "Node '" ++ name ++ codes "' has " ++ decimal size ++ codes " bytes"
+refusal_text (refusals.OutOfRange name size) = codes "Node '" ++ name ++ codes "' has " ++ decimal size
+    ++ codes " bytes"
 refusal_text refusals.Deep = codes "Too many throttle nodes"
 refusal_text refusals.Full = codes "Table is full"
 refusal_text (refusals.Root name) = codes "Node '" ++ name ++ codes "' is the image"
@@ -105,8 +107,10 @@ refusal_text (refusals.GroupInUse name user) = codes "Group '" ++ name ++ codes 
 refusal_text (refusals.OtherKind name) = codes "Node '" ++ name ++ codes "' has another driver"
 refusal_text (refusals.OtherFile name) = codes "Node '" ++ name ++ codes "' has another file"
 refusal_text (refusals.ReadOnly name) = codes "Node '" ++ name ++ codes "' is read-only"
-refusal_text (refusals.Conflict one other) = codes "Permission conflict between " ++ user_text one ++ codes " and " ++ user_text other
-refusal_text (refusals.Connected name clients) = codes "Export '" ++ name ++ codes "' has " ++ decimal clients ++ codes " client(s)"
+refusal_text (refusals.Conflict one other) = codes "Permission conflict between " ++ user_text one ++ codes " and "
+    ++ user_text other
+refusal_text (refusals.Connected name clients) = codes "Export '" ++ name ++ codes "' has " ++ decimal clients
+    ++ codes " client(s)"
 
 -- ---- answers
 

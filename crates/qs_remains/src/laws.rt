@@ -23,13 +23,15 @@ pub fn remains()
 
 /// Where a crash leaves of each clean stripe what its blocks hold, it does so behind any steps.
 pub fn clean_settled()
-    ensures { (A : ℕ) (w : World) (es : List Element) → IsCleanSettled w.image → IsCleanSettled (world_after A w es).image }
+    ensures { (A : ℕ) (w : World) (es : List Element) → IsCleanSettled w.image →
+        IsCleanSettled (world_after A w es).image }
 {}
 
 /// And behind a FLUSH that was alone and is Fine, it leaves of every block what it holds (NBD proto.md, FLUSH).
 pub fn flushed()
     ensures { (A : ℕ) (o : Opening) (before : List Element) (r : ℕ) (c : Client) (front : List Element) (e : Element) →
-        0 < A → IsTrue (world_after A (opening_world o) before).tells → IsCleanSettled (world_after A (opening_world o) before).image →
+        0 < A → IsTrue (world_after A (opening_world o) before).tells →
+        IsCleanSettled (world_after A (opening_world o) before).image →
         c.ask.kind ≡ Flush →
         IsAlone A o before r c (front ++ e ∷ []) → IsAnswered r Fine e →
         IsSettled (world_after A (opening_world o) (before ++ Asked r c ∷ (front ++ e ∷ []))).image }

@@ -45,7 +45,8 @@ AllSent given old new = Gives old.output.bytes old.stream.held given new.output.
 -- too many bytes for a line. Where the stream failed, it was a front of a line.
 abbrev pub PieceComes : {E : Type 0} → List ℕ → Result Came E → List ℕ → Flow → Type 0
 PieceComes taken (Ok came.Line) text after = (taken ≡ text ++ 10 ∷ []) × IsText text
-PieceComes taken (Ok came.Last) text after = (taken ≡ text) × IsText text × (text ≢ []) × IsReadUp after.input.bytes after.stream.waiting
+PieceComes taken (Ok came.Last) text after = (taken ≡ text) × IsText text × (text ≢ [])
+    × IsReadUp after.input.bytes after.stream.waiting
 PieceComes taken (Ok came.End) text after = (taken ≡ []) × IsReadUp after.input.bytes after.stream.waiting
 PieceComes taken (Ok came.TooLong) text after = (taken ≡ text) × HasNo 10 text × (length text ≡ longest_line)
 PieceComes taken (Err e) text after = IsText taken

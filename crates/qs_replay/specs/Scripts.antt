@@ -25,7 +25,8 @@ use Rattle.qs_replay_lines.specs.Tables.{Names}
 
 -- it is too long, or no line is spelled, or one that uses a cookie again
 abbrev pub IsBad : Names → List ℕ → Type 0
-IsBad t text = (longest_line ≤ length text) ⊎ ((l : Line) → ReadsLine text l → ⊥) ⊎ ((l : Line) × (ReadsLine text l × UsesAgain t l))
+IsBad t text = (longest_line ≤ length text) ⊎ ((l : Line) → ReadsLine text l → ⊥)
+    ⊎ ((l : Line) × (ReadsLine text l × UsesAgain t l))
 
 -- its event can't come, or its actor is no request that was made
 abbrev pub IsUntimely : {D : Type 0} → WorldValue D → Names → List ℕ → Type 0
@@ -37,8 +38,10 @@ Why w t text stop.BadLine calls = (calls ≡ []) × IsBad t text
 Why w t text stop.NotNext calls = (calls ≡ []) × IsUntimely w t text
 Why w t text stop.Memory calls = (l : Line) × (ReadsLine text l × IsCutLine t l calls)
 
--- The text of one line was done. Of a `write` the bytes are lost where memory was refused for them; then the request has none.
-pub record DoesText {D : Type 0} (seen : D → Seen) (w : WorldValue D) (t : Names) (text : List ℕ) (calls : List Call) (printed : List ℕ)
+-- The text of one line was done. Of a `write` the bytes are lost where memory was refused for them; then the request
+-- has none.
+pub record DoesText {D : Type 0} (seen : D → Seen) (w : WorldValue D) (t : Names) (text : List ℕ) (calls : List Call)
+    (printed : List ℕ)
     (w' : WorldValue D) (t' : Names) : Type 0 where
   pub line : Line
   pub lost : Bool
@@ -46,7 +49,8 @@ pub record DoesText {D : Type 0} (seen : D → Seen) (w : WorldValue D) (t : Nam
   pub is : IsPlayed seen w t line lost calls printed w' t'
 
 -- it wasn't done to its end; of it nothing was printed
-pub record LeavesText {D : Type 0} (seen : D → Seen) (w : WorldValue D) (t : Names) (text : List ℕ) (s : Stop) (w' : WorldValue D) : Type 0 where
+pub record LeavesText {D : Type 0} (seen : D → Seen) (w : WorldValue D) (t : Names) (text : List ℕ) (s : Stop)
+    (w' : WorldValue D) : Type 0 where
   pub calls : List Call
   pub plays : Plays seen w calls w'
   pub why : Why w t text s calls
@@ -59,19 +63,23 @@ done_of (Err s) = Err s
 -- at a desk
 abbrev pub PlaysText : {D : Type 0} → (D → Seen) → Desk D → List ℕ → Result Unit Stop → Desk D → Type 0
 PlaysText seen old text (Ok u) new =
-    (calls : List Call) × (printed : List ℕ) × (DoesText seen old.world old.table text calls printed new.world new.table × (new.out ≡ old.out ++ printed))
+    (calls : List Call) × (printed : List ℕ) × (DoesText seen old.world old.table text calls printed new.world
+    new.table × (new.out ≡ old.out ++ printed))
 PlaysText seen old text (Err s) new = LeavesText seen old.world old.table text s new.world × (new.out ≡ old.out)
 
 -- at a desk where nothing waits, and what was printed was put
-abbrev pub PutsText : {D : Type 0} → (D → Seen) → Desk D → Side → Buffers → List ℕ → Result Unit Stop → Desk D → Side → Buffers → Type 0
+abbrev pub PutsText : {D : Type 0} → (D → Seen) → Desk D → Side → Buffers → List ℕ → Result Unit Stop → Desk D →
+    Side → Buffers → Type 0
 PutsText seen old output stream text (Ok u) new output' stream' =
     (calls : List Call) × (printed : List ℕ) ×
-    (DoesText seen old.world old.table text calls printed new.world new.table × Puts printed output stream output' stream')
+    (DoesText seen old.world old.table text calls printed new.world new.table
+    × Puts printed output stream output' stream')
 PutsText seen old output stream text (Err s) new output' stream' =
     LeavesText seen old.world old.table text s new.world × (output' ≡ output) × (stream' ≡ stream)
 
 -- one line was done, and then others
-pub record DoesFirst {D : Type 0} (seen : D → Seen) (w : WorldValue D) (t : Names) (text : List ℕ) (calls : List Call) (printed : List ℕ)
+pub record DoesFirst {D : Type 0} (seen : D → Seen) (w : WorldValue D) (t : Names) (text : List ℕ) (calls : List Call)
+    (printed : List ℕ)
     (others : WorldValue D → Names → List Call → List ℕ → Type 0) : Type 0 where
   pub first : List Call
   pub later : List Call
@@ -86,14 +94,16 @@ pub record DoesFirst {D : Type 0} (seen : D → Seen) (w : WorldValue D) (t : Na
   pub printed_are : printed ≡ words ++ more
 
 -- no line was
-pub record DoesNone {D : Type 0} (w : WorldValue D) (t : Names) (calls : List Call) (printed : List ℕ) (w' : WorldValue D) (t' : Names) : Type 0 where
+pub record DoesNone {D : Type 0} (w : WorldValue D) (t : Names) (calls : List Call) (printed : List ℕ)
+    (w' : WorldValue D) (t' : Names) : Type 0 where
   pub calls_are : calls ≡ []
   pub printed_are : printed ≡ []
   pub world : w' ≡ w
   pub names : t' ≡ t
 
 -- texts of lines were done one after the other
-abbrev pub AllDone : {D : Type 0} → (D → Seen) → WorldValue D → Names → List (List ℕ) → List Call → List ℕ → WorldValue D → Names → Type 0
+abbrev pub AllDone : {D : Type 0} → (D → Seen) → WorldValue D → Names → List (List ℕ) → List Call → List ℕ →
+    WorldValue D → Names → Type 0
 AllDone seen w t [] calls printed w' t' = DoesNone w t calls printed w' t'
 AllDone seen w t (text ∷ texts) calls printed w' t' =
     DoesFirst seen w t text calls printed (λ mid names later more. AllDone seen mid names texts later more w' t')
@@ -110,7 +120,8 @@ pub record Scene (D : Type 0) : Type 0 where
   pub names : Names
 
 -- by the meanings of the source and of the sink
-abbrev pub scene : {I O D : Type 0} → (I → Option (List ℕ)) → (I → ℕ) → (O → Option (List ℕ)) → (O → ℕ) → I → O → Buffers → WorldValue D → Names → Scene D
+abbrev pub scene : {I O D : Type 0} → (I → Option (List ℕ)) → (I → ℕ) → (O → Option (List ℕ)) → (O → ℕ) → I → O →
+    Buffers → WorldValue D → Names → Scene D
 scene left read_faults sent write_faults input output stream world names = record {
   flow = stream_flow left read_faults sent write_faults input output stream;
   world = world;
@@ -129,20 +140,24 @@ IsLine taken text left waiting = (taken ≡ text ++ 10 ∷ []) ⊎ ((taken ≡ t
 
 -- What was taken of a line that wasn't done: the line, or too many bytes.
 abbrev pub IsTaken : Stop → List ℕ → List ℕ → Option (List ℕ) → List ℕ → Type 0
-IsTaken stop.BadLine taken text left waiting = IsLine taken text left waiting ⊎ ((taken ≡ text) × (length text ≡ longest_line))
+IsTaken stop.BadLine taken text left waiting = IsLine taken text left waiting
+    ⊎ ((taken ≡ text) × (length text ≡ longest_line))
 IsTaken stop.NotNext taken text left waiting = IsLine taken text left waiting × (length text < longest_line)
 IsTaken stop.Memory taken text left waiting = IsLine taken text left waiting × (length text < longest_line)
 
-abbrev pub TurnDoes : {D : Type 0} → (D → Seen) → Scene D → LineOutcome → List ℕ → List ℕ → List Call → List ℕ → Scene D → Type 0
+abbrev pub TurnDoes : {D : Type 0} → (D → Seen) → Scene D → LineOutcome → List ℕ → List ℕ → List Call → List ℕ →
+    Scene D → Type 0
 TurnDoes seen before line_outcome.Goes text taken calls printed after =
-    (taken ≡ text ++ 10 ∷ []) × IsText text × DoesText seen before.world before.names text calls printed after.world after.names
+    (taken ≡ text ++ 10 ∷ []) × IsText text × DoesText seen before.world before.names text calls printed after.world
+    after.names
 TurnDoes seen before line_outcome.Last text taken calls printed after =
     (taken ≡ text) × IsText text × (text ≢ []) × IsReadUp after.flow.input.bytes after.flow.stream.waiting ×
     DoesText seen before.world before.names text calls printed after.world after.names
 TurnDoes seen before line_outcome.End text taken calls printed after =
     (taken ≡ []) × IsReadUp after.flow.input.bytes after.flow.stream.waiting × Idles before printed after
 TurnDoes seen before (line_outcome.Stops s) text taken calls printed after =
-    IsTaken s taken text after.flow.input.bytes after.flow.stream.waiting × (printed ≡ []) × LeavesText seen before.world before.names text s after.world
+    IsTaken s taken text after.flow.input.bytes after.flow.stream.waiting × (printed ≡ [])
+    × LeavesText seen before.world before.names text s after.world
 TurnDoes seen before other text taken calls printed after = (taken ≡ text) × Idles before printed after
 
 -- The stream behind a line: it goes on, or one of its sides failed; what a line printed may have failed to be written.
@@ -168,7 +183,8 @@ pub record Turns {D : Type 0} (seen : D → Seen) (before : Scene D) (r : LineOu
   pub moved : Moved taken printed before.flow after.flow
   pub does : TurnDoes seen before r text taken calls printed after
   pub stream_is : StreamAfter r after.flow.stream.state
-  pub written : r ≡ line_outcome.ReadFault → before.flow.stream.state ≢ state.ReadFault → AllSent [] before.flow after.flow
+  pub written : r ≡ line_outcome.ReadFault → before.flow.stream.state ≢ state.ReadFault →
+      AllSent [] before.flow after.flow
 
 -- so many lines were done
 pub record SoFar {D : Type 0} (seen : D → Seen) (before : Scene D) (n : ℕ) (after : Scene D) : Type 0 where
@@ -200,10 +216,13 @@ is_silent status.WriteFault = true
 is_silent other = false
 
 -- What waited was written at the end, or couldn't be, unless a side had failed before or memory was refused.
-pub record Finishes (output : Side) (old : Buffers) (before result : Status) (output' : Side) (new : Buffers) : Type 0 where
+pub record Finishes (output : Side) (old : Buffers) (before result : Status) (output' : Side)
+    (new : Buffers) : Type 0 where
   pub puts : Puts [] output old output' new
-  pub how : ((is_silent before ≡ true) × (result ≡ before) × (output' ≡ output) × (new ≡ old)) ⊎ ((is_silent before ≡ false) ×
-      (((result ≡ before) × (new.state ≡ state.Open) × (new.held ≡ [])) ⊎ ((result ≡ status.WriteFault) × (new.state ≢ state.Open))))
+  pub how : ((is_silent before ≡ true) × (result ≡ before) × (output' ≡ output) × (new ≡ old))
+      ⊎ ((is_silent before ≡ false) ×
+      (((result ≡ before) × (new.state ≡ state.Open) × (new.held ≡ []))
+      ⊎ ((result ≡ status.WriteFault) × (new.state ≢ state.Open))))
 
 -- the status of a script that ends with this line
 abbrev pub status_of : LineOutcome → ℕ → Status
@@ -219,10 +238,12 @@ status_of line_outcome.WriteFault n = status.WriteFault
 -- the texts of the lines, each with its LF, which a last one that isn't empty may lack
 abbrev pub IsScript : List ℕ → List (List ℕ) → Type 0
 IsScript taken texts = (taken ≡ spelled_lines texts) ⊎
-    ((front : List (List ℕ)) × (text : List ℕ) × ((texts ≡ front ++ text ∷ []) × (text ≢ []) × (taken ≡ spelled_lines front ++ text)))
+    ((front : List (List ℕ)) × (text : List ℕ)
+    × ((texts ≡ front ++ text ∷ []) × (text ≢ []) × (taken ≡ spelled_lines front ++ text)))
 
 -- the line behind the texts wasn't done to its end; its calls were these
-pub record BreaksOff {D : Type 0} (s : Stop) (texts : List (List ℕ)) (taken : List ℕ) (cut : List Call) (w : WorldValue D) (t : Names)
+pub record BreaksOff {D : Type 0} (s : Stop) (texts : List (List ℕ)) (taken : List ℕ) (cut : List Call)
+    (w : WorldValue D) (t : Names)
     (left : Option (List ℕ)) (waiting : List ℕ) : Type 0 where
   pub text : List ℕ
   pub bytes : List ℕ
@@ -235,25 +256,35 @@ pub record BreaksOff {D : Type 0} (s : Stop) (texts : List (List ℕ)) (taken : 
 abbrev pub IsBegun : List (List ℕ) → List ℕ → Type 0
 IsBegun texts taken = (text : List ℕ) × (HasNo 10 text × (taken ≡ spelled_lines texts ++ text))
 
--- Where the output failed: the texts were taken, each with its LF, and perhaps bytes behind them; or the whole script was.
+-- Where the output failed: the texts were taken, each with its LF, and perhaps bytes behind them; or the whole script
+-- was.
 abbrev pub IsReadFront : List (List ℕ) → List ℕ → Option (List ℕ) → List ℕ → Type 0
-IsReadFront texts taken left waiting = ((more : List ℕ) × (taken ≡ spelled_lines texts ++ more)) ⊎ (IsScript taken texts × IsReadUp left waiting)
+IsReadFront texts taken left waiting = ((more : List ℕ) × (taken ≡ spelled_lines texts ++ more))
+    ⊎ (IsScript taken texts × IsReadUp left waiting)
 
--- How a script ends behind the texts of the lines that were done: what was taken, the calls of a line that was cut off, the names and the core
--- before these, and the input. A script whose last line has its LF is done only within the budget.
-abbrev pub EndsScript : {D : Type 0} → Status → ℕ → List (List ℕ) → List ℕ → List Call → WorldValue D → Names → Option (List ℕ) → List ℕ → Type 0
-EndsScript status.Done budget texts taken cut w t left waiting = IsScript taken texts × IsReadUp left waiting × (cut ≡ []) × (taken ≡ spelled_lines texts → length texts < budget)
-EndsScript (status.BadLine n) budget texts taken cut w t left waiting = (n ≡ length texts + 1) × BreaksOff stop.BadLine texts taken cut w t left waiting × (n ≤ budget)
-EndsScript (status.NotNext n) budget texts taken cut w t left waiting = (n ≡ length texts + 1) × BreaksOff stop.NotNext texts taken cut w t left waiting × (n ≤ budget)
-EndsScript status.Memory budget texts taken cut w t left waiting = BreaksOff stop.Memory texts taken cut w t left waiting
+-- How a script ends behind the texts of the lines that were done: what was taken, the calls of a line that was cut
+-- off, the names and the core before these, and the input. A script whose last line has its LF is done only within
+-- the budget.
+abbrev pub EndsScript : {D : Type 0} → Status → ℕ → List (List ℕ) → List ℕ → List Call → WorldValue D → Names →
+    Option (List ℕ) → List ℕ → Type 0
+EndsScript status.Done budget texts taken cut w t left waiting = IsScript taken texts × IsReadUp left waiting
+    × (cut ≡ []) × (taken ≡ spelled_lines texts → length texts < budget)
+EndsScript (status.BadLine n) budget texts taken cut w t left waiting = (n ≡ length texts + 1)
+    × BreaksOff stop.BadLine texts taken cut w t left waiting × (n ≤ budget)
+EndsScript (status.NotNext n) budget texts taken cut w t left waiting = (n ≡ length texts + 1)
+    × BreaksOff stop.NotNext texts taken cut w t left waiting × (n ≤ budget)
+EndsScript status.Memory budget texts taken cut w t left waiting = BreaksOff stop.Memory texts taken cut w t left
+    waiting
 EndsScript status.ReadFault budget texts taken cut w t left waiting = (cut ≡ []) × IsBegun texts taken
 EndsScript status.WriteFault budget texts taken cut w t left waiting = (cut ≡ []) × IsReadFront texts taken left waiting
-EndsScript status.Spent budget texts taken cut w t left waiting = (length texts ≡ budget) × (taken ≡ spelled_lines texts) × (cut ≡ [])
+EndsScript status.Spent budget texts taken cut w t left waiting = (length texts ≡ budget)
+    × (taken ≡ spelled_lines texts) × (cut ≡ [])
 EndsScript other budget texts taken cut w t left waiting = ⊥
 
 -- A script was replayed: its lines were done in order up to its end, and what they print was written, a front
 -- of it where the output failed or memory was refused. A side of the stream failed exactly where the status says so.
-pub record Replays {D : Type 0} (seen : D → Seen) (before : Scene D) (budget : ℕ) (result : Status) (after : Scene D) : Type 0 where
+pub record Replays {D : Type 0} (seen : D → Seen) (before : Scene D) (budget : ℕ) (result : Status)
+    (after : Scene D) : Type 0 where
   pub texts : List (List ℕ)
   pub calls : List Call
   pub printed : List ℕ
@@ -282,11 +313,13 @@ lines_of script = lines_from [] script
 abbrev pub IsNextLine : List (List ℕ) → List (List ℕ) → (List ℕ → Type 0) → Type 0
 IsNextLine lines texts P = (line : List ℕ) × (rest : List (List ℕ)) × ((lines ≡ texts ++ line ∷ rest) × P line)
 
--- How far a replay came in the lines of its script, by its status: through all of them; up to the first that is bad, or can't come; through
--- as many as the budget lets; or through some.
+-- How far a replay came in the lines of its script, by its status: through all of them; up to the first that is bad,
+-- or can't come; through as many as the budget lets; or through some.
 abbrev pub ReachesLine : {D : Type 0} → Status → ℕ → List (List ℕ) → List (List ℕ) → WorldValue D → Names → Type 0
 ReachesLine status.Done budget lines texts w t = texts ≡ lines
 ReachesLine (status.BadLine n) budget lines texts w t = (n ≡ length texts + 1) × IsNextLine lines texts (IsBad t)
-ReachesLine (status.NotNext n) budget lines texts w t = (n ≡ length texts + 1) × IsNextLine lines texts (λ line. IsText line × IsUntimely w t line)
-ReachesLine status.Spent budget lines texts w t = (length texts ≡ budget) × ((rest : List (List ℕ)) × (lines ≡ texts ++ rest))
+ReachesLine (status.NotNext n) budget lines texts w t = (n ≡ length texts + 1)
+    × IsNextLine lines texts (λ line. IsText line × IsUntimely w t line)
+ReachesLine status.Spent budget lines texts w t = (length texts ≡ budget)
+    × ((rest : List (List ℕ)) × (lines ≡ texts ++ rest))
 ReachesLine other budget lines texts w t = (rest : List (List ℕ)) × (lines ≡ texts ++ rest)

@@ -26,14 +26,15 @@ abbrev pub AreFrom : ℕ → ℕ → ℕ → List Journal → Type 0
 AreFrom align size k [] = Unit {0}
 AreFrom align size k (d ∷ ds) = IsZeroDisk align size k d × AreFrom align size (k + 1) ds
 
--- An image of zeros on eight disks: they are an image of this block and size, tell their content, a crash leaves of each block what
--- it holds, each block inside is zeros, and each disk has room for as many stores.
+-- An image of zeros on eight disks: they are an image of this block and size, tell their content, a crash leaves of
+-- each block what it holds, each block inside is zeros, and each disk has room for as many stores.
 pub record AreZeroDisks (align size : ℕ) (disks : List Journal) : Type 0 where
   pub image : IsImage (map journal_seen disks)
   pub align_is : align_of (map journal_seen disks) ≡ align
   pub size_is : size_of (map journal_seen disks) ≡ size
   pub telling : AllTell (map journal_seen disks)
-  pub settled : (b : ℕ) → (disk (map journal_seen disks) (stripe_of b)).past b ≡ block_now (map journal_seen disks) b ∷ []
+  pub settled : (b : ℕ) → (disk (map journal_seen disks) (stripe_of b)).past b ≡ block_now (map journal_seen disks) b
+      ∷ []
   pub zeros : (b : ℕ) → (b + 1) * align ≤ size → block_now (map journal_seen disks) b ≡ replicate align 0
   pub each : AreFrom align size 0 disks
 

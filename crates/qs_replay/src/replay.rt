@@ -41,7 +41,8 @@ fn done(played: Result<LineTold, Stop>) -> Result<(), Stop>
 
 /// A text that isn't read as a line: it spells none, or a WRITE or a crash for which memory was refused.
 fn play_fault<D: RiggedDisk + Drop>(desk: &mut Desk<D>, fault: &LineFault) -> Result<(), Stop>
-    ensures { (text : List ℕ) → IsLineFault (ReadsLine text) fault.now → PlaysText D.Disk.seen desk.old text result desk.new }
+    ensures { (text : List ℕ) → IsLineFault (ReadsLine text) fault.now →
+        PlaysText D.Disk.seen desk.old text result desk.new }
 {
     match fault {
         LineFault::OutOfForm => Err(Stop::BadLine),
@@ -77,7 +78,8 @@ fn clear(alloc: Global, out: &mut Bytes)
 
 /// Puts what was printed behind the bytes that wait to be written.
 fn print<O: Sink, D: RiggedDisk + Drop>(desk: &mut Desk<D>, stream: &mut Stream, output: &mut O)
-    ensures puts { Puts desk.old.out (side O.sent O.write_faults output.old) stream.old (side O.sent O.write_faults output.new) stream.new }
+    ensures puts { Puts desk.old.out (side O.sent O.write_faults output.old) stream.old
+        (side O.sent O.write_faults output.new) stream.new }
     ensures desk { desk.new ≡ record desk.old { out = [] } }
 {
     stream.put(output, desk.out.as_slice());
@@ -154,7 +156,8 @@ fn is_silent(status: Status) -> bool
 
 /// Writes what waits, unless a side failed or memory was refused.
 fn finish<O: Sink>(stream: &mut Stream, output: &mut O, status: Status) -> Status
-    ensures { Finishes (side O.sent O.write_faults output.old) stream.old status result (side O.sent O.write_faults output.new) stream.new }
+    ensures { Finishes (side O.sent O.write_faults output.old) stream.old status result
+        (side O.sent O.write_faults output.new) stream.new }
 {
     if is_silent(status) {
         return status;

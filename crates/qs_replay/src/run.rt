@@ -33,7 +33,8 @@ pub fn replay_disks<I: Source, O: Sink, D: RiggedDisk + Drop>(
     output: &mut O,
     disks: &mut Vec<D>,
 ) -> Status
-    ensures opening { Opening D.Disk.seen disks.old.items (I.left input.old) (O.sent output.old) result disks.new.items (I.left input.new) (O.sent output.new) }
+    ensures opening { Opening D.Disk.seen disks.old.items (I.left input.old) (O.sent output.old) result
+        disks.new.items (I.left input.new) (O.sent output.new) }
     ensures cause { Rises (side_of result) (I.read_faults input.old) (I.read_faults input.new)
         (O.write_faults output.old) (O.write_faults output.new) }
 {
@@ -80,8 +81,10 @@ fn run_told<I: Source, O: Sink, D: RiggedDisk + Drop>(
 ) -> Status
     requires form { IsImageOf told }
     requires image { told.generate ≢ None → IsImage (map D.Disk.seen disks.old.items) →
-        (align_of (map D.Disk.seen disks.old.items) ≡ told.align) × (size_of (map D.Disk.seen disks.old.items) ≡ told.blocks * told.align) }
-    ensures ran { RanBy told D.Disk.seen disks.old.items (I.left input.old) (O.sent output.old) result disks.new.items (I.left input.new) (O.sent output.new) }
+        (align_of (map D.Disk.seen disks.old.items) ≡ told.align)
+        × (size_of (map D.Disk.seen disks.old.items) ≡ told.blocks * told.align) }
+    ensures ran { RanBy told D.Disk.seen disks.old.items (I.left input.old) (O.sent output.old) result disks.new.items
+        (I.left input.new) (O.sent output.new) }
     ensures cause { Rises (side_of result) (I.read_faults input.old) (I.read_faults input.new)
         (O.write_faults output.old) (O.write_faults output.new) }
 {
@@ -114,9 +117,12 @@ pub fn run_replay<I: Source, O: Sink, D: RiggedDisk + Drop>(
     output: &mut O,
     disks: &mut Vec<D>,
 ) -> Status
-    requires { (told : Told) → TellsWords words.now told → told.generate ≢ None → IsImage (map D.Disk.seen disks.old.items) →
-        (align_of (map D.Disk.seen disks.old.items) ≡ told.align) × (size_of (map D.Disk.seen disks.old.items) ≡ told.blocks * told.align) }
-    ensures ran { Ran words.now D.Disk.seen disks.old.items (I.left input.old) (O.sent output.old) result disks.new.items (I.left input.new) (O.sent output.new) }
+    requires { (told : Told) → TellsWords words.now told → told.generate ≢ None →
+        IsImage (map D.Disk.seen disks.old.items) →
+        (align_of (map D.Disk.seen disks.old.items) ≡ told.align)
+        × (size_of (map D.Disk.seen disks.old.items) ≡ told.blocks * told.align) }
+    ensures ran { Ran words.now D.Disk.seen disks.old.items (I.left input.old) (O.sent output.old) result
+        disks.new.items (I.left input.new) (O.sent output.new) }
     // A fault is told only where its count rose, and every other end leaves the count.
     ensures cause { Rises (side_of result) (I.read_faults input.old) (I.read_faults input.new)
         (O.write_faults output.old) (O.write_faults output.new) }

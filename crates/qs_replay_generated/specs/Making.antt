@@ -19,7 +19,8 @@ use Rattle.qs_replay_lines.specs.declared.stop.Stop.TheVariants as stop
 use Rattle.qs_replay_generated.specs.Changes.{change_by, lives_after}
 use Rattle.qs_replay_generated.specs.declared.counts.Counts.{Counts}
 
--- where a run stands: the draws and the turn, the live requests in order of making, the core, and what its names stand for
+-- where a run stands: the draws and the turn, the live requests in order of making, the core, and what its names
+-- stand for
 pub record Place (D : Type 0) : Type 0 where
   pub run : Generated
   pub live : List LiveRequest
@@ -54,7 +55,8 @@ pub record Counted (old : Counts) (calls : List Call) (new : Counts) : Type 0 wh
 abbrev pub WhyNot : {D : Type 0} → WorldValue D → Names → Line → Stop → List Call → Type 0
 WhyNot w t l stop.BadLine cut = (cut ≡ []) × UsesAgain t l
 WhyNot w t l stop.NotNext cut = (cut ≡ []) × (CannotCome w t l ⊎ DrivesNotLive t l)
-WhyNot w t l stop.Memory cut = IsCutLine t l cut ⊎ ((lost : Bool) × (text : List ℕ) × (t' : Names) × DoesLine t l lost cut text t')
+WhyNot w t l stop.Memory cut = IsCutLine t l cut
+    ⊎ ((lost : Bool) × (text : List ℕ) × (t' : Names) × DoesLine t l lost cut text t')
 
 -- behind a place the next line wasn't done to its end
 pub record BreaksAt {D : Type 0} (seen : D → Seen) (a : Place D) (s : Stop) (w : WorldValue D) : Type 0 where
@@ -72,11 +74,13 @@ IsMade result = (wanted : Line) × (IsPlanned wanted × LineComes wanted result)
 abbrev pub PlaysSome : {D : Type 0} → (D → Seen) → Desk D → Line → Result LineTold Stop → Desk D → Type 0
 PlaysSome seen old l result new = (lost : Bool) × PlaysLine seen old l lost result new
 
--- A line was done and counted, and the live requests are those behind it; or it wasn't done to its end, or memory was refused behind it, and
--- it isn't counted.
-abbrev pub LineDone : {D : Type 0} → (D → Seen) → Desk D → List LiveRequest → Counts → Line → Result Unit Stop → Desk D → List LiveRequest → Counts → Type 0
+-- A line was done and counted, and the live requests are those behind it; or it wasn't done to its end, or memory was
+-- refused behind it, and it isn't counted.
+abbrev pub LineDone : {D : Type 0} → (D → Seen) → Desk D → List LiveRequest → Counts → Line → Result Unit Stop →
+    Desk D → List LiveRequest → Counts → Type 0
 LineDone seen old live counts l (Ok u) new live' counts' =
-    (calls : List Call) × (lost : Bool) × (text : List ℕ) × (IsPlayed seen old.world old.table l lost calls text new.world new.table ×
+    (calls : List Call) × (lost : Bool) × (text : List ℕ)
+    × (IsPlayed seen old.world old.table l lost calls text new.world new.table ×
     (live' ≡ lives_after live (change_by l) (answers_in calls)) × Counted counts calls counts')
 LineDone seen old live counts l (Err s) new live' counts' =
     (cut : List Call) × (Plays seen old.world cut new.world × WhyNot old.world old.table l s cut × (counts' ≡ counts))
@@ -96,5 +100,6 @@ pub record SoFar {D : Type 0} (seen : D → Seen) (a : Place D) (b : Place D) (c
 
 -- A whole run, to the end of its rounds, where no line comes; or one up to a line that wasn't done.
 abbrev pub RunMade : {D : Type 0} → (D → Seen) → Place D → Result Unit Stop → Place D → Counts → Type 0
-RunMade seen a (Ok u) b counts = (run : Generated) × (SoFar seen a (record b { run = run }) counts × ((made_next run b.live).0 ≡ None))
+RunMade seen a (Ok u) b counts = (run : Generated)
+    × (SoFar seen a (record b { run = run }) counts × ((made_next run b.live).0 ≡ None))
 RunMade seen a (Err s) b counts = (mid : Place _) × (SoFar seen a mid counts × BreaksAt seen mid s b.world)

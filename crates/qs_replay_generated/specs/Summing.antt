@@ -5,8 +5,8 @@ use Rattle.qs_outside.specs.Blocks.{Seen, Same}
 use Rattle.qs_image.specs.Image.{AllTell, RoseAt, SameDisks, block_past, content}
 use Rattle.qs_generate.specs.Sums.{weighted}
 
--- The blocks' bytes, one block behind the other from a place on: each byte times its place counted from 1. A block has so many places, also
--- where nothing is known of it.
+-- The blocks' bytes, one block behind the other from a place on: each byte times its place counted from 1. A block
+-- has so many places, also where nothing is known of it.
 unfoldable pub total : ℕ → ℕ → List (List ℕ) → ℕ
 total align place [] = 0
 total align place (bytes ∷ more) = weighted place bytes + total align (place + align) more
@@ -14,7 +14,8 @@ total align place (bytes ∷ more) = weighted place bytes + total align (place +
 -- What was loaded of a block: its bytes; or none, where its load failed.
 abbrev pub IsLoaded : List Seen → ℕ → ℕ → List ℕ → List Seen → Type 0
 IsLoaded disks align b bytes disks' =
-    ((length bytes ≡ align) × (AllTell disks → bytes ≡ part (content disks) (b * align) align)) ⊎ ((bytes ≡ []) × RoseAt disks (b * align) align disks')
+    ((length bytes ≡ align) × (AllTell disks → bytes ≡ part (content disks) (b * align) align))
+    ⊎ ((bytes ≡ []) × RoseAt disks (b * align) align disks')
 
 -- nothing was written, and a crash leaves what it left before
 pub record Stays (disks disks' : List Seen) : Type 0 where
@@ -29,9 +30,10 @@ pub record AddsBlock (disks : List Seen) (align b sum sum' : ℕ) (disks' : List
   pub sum_is : sum' ≡ (sum + weighted (b * align) bytes) % 2 ^ 64
   pub stays : Stays disks disks'
 
--- The sum of the image's bytes, each times its place counted from 1, modulo 2^64: so many blocks were loaded, one after the other, and one whose load
--- failed adds nothing.
-pub record SumsUp {D : Type 0} (seen : D → Seen) (align blocks : ℕ) (disks : List D) (sum : ℕ) (disks' : List D) : Type 0 where
+-- The sum of the image's bytes, each times its place counted from 1, modulo 2^64: so many blocks were loaded, one
+-- after the other, and one whose load failed adds nothing.
+pub record SumsUp {D : Type 0} (seen : D → Seen) (align blocks : ℕ) (disks : List D) (sum : ℕ)
+    (disks' : List D) : Type 0 where
   pub loaded : List (List ℕ)
   pub count : length loaded ≡ blocks
   pub each : (b : ℕ) → b < blocks → IsLoaded (map seen disks) align b (slice_index_or loaded b []) (map seen disks')

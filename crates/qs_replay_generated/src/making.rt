@@ -46,7 +46,8 @@ fn renew(live: &mut Vec<LiveRequest>, change: Change, ended: Option<bool>) -> Re
 
 /// A WRITE whose bytes found no memory is done without them.
 fn play_lost<D: RiggedDisk + Drop>(desk: &mut Desk<D>, fault: &LineFault) -> Result<LineTold, Stop>
-    ensures { (wanted : ALine) → IsLineFault (λ l. l ≡ wanted) fault.now → PlaysSome D.Disk.seen desk.old wanted result desk.new }
+    ensures { (wanted : ALine) → IsLineFault (λ l. l ≡ wanted) fault.now →
+        PlaysSome D.Disk.seen desk.old wanted result desk.new }
 {
     match fault {
         LineFault::NoBody {
@@ -101,7 +102,8 @@ pub fn make_run<D: RiggedDisk + Drop>(
     live: &mut Vec<LiveRequest>,
     counts: &mut Counts,
 ) -> Result<(), Stop>
-    ensures { RunMade D.Disk.seen (place run.old live.old.items desk.old) result (place run.new live.new.items desk.new) counts.new }
+    ensures { RunMade D.Disk.seen (place run.old live.old.items desk.old) result
+        (place run.new live.new.items desk.new) counts.new }
 {
     *counts = Counts {
         errors: 0,

@@ -15,7 +15,8 @@ fn with_block<D: Disk>(disks: &mut [D], b: u64, work: &mut [u8], sum: u64) -> u6
     requires image { IsImage (map D.seen disks.old) }
     requires inside { (b + 1) * align_of (map D.seen disks.old) ≤ size_of (map D.seen disks.old) }
     requires whole { length work.old ≡ align_of (map D.seen disks.old) }
-    ensures adds { AddsBlock (map D.seen disks.old) (align_of (map D.seen disks.old)) b sum result (map D.seen disks.new) }
+    ensures adds { AddsBlock (map D.seen disks.old) (align_of (map D.seen disks.old)) b sum result
+        (map D.seen disks.new) }
 {
     let place = b * work.len() as u64;
     match load_block(disks, b, work) {

@@ -43,7 +43,8 @@ fn tell_totals<O: Sink, D: Disk + Drop>(
     requires image { IsImage (map D.seen disks.old.items) }
     requires align { align_of (map D.seen disks.old.items) ≡ align }
     requires size { size_of (map D.seen disks.old.items) ≡ blocks * align }
-    ensures tells { TellsTotals D.seen align blocks counts disks.old.items (O.sent output.old) result disks.new.items (O.sent output.new) }
+    ensures tells { TellsTotals D.seen align blocks counts disks.old.items (O.sent output.old) result disks.new.items
+        (O.sent output.new) }
     ensures cause { CountsFault result (O.write_faults output.old) (O.write_faults output.new) }
 {
     let Ok(mut stream) = Stream::new(alloc) else {
@@ -112,8 +113,10 @@ pub fn generate_disks<O: Sink, D: RiggedDisk + Drop>(
 ) -> Status
     requires long { 2048 < blocks * align }
     requires image { IsImage (map D.Disk.seen disks.old.items) →
-        (align_of (map D.Disk.seen disks.old.items) ≡ align) × (size_of (map D.Disk.seen disks.old.items) ≡ blocks * align) }
-    ensures generates { Generates D.Disk.seen seed align blocks disks.old.items (O.sent output.old) result disks.new.items (O.sent output.new) }
+        (align_of (map D.Disk.seen disks.old.items) ≡ align)
+        × (size_of (map D.Disk.seen disks.old.items) ≡ blocks * align) }
+    ensures generates { Generates D.Disk.seen seed align blocks disks.old.items (O.sent output.old) result
+        disks.new.items (O.sent output.new) }
     ensures cause { CountsFault result (O.write_faults output.old) (O.write_faults output.new) }
 {
     let taken = mem::replace(disks, Vec::new(alloc));

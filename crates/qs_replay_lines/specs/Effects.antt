@@ -34,16 +34,44 @@ use Rattle.qs_replay_lines.specs.Tables.{GivesName, IsKnown, IsUsed, Names, adds
 use Rattle.qs_replay_lines.specs.declared.told.LineTold.{LineTold}
 
 abbrev pub read_ask : ℕ → ℕ → ℕ → Ask
-read_ask cookie offset length = record { kind = kind.Read; fua = false; flags_fit = true; cookie = cookie; offset = offset; length = length }
+read_ask cookie offset length = record {
+  kind = kind.Read;
+  fua = false;
+  flags_fit = true;
+  cookie = cookie;
+  offset = offset;
+  length = length;
+}
 
 abbrev pub write_ask : ℕ → ℕ → List ℕ → Bool → Ask
-write_ask cookie offset bytes fua = record { kind = kind.Write; fua = fua; flags_fit = true; cookie = cookie; offset = offset; length = length bytes }
+write_ask cookie offset bytes fua = record {
+  kind = kind.Write;
+  fua = fua;
+  flags_fit = true;
+  cookie = cookie;
+  offset = offset;
+  length = length bytes;
+}
 
 abbrev pub zero_ask : ℕ → ℕ → ℕ → Bool → Ask
-zero_ask cookie offset length fua = record { kind = kind.Zero; fua = fua; flags_fit = true; cookie = cookie; offset = offset; length = length }
+zero_ask cookie offset length fua = record {
+  kind = kind.Zero;
+  fua = fua;
+  flags_fit = true;
+  cookie = cookie;
+  offset = offset;
+  length = length;
+}
 
 abbrev pub trim_ask : ℕ → ℕ → ℕ → Ask
-trim_ask cookie offset length = record { kind = kind.Trim; fua = false; flags_fit = true; cookie = cookie; offset = offset; length = length }
+trim_ask cookie offset length = record {
+  kind = kind.Trim;
+  fua = false;
+  flags_fit = true;
+  cookie = cookie;
+  offset = offset;
+  length = length;
+}
 
 -- a FLUSH names no places
 abbrev pub flush_ask : ℕ → Ask
@@ -79,8 +107,10 @@ abbrev pub IsEventOf : Names → Line → Bool → Event → Names → Type 0
 IsEventOf t (line.Session s e) lost made t' = (n : ℕ) × (GivesName t s n t' × (made ≡ event.Attach n e))
 IsEventOf t (line.End s) lost made t' = (n : ℕ) × (GivesName t s n t' × (made ≡ event.Leave n))
 IsEventOf t (line.Read s c offset long) lost made t' =
-    (n : ℕ) × (body : Option (List ℕ)) × (GivesName t s n t' × IsRoom body long × (made ≡ event.Ask n (read_ask c offset long) body))
-IsEventOf t (line.Write s c offset bytes fua) lost made t' = AskedBy t s (write_ask c offset bytes fua) (bytes_or lost bytes) made t'
+    (n : ℕ) × (body : Option (List ℕ)) × (GivesName t s n t' × IsRoom body long
+    × (made ≡ event.Ask n (read_ask c offset long) body))
+IsEventOf t (line.Write s c offset bytes fua) lost made t' = AskedBy t s (write_ask c offset bytes fua)
+    (bytes_or lost bytes) made t'
 IsEventOf t (line.Zero s c offset long fua) lost made t' = AskedBy t s (zero_ask c offset long fua) None made t'
 IsEventOf t (line.Trim s c offset long) lost made t' = AskedBy t s (trim_ask c offset long) None made t'
 IsEventOf t (line.Flush s c) lost made t' = AskedBy t s (flush_ask c) None made t'
@@ -170,8 +200,8 @@ pub record Crashes (t : Names) (choice : CrashChoice) (calls : List Call) (text 
   pub place : ℕ
   pub rests : Rests t (PowerFailed choice left ∷ ExportMade op place ∷ []) calls text t'
 
--- what a line does: one that says nothing does nothing, one that plans a failure plans it, one that crashes makes the export anew,
--- and the others make events
+-- what a line does: one that says nothing does nothing, one that plans a failure plans it, one that crashes makes the
+-- export anew, and the others make events
 abbrev pub DoesLine : Names → Line → Bool → List Call → List ℕ → Names → Type 0
 DoesLine t line.Nothing lost calls text t' = Rests t [] calls text t'
 DoesLine t (line.Fail j fail) lost calls text t' = Rests t (Rigged j fail ∷ []) calls text t'
@@ -179,13 +209,15 @@ DoesLine t (line.Crash choice) lost calls text t' = Crashes t choice calls text 
 DoesLine t other lost calls text t' = Acts t other lost calls text t'
 
 -- a whole line was done: its calls, and what it prints
-pub record IsPlayed {D : Type 0} (seen : D → Seen) (w : WorldValue D) (t : Names) (l : Line) (lost : Bool) (calls : List Call) (text : List ℕ)
+pub record IsPlayed {D : Type 0} (seen : D → Seen) (w : WorldValue D) (t : Names) (l : Line) (lost : Bool)
+    (calls : List Call) (text : List ℕ)
     (w' : WorldValue D) (t' : Names) : Type 0 where
   pub plays : Plays seen w calls w'
   pub does : DoesLine t l lost calls text t'
 
 -- at a desk, and told in numbers
-pub record Played {D : Type 0} (seen : D → Seen) (old : Desk D) (l : Line) (lost : Bool) (told : LineTold) (new : Desk D) : Type 0 where
+pub record Played {D : Type 0} (seen : D → Seen) (old : Desk D) (l : Line) (lost : Bool) (told : LineTold)
+    (new : Desk D) : Type 0 where
   pub calls : List Call
   pub text : List ℕ
   pub is : IsPlayed seen old.world old.table l lost calls text new.world new.table
@@ -235,13 +267,16 @@ IsCrash other calls = ⊥
 
 -- none, or these
 abbrev pub IsCutLine : Names → Line → List Call → Type 0
-IsCutLine t l calls = (calls ≡ []) ⊎ ((made : Event) × (mid : Names) × (lost : Bool) × (IsEventOf t l lost made mid × AreFirst l made calls)) ⊎ IsCrash l calls
+IsCutLine t l calls = (calls ≡ []) ⊎ ((made : Event) × (mid : Names) × (lost : Bool)
+    × (IsEventOf t l lost made mid × AreFirst l made calls)) ⊎ IsCrash l calls
 
--- Why a line wasn't done, or not to its end: then nothing of it was printed, and but for refused memory nothing happened.
+-- Why a line wasn't done, or not to its end: then nothing of it was printed, and but for refused memory nothing
+-- happened.
 abbrev pub Stopped : {D : Type 0} → (D → Seen) → Desk D → Line → Stop → Desk D → Type 0
 Stopped seen old l stop.BadLine new = UsesAgain old.table l × (new.world ≡ old.world) × (new.out ≡ old.out)
 Stopped seen old l stop.NotNext new =
-    (CannotCome old.world old.table l ⊎ DrivesNotLive old.table l) × (UsesAgain old.table l → ⊥) × (new.world ≡ old.world) × (new.out ≡ old.out)
+    (CannotCome old.world old.table l ⊎ DrivesNotLive old.table l) × (UsesAgain old.table l → ⊥)
+    × (new.world ≡ old.world) × (new.out ≡ old.out)
 Stopped seen old l stop.Memory new =
     (calls : List Call) × (IsCutLine old.table l calls × Plays seen old.world calls new.world × (new.out ≡ old.out))
 
@@ -251,10 +286,14 @@ PlaysLine seen old l lost (Err s) new = Stopped seen old l s new
 
 -- the line asks so, with this body
 abbrev pub IsAsked : Line → Bool → List ℕ → Ask → Option (List ℕ) → Type 0
-IsAsked (line.Read s c offset long) lost session ask body = (s ≡ session) × (ask ≡ read_ask c offset long) × IsRoom body long
-IsAsked (line.Write s c offset bytes fua) lost session ask body = (s ≡ session) × (ask ≡ write_ask c offset bytes fua) × (body ≡ bytes_or lost bytes)
-IsAsked (line.Zero s c offset long fua) lost session ask body = (s ≡ session) × (ask ≡ zero_ask c offset long fua) × (body ≡ None)
-IsAsked (line.Trim s c offset long) lost session ask body = (s ≡ session) × (ask ≡ trim_ask c offset long) × (body ≡ None)
+IsAsked (line.Read s c offset long) lost session ask body = (s ≡ session) × (ask ≡ read_ask c offset long)
+    × IsRoom body long
+IsAsked (line.Write s c offset bytes fua) lost session ask body = (s ≡ session) × (ask ≡ write_ask c offset bytes fua)
+    × (body ≡ bytes_or lost bytes)
+IsAsked (line.Zero s c offset long fua) lost session ask body = (s ≡ session) × (ask ≡ zero_ask c offset long fua)
+    × (body ≡ None)
+IsAsked (line.Trim s c offset long) lost session ask body = (s ≡ session) × (ask ≡ trim_ask c offset long)
+    × (body ≡ None)
 IsAsked (line.Flush s c) lost session ask body = (s ≡ session) × (ask ≡ flush_ask c) × (body ≡ None)
 IsAsked other lost session ask body = ⊥
 

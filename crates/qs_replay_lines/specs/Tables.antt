@@ -8,8 +8,8 @@ use Rattle.qs_cookies.specs.Used.{CookieRuns, by_session}
 use Rattle.qs_part.specs.declared.event.Outcome.{Outcome}
 use Rattle.qs_part.specs.declared.event.Outcome.TheVariants.{Answered}
 
--- The names of sessions, in the order in which they came; the cookies that were used, each with its session's number; and by these
--- the numbers of the requests that aren't answered yet.
+-- The names of sessions, in the order in which they came; the cookies that were used, each with its session's number;
+-- and by these the numbers of the requests that aren't answered yet.
 pub record Names : Type 0 where
   pub sessions : List (List ℕ)
   pub used : set.FinSet by_session
@@ -17,12 +17,14 @@ pub record Names : Type 0 where
 
 abbrev pub coded_names : Coded Names
 coded_names = code_by (List (List ℕ) × (set.FinSet by_session × map.FinMap by_session ℕ))
-    (coded× (coded_list (coded_list coded_ℕ)) (coded× (set.code (coded× coded_ℕ coded_ℕ)) (map.code (coded× coded_ℕ coded_ℕ) coded_ℕ)))
+    (coded× (coded_list (coded_list coded_ℕ))
+    (coded× (set.code (coded× coded_ℕ coded_ℕ)) (map.code (coded× coded_ℕ coded_ℕ) coded_ℕ)))
     (λ n. (n.sessions, (n.used, n.live))) (λ t. record { sessions = t.0; used = t.1.0; live = t.1.1 }) (λ _. refl)
 
 -- a request that isn't answered has used its cookie
 abbrev pub AreUsed : set.FinSet by_session → CookieRuns → Type 0
-AreUsed used live = (key : ℕ × ℕ) (number : ℕ) → entry_at by_session live key ≡ Some number → set.contains used key ≡ true
+AreUsed used live = (key : ℕ × ℕ) (number : ℕ) → entry_at by_session live key ≡ Some number →
+    set.contains used key ≡ true
 
 -- the name came first at this place
 pub record IsKnown (names : List (List ℕ)) (name : List ℕ) (at : ℕ) : Type 0 where
@@ -45,7 +47,10 @@ IsUsed t session cookie = set.contains t.used (session, cookie) ≡ true
 
 -- a request of this number, made with a new cookie
 abbrev pub adds : Names → ℕ → ℕ → ℕ → Names
-adds t session cookie number = record t { used = set.insert t.used (session, cookie); live = map.insert t.live (session, cookie) number }
+adds t session cookie number = record t {
+  used = set.insert t.used (session, cookie);
+  live = map.insert t.live (session, cookie) number;
+}
 
 -- a request that was answered isn't kept
 abbrev pub names_settled : Names → Option (ℕ × ℕ) → Outcome → Names

@@ -48,7 +48,8 @@ pub fn run_all<D: Disk + Drop>(
     actor: Actor,
     now: u64,
 ) -> Result<StepsMade, Stop>
-    ensures ok { IfOk result (λ made. (calls : List Call) × (Plays D.seen world.old calls world.new × RunsOut (AStep actor now) calls made.last ×
+    ensures ok { IfOk result (λ made. (calls : List Call)
+        × (Plays D.seen world.old calls world.new × RunsOut (AStep actor now) calls made.last ×
         (made.count ≡ list_length calls % 2 ^ 64))) }
     ensures next { OnErr result (IsNotNext world.old (AStep actor now) × (world.new ≡ world.old)) }
     ensures only { (result ≡ Err BadLine → ⊥) × (result ≡ Err NoMemory → ⊥) }
@@ -159,7 +160,8 @@ pub struct Found {
 
 /// The actor that a script names, or why there is none.
 pub fn actor_for(table: &mut Table, who: &ScriptActor) -> Result<Found, Stop>
-    ensures ok { IfOk result (λ found. IsActor table.old who.now found.actor table.new × IsKey table.new who.now found.key) }
+    ensures ok { IfOk result (λ found. IsActor table.old who.now found.actor table.new
+        × IsKey table.new who.now found.key) }
     ensures next { result ≡ Err NotNext → IsNotLive table.old who.now }
     ensures form { result ≡ Err BadLine → ⊥ }
 {

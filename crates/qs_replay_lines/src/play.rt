@@ -13,7 +13,14 @@ use qs_script::{Line, ScriptActor, SessionName, SessionNews, put_session};
 
 /// The request of a line. Its flags fit its kind.
 fn ask_of(kind: Kind, fua: bool, cookie: u64, offset: u64, length: u64) -> Ask
-    ensures { result ≡ record { kind = kind; fua = fua; flags_fit = true; cookie = cookie; offset = offset; length = length } }
+    ensures { result ≡ record {
+      kind = kind;
+      fua = fua;
+      flags_fit = true;
+      cookie = cookie;
+      offset = offset;
+      length = length;
+    } }
 {
     Ask {
         kind,
@@ -52,7 +59,8 @@ impl<D: Disk + Drop> Desk<D> {
 
     /// A session asks for something, by the line of a request.
     fn ask(&mut self, session: SessionName, ask: Ask, body: Option<Bytes>) -> Result<LineTold, Stop>
-        ensures { (l : ALine) (lost : Bool) → IsAsked l lost session ask body → PlaysLine D.seen self.old l lost result self.new }
+        ensures { (l : ALine) (lost : Bool) → IsAsked l lost session ask body →
+            PlaysLine D.seen self.old l lost result self.new }
     {
         let number = self.table.number(session)?;
         if self.table.is_used(number, ask.cookie) {

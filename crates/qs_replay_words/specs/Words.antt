@@ -65,7 +65,11 @@ IsFront words = (r : Reading) × AreRead nothing_read words r
 
 -- the whole command: no number is missing; the image has 64 blocks of 512 bytes, but for what the options say
 abbrev pub whole_by : Expected → Reading → Option ReplayWords
-whole_by OptionWord r = Some (record { blocks = unwrap_or r.blocks 64; align = unwrap_or r.align 512; generate = r.generate })
+whole_by OptionWord r = Some (record {
+  blocks = unwrap_or r.blocks 64;
+  align = unwrap_or r.align 512;
+  generate = r.generate;
+})
 whole_by other r = None
 
 abbrev pub words_of_reading : Reading → Option ReplayWords

@@ -6,7 +6,8 @@ ghost use Rattle.qs_replay_words.specs.declared.words.ReplayWords.{ReplayWords a
 
 /// Words tell one thing at most.
 pub fn tells_one()
-    ensures { (words : List (String Global)) (one two : Told) → TellsWords words one → TellsWords words two → one ≡ two }
+    ensures { (words : List (String Global)) (one two : Told) → TellsWords words one → TellsWords words two →
+        one ≡ two }
 {}
 
 /// The words tell from 1 to 65,536 blocks of 512 or 4096 bytes.

@@ -53,7 +53,8 @@ IsTold note (Load b k buf) (Filled got) = note ≡ record { kind = LoadKind; at 
 IsTold note (Load b k buf) (Fault back) = note ≡ record { kind = LoadKind; at = Some b; reply = OfStripe told.Fault }
 IsTold note (Store b k buf) (Done back) = note ≡ record { kind = StoreKind; at = Some b; reply = OfStripe told.Done }
 IsTold note (Store b k buf) (Fault back) = note ≡ record { kind = StoreKind; at = Some b; reply = OfStripe told.Fault }
-IsTold note (Store b k buf) (HeldBy j back) = note ≡ record { kind = StoreKind; at = Some b; reply = OfStripe (told.HeldBy j) }
+IsTold note (Store b k buf) (HeldBy j back) = note
+    ≡ record { kind = StoreKind; at = Some b; reply = OfStripe (told.HeldBy j) }
 IsTold note _ _ = ⊥
 
 -- the request did the operation that was next, on stripe s, took the answer, and goes on
@@ -79,8 +80,8 @@ pub record GoesOn (shape : Shape) (s : ℕ) (old new : Both) : Type 0 where
   pub does : DoesOne shape s note old new
   pub done : IsDone note.reply
 
--- So many operations of n were done, one after the other, and a last one, which is told by the note; the run ends before its last
--- block only where that one wasn't done.
+-- So many operations of n were done, one after the other, and a last one, which is told by the note; the run ends
+-- before its last block only where that one wasn't done.
 pub record RanOut (shape : Shape) (s n : ℕ) (note : Note) (old new : Both) : Type 0 where
   pub before : ℕ
   pub below : before < n

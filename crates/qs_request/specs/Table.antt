@@ -53,8 +53,8 @@ pub record FitsBlock (shape : Shape) (s b : ℕ) : Type 0 where
   pub stripe : s ≡ stripe_of b
   pub inside : (b + 1) * shape.align ≤ shape.size
 
--- An operation of a stripe is on such a block, for a place of the tracker, with a buffer of one block. A Sync is on one of
--- the eight stripes.
+-- An operation of a stripe is on such a block, for a place of the tracker, with a buffer of one block. A Sync is on
+-- one of the eight stripes.
 abbrev pub FitsStripe : Shape → ℕ → StripeOp → Type 0
 FitsStripe shape s (Load b k buf) = FitsBlock shape s b × (k < 256) × (length buf ≡ shape.align)
 FitsStripe shape s (Hold b k end buf) = FitsBlock shape s b × (k < 256) × (length buf ≡ shape.align)

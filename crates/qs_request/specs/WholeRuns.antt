@@ -49,25 +49,30 @@ abbrev pub behind_stores : ℕ → WholeRun → List ℕ → Req → ℕ → Req
 behind_stores A run buf q zero = q
 behind_stores A run buf q (suc i) = followed A (behind_stores A run buf q i) (ByStripe (Done (run_block A run buf i)))
 
--- What the loads of a run make of a READ, block by block: each is the next operation, the last one leads to the block behind
--- the run or to the answer, and one that the disk refuses ends the READ.
+-- What the loads of a run make of a READ, block by block: each is the next operation, the last one leads to the block
+-- behind the run or to the answer, and one that the disk refuses ends the READ.
 pub record AreLoads (A : ℕ) (q : Req) (run : WholeRun) (buf : List ℕ) : Type 0 where
-  pub before : (i : ℕ) → i < run.n → behind_loads A run buf q i ≡ record q { stage = In run.k (ToLoad (run.b + i) (take (run.at + i * A) buf)) }
+  pub before : (i : ℕ) → i < run.n → behind_loads A run buf q i
+      ≡ record q { stage = In run.k (ToLoad (run.b + i) (take (run.at + i * A) buf)) }
   pub whole : behind_loads A run buf q run.n ≡ record q { stage = In run.k (next_read A q.client run buf) }
   pub fails : (m : ℕ) → m < run.n → (back : List ℕ) →
-      followed A (behind_loads A run buf q m) (ByStripe (Fault (Some back))) ≡ record q { stage = In run.k (ToEnd (Refused Io)) }
+      followed A (behind_loads A run buf q m) (ByStripe (Fault (Some back)))
+      ≡ record q { stage = In run.k (ToEnd (Refused Io)) }
 
--- What the stores of a run make of a WRITE: each is the next operation, with the body's bytes; one that is done leads on, one
--- that the disk refuses ends the WRITE, and one whose block another place holds stays next.
+-- What the stores of a run make of a WRITE: each is the next operation, with the body's bytes; one that is done leads
+-- on, one that the disk refuses ends the WRITE, and one whose block another place holds stays next.
 pub record AreStores (A : ℕ) (q : Req) (run : WholeRun) : Type 0 where
-  pub before : (i : ℕ) → i < run.n → behind_stores A run q.client.body q i ≡ record q { stage = In run.k (ToStore (run.b + i)) }
+  pub before : (i : ℕ) → i < run.n → behind_stores A run q.client.body q i
+      ≡ record q { stage = In run.k (ToStore (run.b + i)) }
   pub content : (i : ℕ) → i < run.n → IsMerged A q.client q.pads (run.b + i) (run_block A run q.client.body i)
-  pub done : (m : ℕ) → m < run.n → behind_stores A run q.client.body q (suc m) ≡ record q { stage = In run.k (stored A q.client (run.b + m)) }
+  pub done : (m : ℕ) → m < run.n → behind_stores A run q.client.body q (suc m)
+      ≡ record q { stage = In run.k (stored A q.client (run.b + m)) }
   pub fails : (m : ℕ) → m < run.n → (back : List ℕ) →
       followed A (behind_stores A run q.client.body q m) (ByStripe (Fault (Some back)))
       ≡ record q { stage = In run.k (store_failed A q.client (run.b + m)) }
   pub waits : (m : ℕ) → m < run.n → (j : ℕ) (back : List ℕ) →
-      followed A (behind_stores A run q.client.body q m) (ByStripe (HeldBy j back)) ≡ record q { stage = In run.k (ToStore (run.b + m)) }
+      followed A (behind_stores A run q.client.body q m) (ByStripe (HeldBy j back))
+      ≡ record q { stage = In run.k (ToStore (run.b + m)) }
 
 -- the span doesn't cover block b wholly
 abbrev pub IsNotWhole : ℕ → Places → ℕ → Type 0

@@ -73,7 +73,8 @@ impl Machine {
     fn listing(&self, k: u8) -> Todo
         requires shape { IsShape self.now.shape }
         requires going { IsGoing self.now }
-        ensures wants { WantsAt self.now.shape.align (client_of self.now) self.now.pads.pads (stage_of self.now (Stage.In k Step.List)) result }
+        ensures wants { WantsAt self.now.shape.align (client_of self.now) self.now.pads.pads
+            (stage_of self.now (Stage.In k Step.List)) result }
         ensures fits { FitsPart self.now.shape result }
     {
         Todo::Tracker(TrackerOp::List {
@@ -87,7 +88,8 @@ impl Machine {
         requires shape { IsShape self.old.shape }
         requires loading { IsLoading self.old b }
         requires work { length self.old.work ≡ self.old.shape.align }
-        ensures wants { WantsAt self.old.shape.align (client_of self.old) self.old.pads.pads (stage_of self.old (Stage.In k (Step.Load b))) result }
+        ensures wants { WantsAt self.old.shape.align (client_of self.old) self.old.pads.pads
+            (stage_of self.old (Stage.In k (Step.Load b))) result }
         ensures fits { FitsPart self.old.shape result }
         ensures same { self.new ≡ record self.old { work = [] } }
     {
@@ -99,7 +101,8 @@ impl Machine {
         requires shape { IsShape self.old.shape }
         requires going { IsGoing self.old }
         requires work { length self.old.work ≡ self.old.shape.align }
-        ensures wants { WantsAt self.old.shape.align (client_of self.old) self.old.pads.pads (stage_of self.old (Stage.In k (Step.Hold end))) result }
+        ensures wants { WantsAt self.old.shape.align (client_of self.old) self.old.pads.pads
+            (stage_of self.old (Stage.In k (Step.Hold end))) result }
         ensures fits { FitsPart self.old.shape result }
         ensures same { self.new ≡ record self.old { work = [] } }
     {
@@ -113,7 +116,8 @@ impl Machine {
         requires storing { IsStoring self.old b }
         requires body { brings_bytes self.old.ask.kind ≡ true → length self.old.body ≡ self.old.ask.length }
         requires work { length self.old.work ≡ self.old.shape.align }
-        ensures wants { WantsAt self.old.shape.align (client_of self.old) self.old.pads.pads (stage_of self.old (Stage.In k (Step.Store b))) result }
+        ensures wants { WantsAt self.old.shape.align (client_of self.old) self.old.pads.pads
+            (stage_of self.old (Stage.In k (Step.Store b))) result }
         ensures fits { FitsPart self.old.shape result }
         ensures same { self.new ≡ record self.old { work = [] } }
     {
@@ -125,7 +129,8 @@ impl Machine {
     fn free(&self, k: u8, side: Side) -> Todo
         requires shape { IsShape self.now.shape }
         requires going { IsGoing self.now }
-        ensures wants { WantsAt self.now.shape.align (client_of self.now) self.now.pads.pads (stage_of self.now (Stage.In k (Step.Free side))) result }
+        ensures wants { WantsAt self.now.shape.align (client_of self.now) self.now.pads.pads
+            (stage_of self.now (Stage.In k (Step.Free side))) result }
         ensures fits { FitsPart self.now.shape result }
     {
         let b = self.edge(side);
@@ -137,7 +142,8 @@ impl Machine {
         requires shape { IsShape self.old.shape }
         requires goes { Goes self.old step }
         requires buffers { HasBuffers self.old false }
-        ensures wants { WantsAt self.old.shape.align (client_of self.old) self.old.pads.pads (stage_of self.old (Stage.In k step)) result }
+        ensures wants { WantsAt self.old.shape.align (client_of self.old) self.old.pads.pads
+            (stage_of self.old (Stage.In k step)) result }
         ensures fits { FitsPart self.old.shape result }
         ensures same { self.new ≡ record self.old { work = self.new.work } }
         ensures work { lends step ≡ false → self.new.work ≡ self.old.work }
@@ -177,7 +183,8 @@ impl Machine {
     /// What the request does next.
     pub fn next(&mut self) -> Todo
         requires { IsFree self.old }
-        ensures wants { WantsAt self.old.shape.align (client_of self.old) self.old.pads.pads (stage_of self.old self.old.stage) result }
+        ensures wants { WantsAt self.old.shape.align (client_of self.old) self.old.pads.pads
+            (stage_of self.old self.old.stage) result }
         ensures fits { FitsPart self.old.shape result }
         ensures leaves { Gave (value_of self.old) result (value_of self.new) }
         ensures sound { self.new.answered ≡ false → IsSound self.new }

@@ -198,7 +198,8 @@ impl Machine {
     pub fn after_load(&self, b: u64) -> Step
         requires shape { IsShape self.now.shape }
         requires loading { IsLoading self.now b }
-        ensures step { result ≡ (if b == edge self.now.shape.align (client_of self.now) TailSide then Step.End Ending.Success else Step.Load (b + 1)) }
+        ensures step { result ≡ (if b == edge self.now.shape.align (client_of self.now) TailSide
+            then Step.End Ending.Success else Step.Load (b + 1)) }
         ensures goes { Goes self.now result }
     {
         if b == self.edge(Side::Tail) {
@@ -212,7 +213,8 @@ impl Machine {
     pub fn side_of(&self, b: u64) -> Side
         requires shape { IsShape self.now.shape }
         requires going { IsGoing self.now }
-        ensures { result ≡ (if b == edge self.now.shape.align (client_of self.now) HeadSide then HeadSide else TailSide) }
+        ensures { result ≡ (if b == edge self.now.shape.align (client_of self.now) HeadSide then HeadSide
+            else TailSide) }
     {
         if b == self.edge(Side::Head) {
             Side::Head

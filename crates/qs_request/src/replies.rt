@@ -52,7 +52,9 @@ impl Machine {
         requires shape { IsShape self.now.shape }
         requires stands { IsAtStage self.now self.now.stage }
         requires may { MayTrack reply (stage_of self.now self.now.stage) }
-        ensures stage { stage_of self.now result ≡ after_tracker self.now.shape.align (client_of self.now) self.now.dropped reply (stage_of self.now self.now.stage) }
+        ensures stage { stage_of self.now result
+            ≡ after_tracker self.now.shape.align (client_of self.now) self.now.dropped reply
+            (stage_of self.now self.now.stage) }
         ensures stands { IsAtStage self.now result }
     {
         match (self.stage, reply) {
@@ -117,7 +119,9 @@ impl Machine {
         requires shape { IsShape self.old.shape }
         requires loading { IsLoading self.old b }
         requires buffers { HasBuffers self.old false }
-        ensures step { stage_of self.new self.new.stage ≡ InFlight k (loaded self.old.shape.align (client_of self.old) b (take (before self.old b) self.old.body) self.old.work) }
+        ensures step { stage_of self.new self.new.stage
+            ≡ InFlight k (loaded self.old.shape.align (client_of self.old) b (take (before self.old b) self.old.body)
+            self.old.work) }
         ensures stands { IsAtStage self.new self.new.stage }
         ensures buffers { HasBuffers self.new false }
         ensures same { self.new ≡ record self.old { body = self.new.body; stage = self.new.stage } }
@@ -131,7 +135,8 @@ impl Machine {
         requires shape { IsShape self.old.shape }
         requires holding { IsHolding self.old side }
         requires buffers { HasBuffers self.old false }
-        ensures step { stage_of self.new self.new.stage ≡ InFlight k (held self.old.shape.align (client_of self.old) side) }
+        ensures step { stage_of self.new self.new.stage
+            ≡ InFlight k (held self.old.shape.align (client_of self.old) side) }
         ensures stands { IsAtStage self.new self.new.stage }
         ensures buffers { HasBuffers self.new false }
         ensures same { self.new ≡ record self.old {

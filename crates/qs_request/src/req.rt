@@ -20,8 +20,8 @@ use qs_stripe::stripe::Stripe;
 use std::alloc::Global;
 use std::marker::Model;
 
-/// One client's READ, WRITE, WRITE_ZEROES, TRIM or FLUSH, at any offset: it gives the operation of a part that comes next, takes
-/// the part's reply, and gives its answer at the end (the request table; for padded writes QEMU's
+/// One client's READ, WRITE, WRITE_ZEROES, TRIM or FLUSH, at any offset: it gives the operation of a part that comes
+/// next, takes the part's reply, and gives its answer at the end (the request table; for padded writes QEMU's
 /// block/io.c). Nothing here takes memory.
 #[derive(Debug, Drop)]
 pub struct Req {

@@ -5,7 +5,8 @@ ghost use Rattle.qs_request.specs.WholeRuns.{AreLoads, AreStores, IsReadingRun, 
 
 /// What a READ is behind a run of whole blocks is what it is behind their single loads, in order.
 pub fn reading_run()
-    ensures { (A : ℕ) (q : Request) (run : Run) (buf : List ℕ) → 0 < A → IsReadingRun A q run buf → AreLoads A q run buf }
+    ensures { (A : ℕ) (q : Request) (run : Run) (buf : List ℕ) → 0 < A → IsReadingRun A q run buf →
+        AreLoads A q run buf }
 {}
 
 /// What a WRITE is behind a run of whole blocks is what it is behind their single stores, in order, each

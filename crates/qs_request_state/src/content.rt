@@ -26,7 +26,8 @@ fn merge_into(block: &mut Vec<u8>, b: u64, span: &Span, bytes: &[u8])
     requires { span.now.lo + length bytes.now ≡ span.now.hi }
     ensures len { length block.new.items ≡ length block.old.items }
     ensures merged { (i : ℕ) → i < length block.old.items →
-        slice_index_or block.new.items i 0 ≡ merged_at span.now bytes.now (b * length block.old.items + i) (slice_index_or block.old.items i 0) }
+        slice_index_or block.new.items i 0 ≡ merged_at span.now bytes.now (b * length block.old.items + i)
+        (slice_index_or block.old.items i 0) }
 {
     merge(block.as_mut_slice(), b, span, bytes);
 }
@@ -36,7 +37,8 @@ pub fn merged(work: Bytes, pad: &[u8], b: u64, span: &Span, bytes: &[u8]) -> Byt
     requires { span.now.lo + length bytes.now ≡ span.now.hi }
     ensures len { length result ≡ length work }
     ensures merged { (i : ℕ) → i < length work →
-        slice_index_or result i 0 ≡ merged_at span.now bytes.now (b * length work + i) (slice_index_or (if length pad.now == length work then pad.now else work) i 0) }
+        slice_index_or result i 0 ≡ merged_at span.now bytes.now (b * length work + i)
+        (slice_index_or (if length pad.now == length work then pad.now else work) i 0) }
 {
     let mut block = work.into_vec();
     pad_into(&mut block, pad);
@@ -48,7 +50,8 @@ pub fn merged(work: Bytes, pad: &[u8], b: u64, span: &Span, bytes: &[u8]) -> Byt
 fn clear_in(block: &mut Vec<u8>, b: u64, span: &Span)
     ensures len { length block.new.items ≡ length block.old.items }
     ensures cleared { (i : ℕ) → i < length block.old.items →
-        slice_index_or block.new.items i 0 ≡ merged_at span.now [] (b * length block.old.items + i) (slice_index_or block.old.items i 0) }
+        slice_index_or block.new.items i 0 ≡ merged_at span.now [] (b * length block.old.items + i)
+        (slice_index_or block.old.items i 0) }
 {
     clear(block.as_mut_slice(), b, span);
 }
@@ -57,7 +60,8 @@ fn clear_in(block: &mut Vec<u8>, b: u64, span: &Span)
 pub fn cleared(work: Bytes, pad: &[u8], b: u64, span: &Span) -> Bytes
     ensures len { length result ≡ length work }
     ensures cleared { (i : ℕ) → i < length work →
-        slice_index_or result i 0 ≡ merged_at span.now [] (b * length work + i) (slice_index_or (if length pad.now == length work then pad.now else work) i 0) }
+        slice_index_or result i 0 ≡ merged_at span.now [] (b * length work + i)
+        (slice_index_or (if length pad.now == length work then pad.now else work) i 0) }
 {
     let mut block = work.into_vec();
     pad_into(&mut block, pad);

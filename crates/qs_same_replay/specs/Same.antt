@@ -21,7 +21,8 @@ IsGiven _ = Unit {0}
 
 -- A row in which the disk failed: that was planned, and the disk of a store told that it isn't full.
 abbrev pub IsRowByPlan : ℕ → World → (ℕ → Option Bool) → Client → {stage : Stage} → Act stage → Type 0
-IsRowByPlan A w full c (StoreFails {b = b} bytes took past) = ((w.plans (stripe_of b)).store ≢ None) × (full (stripe_of b) ≡ Some false)
+IsRowByPlan A w full c (StoreFails {b = b} bytes took past) = ((w.plans (stripe_of b)).store ≢ None)
+    × (full (stripe_of b) ≡ Some false)
 IsRowByPlan A w full c act = IsRowPlanned A w c act
 
 -- no disk failed in this step but by a plan
@@ -29,8 +30,8 @@ abbrev pub IsByPlan : ℕ → World → (ℕ → Option Bool) → Element → Ty
 IsByPlan A w full (Did r q act) = IsRowByPlan A w full q.client act
 IsByPlan A w full _ = Unit {0}
 
--- No disk failed in these steps but by a plan, and no request was refused its buffers. Before each step the disks told this of being
--- full.
+-- No disk failed in these steps but by a plan, and no request was refused its buffers. Before each step the disks
+-- told this of being full.
 abbrev pub AreCalm : ℕ → World → List Element → List (ℕ → Option Bool) → Type 0
 AreCalm A w [] [] = Unit {0}
 AreCalm A w (e ∷ es) (full ∷ fulls) = IsByPlan A w full e × IsGiven e × AreCalm A (happens A w e) es fulls
@@ -63,22 +64,29 @@ pub record OpenAlike (disks others : List Seen) : Type 0 where
   pub planned : (j : ℕ) → planned_of others j ≡ planned_of disks j
 
 -- two replays of one script that nothing outside disturbed
-pub record AreComparable {D : Type 0} {seen : D → Seen} {disks others : List D} {left sent sent' : Option (List ℕ)} {result result' : Status}
-    {disks1 others1 : List D} {left1 left2 sent1 sent2 : Option (List ℕ)} (one : IsReplayed seen disks left sent result disks1 left1 sent1)
+pub record AreComparable {D : Type 0} {seen : D →
+    Seen} {disks others : List D} {left sent sent' : Option (List ℕ)} {result result' : Status}
+    {disks1 others1 : List D} {left1 left2 sent1 sent2 : Option (List ℕ)} (one : IsReplayed seen disks left sent
+    result disks1 left1 sent1)
     (two : IsReplayed seen others left sent' result' others1 left2 sent2) : Type 0 where
   pub script : List ℕ
   pub told : left ≡ Some script
   pub alike : OpenAlike (map seen disks) (map seen others)
   pub smooth : IsSmooth result
   pub smooth_too : IsSmooth result'
-  pub calm : AreCalm (align_of (map seen disks)) (exported (map seen disks) false one.run.place) one.run.elements one.run.fulls
-  pub calm_too : AreCalm (align_of (map seen others)) (exported (map seen others) false two.run.place) two.run.elements two.run.fulls
+  pub calm : AreCalm (align_of (map seen disks)) (exported (map seen disks) false one.run.place) one.run.elements
+      one.run.fulls
+  pub calm_too : AreCalm (align_of (map seen others)) (exported (map seen others) false two.run.place)
+      two.run.elements two.run.fulls
   pub cut : AreCutAlike (align_of (map seen disks)) (exported (map seen disks) false one.run.place) one.run.elements
       (exported (map seen others) false two.run.place) two.run.elements
 
--- They did the same: the status, the lines, the calls with their outcomes, what was printed, and the content of the disks.
-pub record AreSame {D : Type 0} {seen : D → Seen} {disks others : List D} {left sent sent' : Option (List ℕ)} {result result' : Status}
-    {disks1 others1 : List D} {left1 left2 sent1 sent2 : Option (List ℕ)} (one : IsReplayed seen disks left sent result disks1 left1 sent1)
+-- They did the same: the status, the lines, the calls with their outcomes, what was printed, and the content of the
+-- disks.
+pub record AreSame {D : Type 0} {seen : D → Seen} {disks others : List D} {left sent sent' : Option (List ℕ)} {result
+    result' : Status}
+    {disks1 others1 : List D} {left1 left2 sent1 sent2 : Option (List ℕ)} (one : IsReplayed seen disks left sent
+    result disks1 left1 sent1)
     (two : IsReplayed seen others left sent' result' others1 left2 sent2) : Type 0 where
   pub status_is : result' ≡ result
   pub texts : two.replays.texts ≡ one.replays.texts
@@ -86,9 +94,11 @@ pub record AreSame {D : Type 0} {seen : D → Seen} {disks others : List D} {lef
   pub printed : two.replays.printed ≡ one.replays.printed
   pub now : (b : ℕ) → block_now (map seen others1) b ≡ block_now (map seen disks1) b
 
--- A replay is a function of its script, the disks' shape, their opening content, and what each crash found of what it might leave: no
--- other one did anything else.
-abbrev pub IsFunction : {D : Type 0} {seen : D → Seen} {disks : List D} {left sent : Option (List ℕ)} {result : Status} {disks1 : List D} {left1 sent1 : Option (List ℕ)} →
+-- A replay is a function of its script, the disks' shape, their opening content, and what each crash found of what it
+-- might leave: no other one did anything else.
+abbrev pub IsFunction : {D : Type 0} {seen : D →
+    Seen} {disks : List D} {left sent : Option (List ℕ)} {result : Status} {disks1 : List D} {left1 sent1 : Option
+    (List ℕ)} →
     IsReplayed seen disks left sent result disks1 left1 sent1 → Type 0
 IsFunction {D} {seen} {disks} {left} {sent} {result} {disks1} {left1} {sent1} one =
     (others : List D) (sent' : Option (List ℕ)) (result' : Status) (others1 : List D) (left2 sent2 : Option (List ℕ))

@@ -9,6 +9,7 @@ use qs_outside::RiggedDisk;
 /// the same: where neither input, output nor memory failed, no disk failed but by a plan, no request
 /// was refused its buffers, and each crash found the same contents that it might leave.
 pub fn one_replay<D: RiggedDisk + Drop>()
-    ensures { (disks : List D) (left sent : Option (List ℕ)) (result : Status) (after : List D) (left' sent' : Option (List ℕ))
+    ensures { (disks : List D) (left sent : Option (List ℕ)) (result : Status) (after : List D)
+        (left' sent' : Option (List ℕ))
         (one : IsReplayed D.Disk.seen disks left sent result after left' sent') → IsFunction one }
 {}

@@ -30,7 +30,8 @@ IsQuiet (first ∷ others) = first ≡ 35
 pub record Drives (verb : List ℕ) (words : List (List ℕ)) (actor : ScriptActor) (now : ℕ) : Type 0 where
   pub who : List ℕ
   pub actor_is : SpellsActor who actor
-  pub rest : ((words ≡ verb ∷ who ∷ []) × (now ≡ 0)) ⊎ ((digits : List ℕ) × ((words ≡ verb ∷ who ∷ digits ∷ []) × SpellsNumber greatest digits now))
+  pub rest : ((words ≡ verb ∷ who ∷ []) × (now ≡ 0))
+      ⊎ ((digits : List ℕ) × ((words ≡ verb ∷ who ∷ digits ∷ []) × SpellsNumber greatest digits now))
 
 -- a request's session, cookie and offset
 abbrev pub Place : Type 0
@@ -38,7 +39,8 @@ Place = List ℕ × ℕ × ℕ
 
 abbrev pub IsPlace : List ℕ → List ℕ → List ℕ → Place → Type 0
 IsPlace session cookie offset place =
-    (session ≡ place.0) × IsSessionName session × SpellsNumber greatest cookie place.1 × SpellsNumber greatest offset place.2
+    (session ≡ place.0) × IsSessionName session × SpellsNumber greatest cookie place.1
+    × SpellsNumber greatest offset place.2
 
 -- the word `fua`, where a request has the flag FUA
 abbrev pub fua_words : Bool → List (List ℕ)
@@ -46,7 +48,8 @@ fua_words true = codes "fua" ∷ []
 fua_words false = []
 
 -- `VERB S C OFFSET LAST`, and `fua` behind them where the flag is set
-pub record Asks (verb : List ℕ) (words : List (List ℕ)) (s : List ℕ) (c offset : ℕ) (last : List ℕ) (fua : Bool) : Type 0 where
+pub record Asks (verb : List ℕ) (words : List (List ℕ)) (s : List ℕ) (c offset : ℕ) (last : List ℕ)
+    (fua : Bool) : Type 0 where
   pub cookie_word : List ℕ
   pub offset_word : List ℕ
   pub whole : words ≡ verb ∷ s ∷ cookie_word ∷ offset_word ∷ last ∷ fua_words fua
@@ -54,23 +57,30 @@ pub record Asks (verb : List ℕ) (words : List (List ℕ)) (s : List ℕ) (c of
 
 -- such words, the last of them a length
 abbrev pub AsksLength : List ℕ → List (List ℕ) → List ℕ → ℕ → ℕ → ℕ → Bool → Type 0
-AsksLength verb words s c offset length fua = (last : List ℕ) × (Asks verb words s c offset last fua × SpellsNumber greatest_length last length)
+AsksLength verb words s c offset length fua = (last : List ℕ)
+    × (Asks verb words s c offset last fua × SpellsNumber greatest_length last length)
 
 -- the words spell the line
 abbrev pub WordsSpell : List (List ℕ) → Line → Type 0
 WordsSpell words line.Nothing = ⊥
-WordsSpell words (line.Session s e) = (words ≡ codes "session" ∷ s ∷ e ∷ []) × IsSessionName s × (1 ≤ length e) × IsName e
+WordsSpell words (line.Session s e) = (words ≡ codes "session" ∷ s ∷ e ∷ []) × IsSessionName s × (1 ≤ length e)
+    × IsName e
 WordsSpell words (line.End s) = (words ≡ codes "end" ∷ s ∷ []) × IsSessionName s
 WordsSpell words (line.Read s c offset length) = AsksLength (codes "read") words s c offset length false
-WordsSpell words (line.Write s c offset bytes fua) = (last : List ℕ) × (Asks (codes "write") words s c offset last fua × SpellsData last bytes)
+WordsSpell words (line.Write s c offset bytes fua) = (last : List ℕ)
+    × (Asks (codes "write") words s c offset last fua × SpellsData last bytes)
 WordsSpell words (line.Zero s c offset length fua) = AsksLength (codes "zero") words s c offset length fua
 WordsSpell words (line.Trim s c offset length) = AsksLength (codes "trim") words s c offset length false
-WordsSpell words (line.Flush s c) = (digits : List ℕ) × ((words ≡ codes "flush" ∷ s ∷ digits ∷ []) × IsSessionName s × SpellsNumber greatest digits c)
+WordsSpell words (line.Flush s c) = (digits : List ℕ)
+    × ((words ≡ codes "flush" ∷ s ∷ digits ∷ []) × IsSessionName s × SpellsNumber greatest digits c)
 WordsSpell words (line.Step actor now) = Drives (codes "step") words actor now
 WordsSpell words (line.Run actor now) = Drives (codes "run") words actor now
-WordsSpell words (line.Fail stripe kind) = (digits : List ℕ) × ((words ≡ codes "fail" ∷ digits ∷ fail_word kind ∷ []) × SpellsNumber 7 digits stripe)
+WordsSpell words (line.Fail stripe kind) = (digits : List ℕ)
+    × ((words ≡ codes "fail" ∷ digits ∷ fail_word kind ∷ []) × SpellsNumber 7 digits stripe)
 WordsSpell words (line.Crash choice) =
-    (digits : List ℕ) × ((pairs : List (List ℕ)) × ((words ≡ codes "crash" ∷ digits ∷ pairs) × SpellsNumber greatest digits choice.rest × SpellPicks pairs choice.picks))
+    (digits : List ℕ) × ((pairs : List (List ℕ))
+    × ((words ≡ codes "crash" ∷ digits ∷ pairs) × SpellsNumber greatest digits choice.rest
+    × SpellPicks pairs choice.picks))
 
 -- the text spells the line
 abbrev pub ReadsLine : List ℕ → Line → Type 0
@@ -81,5 +91,6 @@ ReadsLine text other = WordsSpell (words_of text) other
 -- no memory
 abbrev pub IsLineFault : (Line → Type 0) → LineFault → Type 0
 IsLineFault spells fault.OutOfForm = (read : Line) → ¬ spells read
-IsLineFault spells (fault.NoBody s c offset size fua) = (bytes : List ℕ) × (spells (line.Write s c offset bytes fua) × (length bytes ≡ size))
+IsLineFault spells (fault.NoBody s c offset size fua) = (bytes : List ℕ)
+    × (spells (line.Write s c offset bytes fua) × (length bytes ≡ size))
 IsLineFault spells fault.NoPicks = (choice : CrashChoice) × spells (line.Crash choice)

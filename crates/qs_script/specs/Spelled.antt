@@ -36,7 +36,8 @@ greatest_length = 0xffff_ffff
 -- a session, or a request of one by its cookie: `A` and `A.1`
 abbrev pub SpellsActor : List ℕ → ScriptActor → Type 0
 SpellsActor word (Session s) = (word ≡ s) × IsSessionName s
-SpellsActor word (Request s c) = (digits : List ℕ) × ((word ≡ s ++ 46 ∷ digits) × IsSessionName s × SpellsNumber greatest digits c)
+SpellsActor word (Request s c) = (digits : List ℕ)
+    × ((word ≡ s ++ 46 ∷ digits) × IsSessionName s × SpellsNumber greatest digits c)
 
 -- one byte, spelled by a pair of digits, over and over
 pub record Repeats (pair digits bytes : List ℕ) : Type 0 where

@@ -200,7 +200,8 @@ fn three_words(verb: &[u8], first: &[u8], second: &[u8]) -> Option<Line>
 /// The line that begins a session at an export, whose name isn't empty.
 fn session_line(session: &[u8], export: &[u8]) -> Option<Line>
     ensures some { IfSome result (WordsSpell (verb_word Verb.Session ∷ session.now ∷ export.now ∷ [])) }
-    ensures none { IsNone result → (line : ALine) → ¬ WordsSpell (verb_word Verb.Session ∷ session.now ∷ export.now ∷ []) line }
+    ensures none { IsNone result → (line : ALine) →
+        ¬ WordsSpell (verb_word Verb.Session ∷ session.now ∷ export.now ∷ []) line }
 {
     if export.is_empty() {
         return None;
@@ -237,8 +238,10 @@ fn request(
     fua: bool,
 ) -> Result<Line, LineFault>
     requires { verb.now ≢ codes "crash" }
-    ensures ok { IfOk result (WordsSpell (verb.now ∷ session.now ∷ cookie.now ∷ offset.now ∷ last.now ∷ fua_words fua)) }
-    ensures fault { IfErr result (IsLineFault (WordsSpell (verb.now ∷ session.now ∷ cookie.now ∷ offset.now ∷ last.now ∷ fua_words fua))) }
+    ensures ok { IfOk result (WordsSpell (verb.now ∷ session.now ∷ cookie.now ∷ offset.now ∷ last.now
+        ∷ fua_words fua)) }
+    ensures fault { IfErr result (IsLineFault
+        (WordsSpell (verb.now ∷ session.now ∷ cookie.now ∷ offset.now ∷ last.now ∷ fua_words fua))) }
 {
     match verb_of(verb) {
         None => Err(LineFault::OutOfForm),
@@ -259,7 +262,8 @@ fn sized_request(
     fua: bool,
 ) -> Option<Line>
     requires { verb ≢ Verb.Write }
-    ensures some { IfSome result (WordsSpell (verb_word verb ∷ session.now ∷ cookie.now ∷ offset.now ∷ last.now ∷ fua_words fua)) }
+    ensures some { IfSome result (WordsSpell (verb_word verb ∷ session.now ∷ cookie.now ∷ offset.now ∷ last.now
+        ∷ fua_words fua)) }
     ensures none { IsNone result → (line : ALine) →
         ¬ WordsSpell (verb_word verb ∷ session.now ∷ cookie.now ∷ offset.now ∷ last.now ∷ fua_words fua) line }
 {
@@ -298,8 +302,10 @@ fn write_request(
     last: &[u8],
     fua: bool,
 ) -> Result<Line, LineFault>
-    ensures ok { IfOk result (WordsSpell (verb_word Verb.Write ∷ session.now ∷ cookie.now ∷ offset.now ∷ last.now ∷ fua_words fua)) }
-    ensures fault { IfErr result (IsLineFault (WordsSpell (verb_word Verb.Write ∷ session.now ∷ cookie.now ∷ offset.now ∷ last.now ∷ fua_words fua))) }
+    ensures ok { IfOk result (WordsSpell (verb_word Verb.Write ∷ session.now ∷ cookie.now ∷ offset.now ∷ last.now
+        ∷ fua_words fua)) }
+    ensures fault { IfErr result (IsLineFault
+        (WordsSpell (verb_word Verb.Write ∷ session.now ∷ cookie.now ∷ offset.now ∷ last.now ∷ fua_words fua))) }
 {
     let Some((session, cookie, offset)) = place_of(session, cookie, offset) else {
         return Err(LineFault::OutOfForm);

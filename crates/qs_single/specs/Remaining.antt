@@ -36,9 +36,10 @@ abbrev pub IsCleanSettled : {D : Type 0} → (D → Seen) → WorldValue D → T
 IsCleanSettled seen w = (b : ℕ) → (stripe_at (stripes_of seen w) (stripe_of b)).clean ≡ true →
     block_past (disks_of seen w) b ≡ block_now (disks_of seen w) b ∷ []
 
--- Behind a request a crash may leave of a byte what it might leave before, the byte as it was or as it is, or, where the
--- request was EIO, what it stores there. Behind a FLUSH that is Fine it leaves of every block what it holds.
+-- Behind a request a crash may leave of a byte what it might leave before, the byte as it was or as it is, or, where
+-- the request was EIO, what it stores there. Behind a FLUSH that is Fine it leaves of every block what it holds.
 pub record Outlasts (old : List Seen) (a : Ask) (given : List ℕ) (v : Verdict) (new : List Seen) : Type 0 where
   pub left : (x u : ℕ) → x < size_of old → IsLeftAt new x u →
-      IsLeftAt old x u ⊎ ((get_or (content old) x 0 ≡ u) ⊎ ((get_or (content new) x 0 ≡ u) ⊎ ((v ≡ Refused Io) × IsStoredAt a given x u)))
+      IsLeftAt old x u ⊎ ((get_or (content old) x 0 ≡ u)
+      ⊎ ((get_or (content new) x 0 ≡ u) ⊎ ((v ≡ Refused Io) × IsStoredAt a given x u)))
   pub flushed : a.kind ≡ Flush → v ≡ Fine → IsSettled new

@@ -47,7 +47,8 @@ pub record IsBody (a : Ask) (given : List ℕ) (body : Option (List ℕ)) : Type
   pub is : brings_bytes a.kind ≡ true → IfSome body (λ bytes. bytes ≡ given)
 
 -- A request was asked and answered: these calls of the core happened, its own steps alone, over what the disks mean.
-pub record Exchanged {D : Type 0} (seen : D → Seen) (session : ℕ) (writable : Bool) (a : Ask) (given : List ℕ) (body : Option (List ℕ)) (now : ℕ)
+pub record Exchanged {D : Type 0} (seen : D → Seen) (session : ℕ) (writable : Bool) (a : Ask) (given : List ℕ)
+    (body : Option (List ℕ)) (now : ℕ)
     (w : WorldValue D) (v : Verdict) (w' : WorldValue D) : Type 0 where
   pub may : MayGet (size_of (disks_of seen w)) writable a v
   pub number : ℕ
@@ -56,11 +57,13 @@ pub record Exchanged {D : Type 0} (seen : D → Seen) (session : ℕ) (writable 
   pub ran : RunsOut (Step (ARequest number) now) steps (Answered v note)
   pub plays : Plays (λ d. d) (meant seen w) (Happened (AskEvent session a body) (Made number) ∷ steps) (meant seen w')
   pub called : Called (disks_of seen w) a given v (disks_of seen w')
-  pub outlasts : AllTell (disks_of seen w) → IsCleanSettled seen w → Outlasts (disks_of seen w) a given v (disks_of seen w') × IsCleanSettled seen w'
+  pub outlasts : AllTell (disks_of seen w) → IsCleanSettled seen w →
+      Outlasts (disks_of seen w) a given v (disks_of seen w') × IsCleanSettled seen w'
   pub next : w'.next ≡ w.next + 1
 
 -- A session was attached to the export, which no client had: it tells the image's bytes, and whether it may be written.
-pub record Attaches {D : Type 0} (seen : D → Seen) (session : ℕ) (writable : Bool) (w : WorldValue D) (name : List ℕ) (info : ExportInfo) (w' : WorldValue D) : Type 0 where
+pub record Attaches {D : Type 0} (seen : D → Seen) (session : ℕ) (writable : Bool) (w : WorldValue D) (name : List ℕ)
+    (info : ExportInfo) (w' : WorldValue D) : Type 0 where
   pub plays : Plays (λ d. d) (meant seen w) (Happened (Attach session name) (Attached info) ∷ []) (meant seen w')
   pub size : info.size ≡ size_of (disks_of seen w)
   pub leave : info.writable ≡ writable

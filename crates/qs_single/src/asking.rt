@@ -22,8 +22,10 @@ pub fn answer<D: Disk + Drop>(
 ) -> Option<Verdict>
     requires resting { (writable : Bool) × IsResting D.seen session writable world.old }
     requires room { world.old.next < 2 ^ 64 - 1 }
-    ensures some { IfSome result (λ v. (writable : Bool) (given : List ℕ) → IsResting D.seen session writable world.old → IsBody ask given body →
-        Exchanged D.seen session writable ask given body now world.old v world.new × IsResting D.seen session writable world.new) }
+    ensures some { IfSome result (λ v. (writable : Bool) (given : List ℕ) →
+        IsResting D.seen session writable world.old → IsBody ask given body →
+        Exchanged D.seen session writable ask given body now world.old v world.new
+        × IsResting D.seen session writable world.new) }
     ensures none { IfNone result (world.new ≡ world.old) }
 {
     let event = Event::Ask { session, ask, body };

@@ -18,7 +18,8 @@ pub fn attach_by<D: Disk + Drop>(
 ) -> Option<ExportInfo>
     requires begins { (disks : List D) × (read_only : Bool) × Begins D.seen disks read_only world.old }
     requires named { Names world.old name }
-    ensures some { IfSome result (λ info. (disks : List D) (read_only : Bool) → Begins D.seen disks read_only world.old →
+    ensures some { IfSome result (λ info. (disks : List D) (read_only : Bool) →
+        Begins D.seen disks read_only world.old →
         Attaches D.seen session (not read_only) world.old name info world.new) }
     ensures none { IfNone result (world.new ≡ world.old) }
 {
@@ -33,7 +34,8 @@ pub fn attach_by<D: Disk + Drop>(
 /// want of memory, and then nothing changes.
 pub fn attach<D: Disk + Drop>(world: &mut World<D>, session: u32) -> Option<ExportInfo>
     requires { (disks : List D) × (read_only : Bool) × Begins D.seen disks read_only world.old }
-    ensures some { IfSome result (λ info. (disks : List D) (read_only : Bool) → Begins D.seen disks read_only world.old →
+    ensures some { IfSome result (λ info. (disks : List D) (read_only : Bool) →
+        Begins D.seen disks read_only world.old →
         Attaches D.seen session (not read_only) world.old (codes "disk") info world.new) }
     ensures none { IfNone result (world.new ≡ world.old) }
 {

@@ -10,7 +10,8 @@ use Rattle.qs_single.specs.Resting.{Exchanged, IsBody, IsResting}
 use Rattle.qs_world.specs.Values.{WorldValue}
 
 -- a request was asked of the core and answered
-pub record Does {D : Type 0} (seen : D → Seen) (session : ℕ) (writable : Bool) (a : Ask) (given : List ℕ) (old : WorldValue D) (verdict : Verdict) (new : WorldValue D) : Type 0 where
+pub record Does {D : Type 0} (seen : D → Seen) (session : ℕ) (writable : Bool) (a : Ask) (given : List ℕ)
+    (old : WorldValue D) (verdict : Verdict) (new : WorldValue D) : Type 0 where
   pub body : Option (List ℕ)
   pub is_body : IsBody a given body
   pub now : ℕ
@@ -18,7 +19,8 @@ pub record Does {D : Type 0} (seen : D → Seen) (session : ℕ) (writable : Boo
   pub rests : IsResting seen session writable new
 
 -- and its reply was put
-pub record Answers {D : Type 0} (seen : D → Seen) (session : ℕ) (writable structured : Bool) (a : Ask) (given : List ℕ) (old new : WorldValue D) (output : Side) (stream : Buffers) (output' : Side)
+pub record Answers {D : Type 0} (seen : D → Seen) (session : ℕ) (writable structured : Bool) (a : Ask)
+    (given : List ℕ) (old new : WorldValue D) (output : Side) (stream : Buffers) (output' : Side)
     (stream' : Buffers) : Type 0 where
   pub verdict : Verdict
   pub does : Does seen session writable a given old verdict new

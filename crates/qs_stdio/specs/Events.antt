@@ -5,21 +5,24 @@ use Rattle.qs_nbd_transmission.specs.declared.event.WireEvent.{WireEvent}
 use Rattle.qs_stream.specs.Flows.{Flow, IsUsedUp, Moved, Tells}
 
 -- the reader took a front of the bytes that wait, all of them where it found nothing
-pub record Feeds (old : Reader) (waiting : List ℕ) (found : Option WireEvent) (new : Reader) (waiting' : List ℕ) : Type 0 where
+pub record Feeds (old : Reader) (waiting : List ℕ) (found : Option WireEvent) (new : Reader)
+    (waiting' : List ℕ) : Type 0 where
   pub taken : List ℕ
   pub joined : waiting ≡ taken ++ waiting'
   pub reaches : Reaches old.structured old.phase taken found new.phase
   pub mode : new.structured ≡ old.structured
   pub whole : IfNone found (waiting' ≡ [])
 
--- Bytes lead from one phase to another; at their end the event, or the input's end. Where the stream failed, no event came.
+-- Bytes lead from one phase to another; at their end the event, or the input's end. Where the stream failed, no event
+-- came.
 abbrev pub Finds : {E : Type 0} → Reader → List ℕ → Result (Option WireEvent) E → Reader → Flow → Type 0
 Finds old taken (Ok (Some found)) new after = Reaches old.structured old.phase taken (Some found) new.phase
 Finds old taken (Ok None) new after = Reaches old.structured old.phase taken None new.phase × IsUsedUp after
 Finds old taken (Err e) new after = Reaches old.structured old.phase taken None new.phase
 
 -- the next event was sought in the input
-pub record Seeks {E : Type 0} (old : Reader) (before : Flow) (result : Result (Option WireEvent) E) (new : Reader) (after : Flow) : Type 0 where
+pub record Seeks {E : Type 0} (old : Reader) (before : Flow) (result : Result (Option WireEvent) E) (new : Reader)
+    (after : Flow) : Type 0 where
   pub taken : List ℕ
   pub moved : Moved taken [] before after
   pub tells : Tells result after.stream.state

@@ -22,7 +22,8 @@ pub record Scene (D : Type 0) : Type 0 where
   pub world : WorldValue D
 
 -- by the meanings of the source and of the sink
-abbrev pub scene : {I O D : Type 0} → (I → Option (List ℕ)) → (I → ℕ) → (O → Option (List ℕ)) → (O → ℕ) → I → O → Buffers → WorldValue D → Scene D
+abbrev pub scene : {I O D : Type 0} → (I → Option (List ℕ)) → (I → ℕ) → (O → Option (List ℕ)) → (O → ℕ) → I → O →
+    Buffers → WorldValue D → Scene D
 scene left read_faults sent write_faults input output stream world = record {
   flow = stream_flow left read_faults sent write_faults input output stream;
   world = world;
@@ -58,7 +59,8 @@ IsCutMessage bytes = (IsHeadFront bytes × (0 < length bytes)) ⊎ IsCutWrite by
 abbrev pub IsWholeMessage : List ℕ → Type 0
 IsWholeMessage bytes = (m : Message) × (IsMessage m × (bytes ≡ spelling m))
 
--- How a session may end before a request was answered, where these bytes of it were taken. For want of memory it may end behind a request.
+-- How a session may end before a request was answered, where these bytes of it were taken. For want of memory it may
+-- end behind a request.
 abbrev pub Ending : Status → Flow → List ℕ → Type 0
 Ending Memory after rest = IsWholeMessage rest
 Ending Done after rest = IsLeave rest ⊎ ((rest ≡ []) × IsUsedUp after)
@@ -69,12 +71,14 @@ Ending (Ended (end.TooLong size)) after rest =
 Ending other after rest = ⊥
 
 -- one request was read and answered
-pub record Exchanges {D : Type 0} (seen : D → Seen) (session : ℕ) (writable structured : Bool) (before : Scene D) (x : Exchange) (after : Scene D) : Type 0 where
+pub record Exchanges {D : Type 0} (seen : D → Seen) (session : ℕ) (writable structured : Bool) (before : Scene D)
+    (x : Exchange) (after : Scene D) : Type 0 where
   pub message : IsMessage x.message
   pub mode : x.structured ≡ structured
   pub moved : Moved (spelling x.message) (reply x) before.flow after.flow
   pub does : Does seen session writable (asked_in x) x.message.body before.world x.verdict after.world
-  pub calls_are : x.calls ≡ Happened (AskEvent session (asked_in x) does.body) (Made does.exchanged.number) ∷ does.exchanged.steps
+  pub calls_are : x.calls ≡ Happened (AskEvent session (asked_in x) does.body) (Made does.exchanged.number)
+      ∷ does.exchanged.steps
   pub left_is : x.left ≡ disks_in seen after
 
 -- No request was answered; of the bytes that were taken this is so.

@@ -18,7 +18,8 @@ use Rattle.qs_single.specs.Remaining.{Outlasts}
 use Rattle.qs_single.specs.Resting.{IsBody}
 use Rattle.qs_single.specs.Service.{Called, LeadsTo, MayGet}
 
--- a request, whether replies are structured ones, its answer, the calls of the core that it was, and the disks as it left them
+-- a request, whether replies are structured ones, its answer, the calls of the core that it was, and the disks as it
+-- left them
 pub record Exchange : Type 0 where
   pub message : Message
   pub structured : Bool
@@ -30,8 +31,8 @@ pub record Exchange : Type 0 where
 abbrev pub asked_in : Exchange → Ask
 asked_in x = ask_of x.structured x.message.head
 
--- The calls of one request of a session: it is asked, with the data of a WRITE where memory was given for them, and does its steps up
--- to its answer.
+-- The calls of one request of a session: it is asked, with the data of a WRITE where memory was given for them, and
+-- does its steps up to its answer.
 pub record IsRound (session : ℕ) (x : Exchange) : Type 0 where
   pub body : Option (List ℕ)
   pub is_body : IsBody (asked_in x) x.message.body body
@@ -55,7 +56,8 @@ AllFit session size writable structured xs = AllByRecursion (Fits session size w
 -- each request leads on from the content that the one before left
 abbrev pub LeadsAll : List ℕ → List Exchange → List ℕ → Type 0
 LeadsAll old [] new = new ≡ old
-LeadsAll old (x ∷ xs) new = LeadsTo old (asked_in x) x.message.body x.verdict (content x.left) × LeadsAll (content x.left) xs new
+LeadsAll old (x ∷ xs) new = LeadsTo old (asked_in x) x.message.body x.verdict (content x.left)
+    × LeadsAll (content x.left) xs new
 
 -- each request leads so from the disks that the one before left to those that it left itself
 abbrev pub Chained : (List Seen → Exchange → List Seen → Type 0) → List Seen → List Exchange → List Seen → Type 0
@@ -67,7 +69,8 @@ abbrev pub CalledAll : List Seen → List Exchange → List Seen → Type 0
 CalledAll old xs new = Chained (λ before x after. Called before (asked_in x) x.message.body x.verdict after) old xs new
 
 abbrev pub OutlastsAll : List Seen → List Exchange → List Seen → Type 0
-OutlastsAll old xs new = Chained (λ before x after. Outlasts before (asked_in x) x.message.body x.verdict after) old xs new
+OutlastsAll old xs new = Chained (λ before x after. Outlasts before (asked_in x) x.message.body x.verdict after) old
+    xs new
 
 -- the bytes of the requests, and those of their replies
 abbrev pub asked_bytes : List Exchange → List ℕ

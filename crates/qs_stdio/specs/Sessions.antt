@@ -35,8 +35,8 @@ pub record IsAnswered (fixed : Bool) (option : List ℕ) : Type 0 where
   pub whole : IsOption fixed option
   pub on : wish_goes_on (wish_in option) ≡ true
 
--- The client's flags, none of them unknown; fewer than 2^32 options behind which options go on, and one that attaches the
--- export; and then a valid stream of requests (NBD proto.md, "Newstyle negotiation" and "Option types").
+-- The client's flags, none of them unknown; fewer than 2^32 options behind which options go on, and one that attaches
+-- the export; and then a valid stream of requests (NBD proto.md, "Newstyle negotiation" and "Option types").
 pub record IsValidSession (stream : List ℕ) : Type 0 where
   -- the flags
   pub flags : List ℕ

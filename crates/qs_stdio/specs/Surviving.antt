@@ -17,9 +17,10 @@ abbrev pub Stood : List Seen → List Exchange → ℕ → ℕ → Type 0
 Stood old [] x u = get_or (content old) x 0 ≡ u
 Stood old (e ∷ es) x u = (get_or (content old) x 0 ≡ u) ⊎ (IsRefusedAt e x u ⊎ Stood e.left es x u)
 
--- Whatever a crash may leave of a byte is no older than the opening, and no older than any FLUSH that is Fine: the byte stood there behind
--- it, or a write that was EIO since then had it (NBD proto.md, FLUSH).
+-- Whatever a crash may leave of a byte is no older than the opening, and no older than any FLUSH that is Fine: the
+-- byte stood there behind it, or a write that was EIO since then had it (NBD proto.md, FLUSH).
 pub record Survives (old : List Seen) (xs : List Exchange) (new : List Seen) : Type 0 where
   pub opening : (x u : ℕ) → x < size_of old → IsLeftAt new x u → Stood old xs x u
-  pub flushed : (front : List Exchange) (flush : Exchange) (behind : List Exchange) → xs ≡ front ++ flush ∷ behind → (asked_in flush).kind ≡ Flush →
+  pub flushed : (front : List Exchange) (flush : Exchange) (behind : List Exchange) → xs ≡ front ++ flush ∷ behind →
+      (asked_in flush).kind ≡ Flush →
       flush.verdict ≡ Fine → (x u : ℕ) → x < size_of old → IsLeftAt new x u → Stood flush.left behind x u

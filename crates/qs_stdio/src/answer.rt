@@ -57,9 +57,11 @@ pub fn respond<O: Sink, D: Disk + Drop>(
     requires resting { (writable : Bool) × IsResting D.seen 0 writable world.old }
     requires room { world.old.next < 2 ^ 64 - 1 }
     requires body { (given : List ℕ) × IsBody ask.now given body }
-    ensures does { IfSome result (λ v. (writable : Bool) (given : List ℕ) → IsResting D.seen 0 writable world.old → IsBody ask.now given body →
+    ensures does { IfSome result (λ v. (writable : Bool) (given : List ℕ) → IsResting D.seen 0 writable world.old →
+        IsBody ask.now given body →
         Does D.seen 0 writable ask.now given world.old v world.new) }
-    ensures puts { IfSome result (λ v. Puts (reply_of mode.now.structured ask.now v) (side O.sent O.write_faults output.old) stream.old
+    ensures puts { IfSome result (λ v. Puts (reply_of mode.now.structured ask.now v)
+        (side O.sent O.write_faults output.old) stream.old
         (side O.sent O.write_faults output.new) stream.new) }
     ensures none { IfNone result ((world.new ≡ world.old) × (stream.new ≡ stream.old)
         × (side O.sent O.write_faults output.new ≡ side O.sent O.write_faults output.old)) }

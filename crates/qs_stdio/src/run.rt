@@ -29,7 +29,8 @@ use std::mem;
 
 /// Writes the replies that wait, at the end of a session.
 fn finish<O: Sink>(stream: &mut Stream, output: &mut O, status: Status) -> Result<Status, Failed>
-    ensures puts { Puts [] (side O.sent O.write_faults output.old) stream.old (side O.sent O.write_faults output.new) stream.new }
+    ensures puts { Puts [] (side O.sent O.write_faults output.old) stream.old (side O.sent O.write_faults output.new)
+        stream.new }
     ensures tells { Tells result stream.new.state }
     ensures written { OnOk result (stream.new.held ≡ []) }
     ensures same { IfOk result (λ told. told ≡ status) }
@@ -63,7 +64,8 @@ impl Session {
         requires resting { (writable : Bool) × IsResting D.seen 0 writable world.old }
         requires room { world.old.next + budget ≤ 2 ^ 64 - 1 }
         requires between { self.old.reader ≡ between mode.now.structured }
-        ensures { (writable : Bool) → IsResting D.seen 0 writable world.old → Sitting D.seen 0 writable mode.now.structured budget
+        ensures { (writable : Bool) → IsResting D.seen 0 writable world.old →
+            Sitting D.seen 0 writable mode.now.structured budget
             (scene I.left I.read_faults O.sent O.write_faults input.old output.old self.old.stream world.old)
             (scene I.left I.read_faults O.sent O.write_faults input.new output.new self.new.stream world.new)
             (status_by result self.new.stream.state) }
@@ -91,7 +93,8 @@ impl Session {
         requires resting { (writable : Bool) × IsResting D.seen 0 writable world.old }
         requires room { world.old.next + budget ≤ 2 ^ 64 - 1 }
         requires between { self.old.reader ≡ between mode.now.structured }
-        ensures { (writable : Bool) → IsResting D.seen 0 writable world.old → Sitting D.seen 0 writable mode.now.structured budget
+        ensures { (writable : Bool) → IsResting D.seen 0 writable world.old →
+            Sitting D.seen 0 writable mode.now.structured budget
             (scene I.left I.read_faults O.sent O.write_faults input.old output.old self.old.stream world.old)
             (scene I.left I.read_faults O.sent O.write_faults input.new output.new self.new.stream world.new)
             result }
@@ -121,7 +124,8 @@ pub fn serve_stream<I: Source, O: Sink, D: Disk + Drop, C: Clock>(
     clock: &C,
 ) -> Status
     requires { (disks : List D) × (read_only : Bool) × Begins D.seen disks read_only world.old }
-    ensures { (disks : List D) (read_only : Bool) → Begins D.seen disks read_only world.old → ServesStream D.seen disks read_only true budget
+    ensures { (disks : List D) (read_only : Bool) → Begins D.seen disks read_only world.old →
+        ServesStream D.seen disks read_only true budget
         (side I.left I.read_faults input.old) (side O.sent O.write_faults output.old) world.old result
         (side I.left I.read_faults input.new) (side O.sent O.write_faults output.new) world.new }
 {
@@ -136,7 +140,8 @@ pub fn serve_stream<I: Source, O: Sink, D: Disk + Drop, C: Clock>(
 
 /// Ends a session that the handshake ended: writes the answers that wait.
 fn conclude<O: Sink>(stream: &mut Stream, output: &mut O, status: Status) -> Status
-    ensures { Closes (side O.sent O.write_faults output.old) stream.old status (side O.sent O.write_faults output.new) stream.new result }
+    ensures { Closes (side O.sent O.write_faults output.old) stream.old status (side O.sent O.write_faults output.new)
+        stream.new result }
 {
     match finish(stream, output, status) {
         Ok(status) => status,
@@ -156,7 +161,8 @@ pub fn serve_client<I: Source, O: Sink, D: Disk + Drop, C: Clock>(
     clock: &C,
 ) -> Status
     requires { (disks : List D) × (read_only : Bool) × Begins D.seen disks read_only world.old }
-    ensures { (disks : List D) (read_only : Bool) → Begins D.seen disks read_only world.old → ServesStream D.seen disks read_only false budget
+    ensures { (disks : List D) (read_only : Bool) → Begins D.seen disks read_only world.old →
+        ServesStream D.seen disks read_only false budget
         (side I.left I.read_faults input.old) (side O.sent O.write_faults output.old) world.old result
         (side I.left I.read_faults input.new) (side O.sent O.write_faults output.new) world.new }
 {
@@ -187,7 +193,8 @@ fn serve_core<I: Source, O: Sink, D: Disk + Drop, C: Clock>(
     clock: &C,
 ) -> Status
     requires { (disks : List D) × (read_only : Bool) × Begins D.seen disks read_only world.old }
-    ensures { (disks : List D) (read_only : Bool) → Begins D.seen disks read_only world.old → ServesStream D.seen disks read_only told.now.transmission (2 ^ 32)
+    ensures { (disks : List D) (read_only : Bool) → Begins D.seen disks read_only world.old →
+        ServesStream D.seen disks read_only told.now.transmission (2 ^ 32)
         (side I.left I.read_faults input.old) (side O.sent O.write_faults output.old) world.old result
         (side I.left I.read_faults input.new) (side O.sent O.write_faults output.new) world.new }
 {
@@ -243,7 +250,8 @@ pub fn run_stdio<I: Source, O: Sink, D: Disk + Drop, C: Clock>(
     disks: &mut Vec<D>,
     clock: &C,
 ) -> Status
-    ensures ran { Ran words.now D.seen disks.old.items (side I.left I.read_faults input.old) (side O.sent O.write_faults output.old) result
+    ensures ran { Ran words.now D.seen disks.old.items (side I.left I.read_faults input.old)
+        (side O.sent O.write_faults output.old) result
         disks.new.items (side I.left I.read_faults input.new) (side O.sent O.write_faults output.new) }
     // A valid session, or a valid stream of requests alone, is served to its end, unless memory is refused or a
     // side fails.

@@ -51,7 +51,8 @@ impl Session {
         requires short { ask.now.length ≤ max_payload }
         requires awaits { AwaitsRoom mode.now.structured self.old.reader ask.now }
         requires ongoing { self.old.stream.state ≡ Open }
-        ensures { (writable : Bool) → IsResting D.seen 0 writable world.old → Finishes D.seen 0 writable mode.now.structured ask.now
+        ensures { (writable : Bool) → IsResting D.seen 0 writable world.old →
+            Finishes D.seen 0 writable mode.now.structured ask.now
             (scene I.left I.read_faults O.sent O.write_faults input.old output.old self.old.stream world.old)
             result self.new.reader
             (scene I.left I.read_faults O.sent O.write_faults input.new output.new self.new.stream world.new) }
@@ -85,7 +86,8 @@ impl Session {
         requires room { world.old.next < 2 ^ 64 - 1 }
         requires bare { has_data ask.now ≡ false }
         ensures reader { self.new.reader ≡ self.old.reader }
-        ensures bare { (writable : Bool) → IsResting D.seen 0 writable world.old → AnswersBare D.seen 0 writable mode.now.structured ask.now world.old result world.new
+        ensures bare { (writable : Bool) → IsResting D.seen 0 writable world.old →
+            AnswersBare D.seen 0 writable mode.now.structured ask.now world.old result world.new
             (side O.sent O.write_faults output.old) self.old.stream (side O.sent O.write_faults output.new) self.new.stream }
     {
         let body = read_buffer(alloc, &mut self.spare, ask);
@@ -112,7 +114,8 @@ impl Session {
         requires resting { (writable : Bool) × IsResting D.seen 0 writable world.old }
         requires room { world.old.next < 2 ^ 64 - 1 }
         requires between { self.old.reader ≡ between mode.now.structured }
-        ensures { (writable : Bool) → IsResting D.seen 0 writable world.old → ServesMessage D.seen 0 writable mode.now.structured
+        ensures { (writable : Bool) → IsResting D.seen 0 writable world.old →
+            ServesMessage D.seen 0 writable mode.now.structured
             (scene I.left I.read_faults O.sent O.write_faults input.old output.old self.old.stream world.old)
             result self.new.reader
             (scene I.left I.read_faults O.sent O.write_faults input.new output.new self.new.stream world.new) }

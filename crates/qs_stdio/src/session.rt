@@ -81,7 +81,8 @@ impl Session {
         output: &mut O,
     ) -> Result<Came, Failed>
         requires between { self.old.reader ≡ between mode.now.structured }
-        ensures { Asking mode.now.structured (flow I.left I.read_faults O.sent O.write_faults input.old output.old self.old.stream) result
+        ensures { Asking mode.now.structured (flow I.left I.read_faults O.sent O.write_faults input.old output.old
+            self.old.stream) result
             self.new.reader (flow I.left I.read_faults O.sent O.write_faults input.new output.new self.new.stream) }
     {
         self.stream.check()?;
@@ -103,7 +104,8 @@ impl Session {
     ) -> Result<Option<Room>, Failed>
         requires filling { IsFilling self.old.reader.phase }
         requires ongoing { self.old.stream.state ≡ Open }
-        ensures { Bringing self.old.reader (flow I.left I.read_faults O.sent O.write_faults input.old output.old self.old.stream) result
+        ensures { Bringing self.old.reader (flow I.left I.read_faults O.sent O.write_faults input.old output.old
+            self.old.stream) result
             self.new.reader (flow I.left I.read_faults O.sent O.write_faults input.new output.new self.new.stream) }
     {
         match next_event(&mut self.reader, &mut self.stream, input, output)? {

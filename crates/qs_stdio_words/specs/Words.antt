@@ -1,4 +1,5 @@
--- The words of the command: `[--transmission] [--read-only] [--align N] IMAGE`, the options in any order, each at most once.
+-- The words of the command: `[--transmission] [--read-only] [--align N] IMAGE`, the options in any order, each at
+-- most once.
 use Rattle.std.specs.Prelude.{◌≡◌, ℕ, suc, Bool, true, false, if◌then◌else◌, List, [], ◌∷◌, length, nat_eq, codes, Option, None, Some, is_some, option_and_then, unwrap_or, String, string_bytes}
 use Rattle.std.specs.Global.{Global}
 use Rattle.std.specs.List.{starts_with}
@@ -51,7 +52,12 @@ IsFront words = (r : Reading) × (read nothing_read words ≡ Some r)
 
 -- the whole command, in so many words: the last is the image
 abbrev pub whole_by : Expected → ℕ → Reading → Option StdioWords
-whole_by Nothing (suc n) r = Some (record { image = n; align = unwrap_or r.align 512; read_only = r.read_only; transmission = r.transmission })
+whole_by Nothing (suc n) r = Some (record {
+  image = n;
+  align = unwrap_or r.align 512;
+  read_only = r.read_only;
+  transmission = r.transmission;
+})
 whole_by other count r = None
 
 abbrev pub words_of_reading : ℕ → Reading → Option StdioWords

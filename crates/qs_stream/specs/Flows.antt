@@ -23,14 +23,16 @@ pub record Flow : Type 0 where
   pub stream : Buffers
 
 -- by the meanings of the source and of the sink
-abbrev pub flow : {I O : Type 0} → (I → Option (List ℕ)) → (I → ℕ) → (O → Option (List ℕ)) → (O → ℕ) → I → O → Buffers → Flow
+abbrev pub flow : {I O : Type 0} → (I → Option (List ℕ)) → (I → ℕ) → (O → Option (List ℕ)) → (O → ℕ) → I → O →
+    Buffers → Flow
 flow left read_faults sent write_faults input output stream = record {
   input = side left read_faults input;
   output = side sent write_faults output;
   stream = stream;
 }
 
--- The counts of the source and of the sink over a run from an open stream to this state: the one of the side that failed rose.
+-- The counts of the source and of the sink over a run from an open stream to this state: the one of the side that
+-- failed rose.
 abbrev pub Rises : State → ℕ → ℕ → ℕ → ℕ → Type 0
 Rises Open read read' write write' = Stays read read' × Stays write write'
 Rises ReadFault read read' write write' = Rose read read' × Stays write write'
@@ -65,7 +67,8 @@ Tells (Err e) state = state ≢ Open
 pub record Puts (given : List ℕ) (output : Side) (old : Buffers) (output' : Side) (new : Buffers) : Type 0 where
   pub waiting : new.waiting ≡ old.waiting
   pub moved : (input : Side) →
-      Moved [] given (record { input = input; output = output; stream = old }) (record { input = input; output = output'; stream = new })
+      Moved [] given (record { input = input; output = output; stream = old })
+      (record { input = input; output = output'; stream = new })
 
 -- More was read, once. The source was called only where nothing waited to be written, so behind a read nothing waits.
 pub record Fills {E : Type 0} (old : Flow) (result : Result ℕ E) (new : Flow) : Type 0 where

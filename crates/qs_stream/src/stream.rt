@@ -81,7 +81,8 @@ impl Stream {
     /// not written is then lost.
     pub fn put<O: Sink>(&mut self, output: &mut O, bytes: &[u8])
         ensures few { length self.new.held ≤ 65536 }
-        ensures puts { Puts bytes.now (side O.sent O.write_faults output.old) self.old (side O.sent O.write_faults output.new) self.new }
+        ensures puts { Puts bytes.now (side O.sent O.write_faults output.old) self.old
+            (side O.sent O.write_faults output.new) self.new }
     {
         match self.check() {
             Ok(()) => {}
@@ -98,7 +99,8 @@ impl Stream {
 
     /// Writes all that waits.
     pub fn flush<O: Sink>(&mut self, output: &mut O) -> Result<(), Failed>
-        ensures puts { Puts [] (side O.sent O.write_faults output.old) self.old (side O.sent O.write_faults output.new) self.new }
+        ensures puts { Puts [] (side O.sent O.write_faults output.old) self.old
+            (side O.sent O.write_faults output.new) self.new }
         ensures tells { Tells result self.new.state }
         ensures written { OnOk result (self.new.held ≡ []) }
     {

@@ -26,7 +26,8 @@ EndsHold k b op reply = WritesBlock k b op reply
 -- in a history, between a hold of block b by place k and the store or free of k that ends it, no store of b by another
 -- place is done or reaches the disk
 abbrev pub HeldIn : List (Call StripeOp StripeReply) → Type 0
-HeldIn cs = (before between after : List (Call StripeOp StripeReply)) (first last : Call StripeOp StripeReply) (b j k : ℕ)
+HeldIn cs = (before between after : List (Call StripeOp StripeReply)) (first last : Call StripeOp StripeReply)
+    (b j k : ℕ)
     → cs ≡ before ++ (first ∷ (between ++ last ∷ after))
     → BeginsHold k b first.op first.reply
     → AllByRecursion (λ c. EndsHold k b c.op c.reply → ⊥) between

@@ -49,22 +49,25 @@ load_at align b k at buf i = Load (b + i) k (block_in align at buf i)
 abbrev pub run_store_at : ℕ → ℕ → ℕ → ℕ → List ℕ → ℕ → StripeOp
 run_store_at align b k at buf i = Store (b + i) k (block_in align at buf i)
 
--- Block i of a run was answered: it was loaded, and `got` is the buffer behind the run; or the disk refused. It was stored,
--- or the disk refused, or place j holds it.
+-- Block i of a run was answered: it was loaded, and `got` is the buffer behind the run; or the disk refused. It was
+-- stored, or the disk refused, or place j holds it.
 abbrev pub Loaded : ℕ → ℕ → ℕ → ℕ → List ℕ → List ℕ → ℕ → StripeValue → StripeValue → Type 0
 Loaded align b k at buf got i old new = answers old (load_at align b k at buf i) (Filled (block_in align at got i)) new
 
 abbrev pub NotLoaded : ℕ → ℕ → ℕ → ℕ → List ℕ → List ℕ → ℕ → StripeValue → StripeValue → Type 0
-NotLoaded align b k at buf got i old new = answers old (load_at align b k at buf i) (Fault (Some (block_in align at got i))) new
+NotLoaded align b k at buf got i old new = answers old (load_at align b k at buf i)
+    (Fault (Some (block_in align at got i))) new
 
 abbrev pub StoredAt : ℕ → ℕ → ℕ → ℕ → List ℕ → ℕ → StripeValue → StripeValue → Type 0
 StoredAt align b k at buf i old new = answers old (run_store_at align b k at buf i) (Done (block_in align at buf i)) new
 
 abbrev pub NotStored : ℕ → ℕ → ℕ → ℕ → List ℕ → ℕ → StripeValue → StripeValue → Type 0
-NotStored align b k at buf i old new = answers old (run_store_at align b k at buf i) (Fault (Some (block_in align at buf i))) new
+NotStored align b k at buf i old new = answers old (run_store_at align b k at buf i)
+    (Fault (Some (block_in align at buf i))) new
 
 abbrev pub Waits : ℕ → ℕ → ℕ → ℕ → List ℕ → ℕ → ℕ → StripeValue → StripeValue → Type 0
-Waits align b k at buf j i old new = answers old (run_store_at align b k at buf i) (HeldBy j (block_in align at buf i)) new
+Waits align b k at buf j i old new = answers old (run_store_at align b k at buf i)
+    (HeldBy j (block_in align at buf i)) new
 
 -- A stripe answers a run, as it would the run's single operations in order.
 abbrev pub run_answers : StripeValue → RunOp → RunReply → StripeValue → Type 0

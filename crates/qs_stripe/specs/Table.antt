@@ -58,8 +58,8 @@ Fits g (Store b k buf) = IsWhole g b buf
 Fits g (Free b k) = IsBlockOf g b
 Fits g Sync = Unit {0}
 
--- The disk was synced, or refused: each block stays. Nothing but its count of faults and the plan of a sync changes where it
--- refused.
+-- The disk was synced, or refused: each block stays. Nothing but its count of faults and the plan of a sync changes
+-- where it refused.
 pub record Syncs (old new : Seen) : Type 0 where
   pub fixed : Fixed old new
   pub now : IsTrue old.tells → Same old.now new.now
@@ -78,8 +78,8 @@ pub record IsUnsettled (old new : Seen) : Type 0 where
   pub full : new.full ≡ old.full
   pub rose : Rose old.faults new.faults
 
--- A stripe answers an operation, and what it is then. A store that was done or that the disk refused leaves it unclean, and
--- a sync alone makes it clean again.
+-- A stripe answers an operation, and what it is then. A store that was done or that the disk refused leaves it
+-- unclean, and a sync alone makes it clean again.
 abbrev pub answers : StripeValue → StripeOp → StripeReply → StripeValue → Type 0
 answers old (Load b k buf) (Filled got) new =
     Reads old.disk new.disk × IsContent old.disk new.disk b got × (new.hold ≡ old.hold) × (new.clean ≡ old.clean)
@@ -90,25 +90,31 @@ answers old (Hold b k end buf) (HeldBy j back) new =
 answers old (Hold b k end buf) (Taken c back) new =
     IsFree old.hold b × (old.hold k end ≡ Some c) × (back ≡ buf) × (new ≡ old)
 answers old (Hold b k end buf) (Filled got) new =
-    IsFree old.hold b × (old.hold k end ≡ None) × Reads old.disk new.disk × IsContent old.disk new.disk b got × Takes k end b old.hold new.hold
+    IsFree old.hold b × (old.hold k end ≡ None) × Reads old.disk new.disk × IsContent old.disk new.disk b got
+    × Takes k end b old.hold new.hold
     × (new.clean ≡ old.clean)
 answers old (Hold b k end buf) (Fault (Some back)) new =
-    IsFree old.hold b × (old.hold k end ≡ None) × Reads old.disk new.disk × Refuses old.disk new.disk back × (new.hold ≡ old.hold)
+    IsFree old.hold b × (old.hold k end ≡ None) × Reads old.disk new.disk × Refuses old.disk new.disk back
+    × (new.hold ≡ old.hold)
     × (new.clean ≡ old.clean)
 answers old (Store b k buf) (HeldBy j back) new =
     IsHeld old.hold j b × (j ≢ k) × (back ≡ buf) × (new ≡ old)
 answers old (Store b k buf) (Done back) new =
-    IsFreeFor old.hold k b × Writes b buf old.disk new.disk × IsStored b buf old.disk new.disk × (back ≡ buf) × LetsGo k b old.hold new.hold
+    IsFreeFor old.hold k b × Writes b buf old.disk new.disk × IsStored b buf old.disk new.disk × (back ≡ buf)
+    × LetsGo k b old.hold new.hold
     × (new.clean ≡ false)
 answers old (Store b k buf) (Fault (Some back)) new =
-    IsFreeFor old.hold k b × Writes b buf old.disk new.disk × MayBeStored b buf old.disk new.disk × (back ≡ buf) × LetsGo k b old.hold new.hold
+    IsFreeFor old.hold k b × Writes b buf old.disk new.disk × MayBeStored b buf old.disk new.disk × (back ≡ buf)
+    × LetsGo k b old.hold new.hold
     × (new.clean ≡ false)
 answers old (Free b k) Freed new =
     IsHeld old.hold k b × (new.disk ≡ old.disk) × LetsGo k b old.hold new.hold × (new.clean ≡ old.clean)
 answers old (Free b k) NotHeld new = (IsHeld old.hold k b → ⊥) × (new ≡ old)
 answers old Sync Clean new = (old.clean ≡ true) × (new ≡ old)
 answers old Sync Synced new =
-    (old.clean ≡ false) × Syncs old.disk new.disk × IsSettled old.disk new.disk × (new.hold ≡ old.hold) × (new.clean ≡ true)
+    (old.clean ≡ false) × Syncs old.disk new.disk × IsSettled old.disk new.disk × (new.hold ≡ old.hold)
+    × (new.clean ≡ true)
 answers old Sync (Fault None) new =
-    (old.clean ≡ false) × Syncs old.disk new.disk × IsUnsettled old.disk new.disk × (new.hold ≡ old.hold) × (new.clean ≡ false)
+    (old.clean ≡ false) × Syncs old.disk new.disk × IsUnsettled old.disk new.disk × (new.hold ≡ old.hold)
+    × (new.clean ≡ false)
 answers _ _ _ _ = ⊥

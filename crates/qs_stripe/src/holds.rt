@@ -98,7 +98,8 @@ fn first_holder(places: &[Ends], b: u64) -> Option<u8>
 
 fn first_other(places: &[Ends], b: u64, k: u8) -> Option<u8>
     requires { length places.now ≤ 256 }
-    ensures { MatchOption result (IsFreeFor (holds_of places.now) k b) (λ j. IsHeld (holds_of places.now) j b × (j ≢ k)) }
+    ensures { MatchOption result (IsFreeFor (holds_of places.now) k b)
+        (λ j. IsHeld (holds_of places.now) j b × (j ≢ k)) }
 {
     for j in 0..places.len() {
         if places[j].has(b) {
@@ -184,7 +185,8 @@ impl Holds {
 
     /// A place that holds the block and isn't `k`.
     pub fn other_holder(&self, b: u64, k: u8) -> Option<u8>
-        ensures { MatchOption result (IsFreeFor (holds_of self.now) k b) (λ j. IsHeld (holds_of self.now) j b × (j ≢ k)) }
+        ensures { MatchOption result (IsFreeFor (holds_of self.now) k b)
+            (λ j. IsHeld (holds_of self.now) j b × (j ≢ k)) }
     {
         first_other(&self.places[..self.top], b, k)
     }

@@ -20,7 +20,8 @@ fn read<D: Disk>(disk: &mut D, b: u64, buf: Bytes) -> Result<Bytes, Bytes>
     requires block { IsBlock (D.seen disk.old) b }
     requires whole { length buf ≡ (D.seen disk.old).align }
     ensures reads { Reads (D.seen disk.old) (D.seen disk.new) }
-    ensures content { MatchResult result (λ got. IsContent (D.seen disk.old) (D.seen disk.new) b got) (λ back. Refuses (D.seen disk.old) (D.seen disk.new) back) }
+    ensures content { MatchResult result (λ got. IsContent (D.seen disk.old) (D.seen disk.new) b got)
+        (λ back. Refuses (D.seen disk.old) (D.seen disk.new) back) }
 {
     let mut bytes = buf.into_vec();
     match disk.load(b, bytes.as_mut_slice()) {
@@ -47,7 +48,8 @@ fn write<D: Disk>(disk: &mut D, b: u64, buf: Bytes) -> Result<Bytes, Bytes>
 /// Syncs the disk.
 fn settle<D: Disk>(disk: &mut D) -> Result<(), Failed>
     ensures syncs { Syncs (D.seen disk.old) (D.seen disk.new) }
-    ensures settled { MatchResult result (λ done. IsSettled (D.seen disk.old) (D.seen disk.new)) (λ failed. IsUnsettled (D.seen disk.old) (D.seen disk.new)) }
+    ensures settled { MatchResult result (λ done. IsSettled (D.seen disk.old) (D.seen disk.new))
+        (λ failed. IsUnsettled (D.seen disk.old) (D.seen disk.new)) }
 {
     disk.sync()
 }

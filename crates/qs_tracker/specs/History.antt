@@ -41,7 +41,8 @@ SameSeat _ _ = ⊥
 pub record Renumbered (old new : TrackerValue) : Type 0 where
   pub quiesced : new.quiesced ≡ old.quiesced
   pub same : (k : ℕ) → SameSeat (seat_at old.seats k) (seat_at new.seats k)
-  pub order : (j k : ℕ) (l m p n : Listing) → IsListed old j l → IsListed old k m → IsListed new j p → IsListed new k n →
+  pub order : (j k : ℕ) (l m p n : Listing) → IsListed old j l → IsListed old k m → IsListed new j p →
+      IsListed new k n →
       l.number < m.number ↔ p.number < n.number
   pub below : (k : ℕ) (l : Listing) → IsListed new k l → l.number < new.number
   pub dense : (n : ℕ) → n < new.number → (k : ℕ) × (l : Listing) × (IsListed new k l × (l.number ≡ n))

@@ -13,7 +13,8 @@ ghost use Rattle.qs_tracker.specs.History.{StandsForFresh, IsListed, IsListedSta
 /// listed conflicting span of a lower number.
 pub fn apart()
     ensures apart { (first : ℕ) (cs : List (Call TrackerOp TrackerReply)) (v : TrackerValue) (j k : ℕ)
-        (l m : Listing) → StandsForFresh first cs v → IsListedStarted v j l → IsListedStarted v k m → Conflict l m → j ≡ k }
+        (l m : Listing) → StandsForFresh first cs v → IsListedStarted v j l → IsListedStarted v k m → Conflict l m →
+        j ≡ k }
     ensures clear { (first : ℕ) (cs : List (Call TrackerOp TrackerReply)) (v : TrackerValue) (k : ℕ)
         (l : Listing) → StandsForFresh first cs v → IsListedStarted v k l → IsClear v.seats l }
 {}

@@ -64,7 +64,8 @@ impl Seat {
 
     /// The number of the span that is listed here, if `own` has to wait for it.
     pub fn number_before(&self, own: &Listing) -> Option<u64>
-        ensures { MatchOption result (Precedes self.now own.now → ⊥) (λ n. Precedes self.now own.now × (n ≡ seat_number self.now)) }
+        ensures { MatchOption result (Precedes self.now own.now → ⊥)
+            (λ n. Precedes self.now own.now × (n ≡ seat_number self.now)) }
     {
         match self {
             Seat::Has(listing) if listing.number < own.number && listing.conflicts(own) => {

@@ -77,7 +77,8 @@ pub record Within {O R : Type 0} (log : List (Entry O R)) (h : Half O R) : Type 
   pub listed : h.own ≡ of h.owned h.seen
 
 -- what the rule says of the view of the pass at a seat
-pub record Fits {P O R : Type 0} (o : P) (log : List (Entry O R)) (state : P) (word holder made seat : ℕ) (v : View P O R) : Type 0 where
+pub record Fits {P O R : Type 0} (o : P) (log : List (Entry O R)) (state : P) (word holder made seat : ℕ)
+    (v : View P O R) : Type 0 where
   pub mine : Within log v.mine
   pub joining : Within log v.joining
   pub opened : (q : P) → v.opening ≡ Some q → (q ≡ o) × (has v.mine.owned v.number ≡ true)
@@ -86,13 +87,15 @@ pub record Fits {P O R : Type 0} (o : P) (log : List (Entry O R)) (state : P) (w
       → (word ≡ 2 * length log + 1) × (seat ≡ holder) × (p ≡ state) × (v.mine.seen ≡ log) × (v.opening ≡ Some o)
 
 -- the turn is free after the calls of the history: the word is twice their number, and the part is in the slot
-pub record IsFree {P O R : Type 0} (log : List (Entry O R)) (state : P) (s : State (Slot P O R) (View P O R)) : Type 0 where
+pub record IsFree {P O R : Type 0} (log : List (Entry O R)) (state : P)
+    (s : State (Slot P O R) (View P O R)) : Type 0 where
   pub word : slice_index s.words word_at ≡ 2 * length log
   pub said : Option (Said O R)
   pub home : s.homes ≡ some (slot (Some state) said) ∷ []
 
 -- the turn is held after the calls of the history: the word is one more, the slot is out, and the holder knows the part
-pub record IsTaken {P O R : Type 0} (log : List (Entry O R)) (state : P) (holder : ℕ) (s : State (Slot P O R) (View P O R)) : Type 0 where
+pub record IsTaken {P O R : Type 0} (log : List (Entry O R)) (state : P) (holder : ℕ)
+    (s : State (Slot P O R) (View P O R)) : Type 0 where
   pub word : slice_index s.words word_at ≡ 2 * length log + 1
   pub home : s.homes ≡ none ∷ []
   pub view : View P O R
@@ -108,7 +111,8 @@ numbers_of v = length v.mine.owned + length v.joining.owned
 
 -- There is one history, of legal steps from the opening state o. Each number made, from 0 to `made`, is owned once, and
 -- each call was made under one of them; each view fits the history
-pub record Kept {P O R : Type 0} (may : P → O → R → P → Type 0) (o : P) (s : State (Slot P O R) (View P O R)) : Type 0 where
+pub record Kept {P O R : Type 0} (may : P → O → R → P → Type 0) (o : P)
+    (s : State (Slot P O R) (View P O R)) : Type 0 where
   pub log : List (Entry O R)
   pub state : P
   pub holder : ℕ

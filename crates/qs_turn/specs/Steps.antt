@@ -16,7 +16,8 @@ with_turn v log state = record v { turn = Some state; mine = half v.mine.owned l
 
 -- what a take tells: the number found is twice the length of a history, which begins with what was seen and leads to
 -- the part that comes out of the slot
-pub record Took {P O R : Type 0} (may : P → O → R → P → Type 0) (o : P) (found : ℕ) (m m' : Me (Slot P O R) (View P O R)) : Type 0 where
+pub record Took {P O R : Type 0} (may : P → O → R → P → Type 0) (o : P) (found : ℕ)
+    (m m' : Me (Slot P O R) (View P O R)) : Type 0 where
   pub log : List (Entry O R)
   pub state : P
   pub said : Option (Said O R)
@@ -26,7 +27,8 @@ pub record Took {P O R : Type 0} (may : P → O → R → P → Type 0) (o : P) 
   pub more : StartsWith log m.0.mine.seen
   pub runs : StandsFor may o (calls log) state
 
-abbrev pub taken : {P O R : Type 0} → (P → O → R → P → Type 0) → Step (Slot P O R) → Me (Slot P O R) (View P O R) → ℕ → Me (Slot P O R) (View P O R) → Type 0
+abbrev pub taken : {P O R : Type 0} → (P → O → R → P → Type 0) → Step (Slot P O R) → Me (Slot P O R) (View P O R) →
+    ℕ → Me (Slot P O R) (View P O R) → Type 0
 taken {P} may st m found m' =
     (found ≢ st.first → m' ≡ m) × ((o : P) → m.0.opening ≡ Some o → found ≡ st.first → Took may o found m m')
 
@@ -34,7 +36,8 @@ taken {P} may st m found m' =
 abbrev pub added : {P O R : Type 0} → View P O R → ℕ → O → R → View P O R
 added v q a r = record v {
   turn = None;
-  mine = half v.mine.owned (v.mine.seen ++ record { by = v.number; call = call q a r } ∷ []) (v.mine.own ++ call q a r ∷ []);
+  mine = half v.mine.owned (v.mine.seen ++ record { by = v.number; call = call q a r } ∷ [])
+      (v.mine.own ++ call q a r ∷ []);
 }
 
 -- what is said in the slot that is out
@@ -42,7 +45,8 @@ abbrev pub said_of : {P O R : Type 0} → List (ℕ × Slot P O R) → Option (S
 said_of [] = None
 said_of (x ∷ xs) = x.1.said
 
-abbrev pub given : {P O R : Type 0} → Step (Slot P O R) → Me (Slot P O R) (View P O R) → ℕ → Me (Slot P O R) (View P O R) → Type 0
+abbrev pub given : {P O R : Type 0} → Step (Slot P O R) → Me (Slot P O R) (View P O R) → ℕ →
+    Me (Slot P O R) (View P O R) → Type 0
 given {P} {O} {R} st m found m' =
     (said : Said O R) → said_of m.1 ≡ Some said → m' ≡ (added m.0 said.request said.op.value said.reply.value, rest m.1)
 
@@ -85,12 +89,14 @@ pub record Settled {P O R : Type 0} (v : View P O R) : Type 0 where
   pub own : Merges v.mine.own v.joining.own (settled v).mine.own
   pub room : v.first ≡ true → length v.mine.owned + length v.joining.owned ≤ v.made + 1
 
-abbrev pub looked : {P O R : Type 0} → Step (Slot P O R) → Me (Slot P O R) (View P O R) → ℕ → Me (Slot P O R) (View P O R) → Type 0
+abbrev pub looked : {P O R : Type 0} → Step (Slot P O R) → Me (Slot P O R) (View P O R) → ℕ →
+    Me (Slot P O R) (View P O R) → Type 0
 looked st m found m' = (m' ≡ (settled m.0, m.1)) × Settled m.0
 
 -- the pass has the turn: the word was twice the length of a history that begins with what it had seen, and the part is
 -- out of the slot and stands for that history
-pub record HasTurn {P O R : Type 0} (may : P → O → R → P → Type 0) (o : P) (word : ℕ) (part : P) (v : View P O R) (m' : Me (Slot P O R) (View P O R)) : Type 0 where
+pub record HasTurn {P O R : Type 0} (may : P → O → R → P → Type 0) (o : P) (word : ℕ) (part : P) (v : View P O R)
+    (m' : Me (Slot P O R) (View P O R)) : Type 0 where
   pub log : List (Entry O R)
   pub view : m'.0 ≡ with_turn v log part
   pub out : m'.1 ≡ (0, slot None None) ∷ []
@@ -99,7 +105,8 @@ pub record HasTurn {P O R : Type 0} (may : P → O → R → P → Type 0) (o : 
   pub runs : StandsFor may o (calls log) part
 
 -- the pass may give the turn back with this part: the part's step was one that may be
-pub record CanGive {P O R : Type 0} (may : P → O → R → P → Type 0) (word : ℕ) (part : P) (said : Said O R) (m : Me (Slot P O R) (View P O R)) : Type 0 where
+pub record CanGive {P O R : Type 0} (may : P → O → R → P → Type 0) (word : ℕ) (part : P) (said : Said O R)
+    (m : Me (Slot P O R) (View P O R)) : Type 0 where
   pub before : P
   pub turn : m.0.turn ≡ Some before
   pub out : m.1 ≡ (0, slot None None) ∷ []

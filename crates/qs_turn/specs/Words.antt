@@ -33,7 +33,8 @@ IsPassOf t k = (k.turn ≡ t.table) × (k.view.opening ≡ Some (opening t))
 
 -- One call was made with a pass, by steps from the opening state o that may be: the pass has seen more, the last of it
 -- this call, and the call is one more of its own
-pub record Calls {P O R : Type 0} (may : P → O → R → P → Type 0) (o : P) (k : Known (View P O R)) (q : ℕ) (a : O) (r : R) (n : Known (View P O R)) : Type 0 where
+pub record Calls {P O R : Type 0} (may : P → O → R → P → Type 0) (o : P) (k : Known (View P O R)) (q : ℕ) (a : O)
+    (r : R) (n : Known (View P O R)) : Type 0 where
   pub between : List (Call O R)
   pub sees : seen n ≡ (seen k ++ between) ++ call q a r ∷ []
   pub owns : own n ≡ own k ++ call q a r ∷ []
@@ -45,7 +46,8 @@ pub record Calls {P O R : Type 0} (may : P → O → R → P → Type 0) (o : P)
   pub same_first : is_first n ≡ is_first k
   pub same_out : out n ≡ out k
 
--- A pass was joined into another, which keeps the longer history; that begins with both, and the own calls are those of both
+-- A pass was joined into another, which keeps the longer history; that begins with both, and the own calls are those
+-- of both
 pub record Joined {P O R : Type 0} (k other n : Known (View P O R)) : Type 0 where
   pub longer : (seen n ≡ seen k) ⊎ (seen n ≡ seen other)
   pub this : StartsWith (seen n) (seen k)

@@ -169,9 +169,11 @@ impl<P: Part> Turn<P> {
 
     /// Takes the turn and the part.
     fn take<R: Wait>(&self, rt: &R, seat: &mut PassSeat<P>) -> (u64, P)
-        requires { (seat.old.table_id ≡ self.now.table) × (seat.old.me.0.opening ≡ Some (opening self.now)) × (seat.old.me.1 ≡ []) }
+        requires { (seat.old.table_id ≡ self.now.table) × (seat.old.me.0.opening ≡ Some (opening self.now))
+            × (seat.old.me.1 ≡ []) }
         ensures seat { seat.new.table_id ≡ seat.old.table_id }
-        ensures holds { HasTurn (lawful P.fixed_of P.can P.legal) (opening self.now) result.0 result.1 seat.old.me.0 seat.new.me }
+        ensures holds { HasTurn (lawful P.fixed_of P.can P.legal) (opening self.now) result.0 result.1 seat.old.me.0
+            seat.new.me }
         ensures room { result.0 < 2 ^ 64 - 2 }
     {
         let word = self.turn_word(rt, seat);
@@ -211,7 +213,8 @@ impl<P: Part> Turn<P> {
         requires turn { IsPassOf self.now pass.old }
         requires first { is_first pass.old ≡ true }
         ensures turn { IsPassOf self.now pass.new × IsPassOf self.now result }
-        ensures first { (is_first pass.new ≡ true) × (seen pass.new ≡ seen pass.old) × (own pass.new ≡ own pass.old) × (out pass.new ≡ out pass.old + 1) }
+        ensures first { (is_first pass.new ≡ true) × (seen pass.new ≡ seen pass.old) × (own pass.new ≡ own pass.old)
+            × (out pass.new ≡ out pass.old + 1) }
         ensures given { (is_first result ≡ false) × (seen result ≡ seen pass.old) × (own result ≡ []) }
     {
         let seat = self.table.shared.split_seat::<Fork>(&mut pass.seat);

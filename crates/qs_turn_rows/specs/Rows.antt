@@ -16,7 +16,8 @@ pub record Pairs {A B : Type 0} (Rel : A → B → Type 0) (xs : List A) (ys : L
 pub record Triples {A B C : Type 0} (Rel : A → B → C → Type 0) (xs : List A) (ys : List B) (zs : List C) : Type 0 where
   pub long : length xs ≡ length zs
   pub second_long : length ys ≡ length zs
-  pub each : (i : ℕ) (x : A) (y : B) (z : C) → slice_get xs i ≡ Some x → slice_get ys i ≡ Some y → slice_get zs i ≡ Some z → Rel x y z
+  pub each : (i : ℕ) (x : A) (y : B) (z : C) → slice_get xs i ≡ Some x → slice_get ys i ≡ Some y →
+      slice_get zs i ≡ Some z → Rel x y z
 
 -- each member is such
 abbrev pub Each : {A : Type 0} → (A → Type 0) → List A → Type 0
@@ -44,7 +45,8 @@ abbrev pub IsAlone : {P O R : Type 0} → Known (View P O R) → Type 0
 IsAlone k = (is_first k ≡ true) × (out k ≡ 0)
 
 -- a turn was closed with a pass, and this part came back: it stands for what the pass has seen, all of it its own calls
-pub record Closed {P O R : Type 0} (may : P → O → R → P → Type 0) (t : Name (Snapshot P)) (k : Known (View P O R)) (p : P) : Type 0 where
+pub record Closed {P O R : Type 0} (may : P → O → R → P → Type 0) (t : Name (Snapshot P)) (k : Known (View P O R))
+    (p : P) : Type 0 where
   pub stands : StandsFor may (opening t) (seen k) p
   pub whole : own k ≡ seen k
 
@@ -57,7 +59,8 @@ abbrev pub FitsAt : {P O F : Type 0} → (P → F) → (F → O → Type 0) → 
 FitsAt {P} fixed_of can ts i op = (t : Name (Snapshot P)) → slice_get ts i ≡ Some t → can (fixed_of (opening t)) op
 
 -- one call was made of the turn at a place, with the pass there, and no other pass changed
-pub record CalledAt {P O R : Type 0} (may : P → O → R → P → Type 0) (ts : List (Name (Snapshot P))) (i : ℕ) (ks : List (Known (View P O R))) (q : ℕ) (a : O) (r : R) (ns : List (Known (View P O R))) : Type 0 where
+pub record CalledAt {P O R : Type 0} (may : P → O → R → P → Type 0) (ts : List (Name (Snapshot P))) (i : ℕ)
+    (ks : List (Known (View P O R))) (q : ℕ) (a : O) (r : R) (ns : List (Known (View P O R))) : Type 0 where
   pub turn : Name (Snapshot P)
   pub old : Known (View P O R)
   pub new : Known (View P O R)
@@ -67,7 +70,8 @@ pub record CalledAt {P O R : Type 0} (may : P → O → R → P → Type 0) (ts 
   pub called : Calls may (opening turn) old q a r new
 
 -- a pass was joined into the one at a place, and no other changed
-pub record JoinedAt {P O R : Type 0} (i : ℕ) (ks : List (Known (View P O R))) (other : Known (View P O R)) (ns : List (Known (View P O R))) : Type 0 where
+pub record JoinedAt {P O R : Type 0} (i : ℕ) (ks : List (Known (View P O R))) (other : Known (View P O R))
+    (ns : List (Known (View P O R))) : Type 0 where
   pub old : Known (View P O R)
   pub new : Known (View P O R)
   pub was : slice_get ks i ≡ Some old
@@ -75,7 +79,8 @@ pub record JoinedAt {P O R : Type 0} (i : ℕ) (ks : List (Known (View P O R))) 
   pub joined : Joined old other new
 
 -- a turn was opened at the end of a row, with this part, and its first pass, which has seen nothing and owns nothing
-pub record Opened {P O R : Type 0} (ts : List (Name (Snapshot P))) (ks : List (Known (View P O R))) (part : P) (ts' : List (Name (Snapshot P))) (ks' : List (Known (View P O R))) : Type 0 where
+pub record Opened {P O R : Type 0} (ts : List (Name (Snapshot P))) (ks : List (Known (View P O R))) (part : P)
+    (ts' : List (Name (Snapshot P))) (ks' : List (Known (View P O R))) : Type 0 where
   pub turn : Name (Snapshot P)
   pub pass : Known (View P O R)
   pub turns : ts' ≡ ts ++ turn ∷ []

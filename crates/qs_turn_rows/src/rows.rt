@@ -43,7 +43,8 @@ pub fn split_all<P: Part>(
     requires turns { Pairs IsPassOf turns.now passes.old.items }
     requires first { Each IsFirst passes.old.items }
     ensures err { IfErr result (λ _. passes.new ≡ passes.old) }
-    ensures turns { IfOk result (λ given. Pairs IsPassOf turns.now passes.new.items × Pairs IsPassOf turns.now given.items) }
+    ensures turns { IfOk result (λ given. Pairs IsPassOf turns.now passes.new.items
+        × Pairs IsPassOf turns.now given.items) }
     ensures forked { IfOk result (λ given. Triples Forked passes.old.items passes.new.items given.items) }
     ensures first { IfOk result (λ given. Each IsFirst passes.new.items × Each IsOther given.items) }
 {
@@ -67,7 +68,8 @@ pub fn call_at<P: Part, R: Wait>(
     requires place { place < length turns.now }
     requires fits { FitsAt P.fixed_of P.can turns.now place op }
     ensures turns { Pairs IsPassOf turns.now passes.new.items }
-    ensures called { CalledAt (lawful P.fixed_of P.can P.legal) turns.now place passes.old.items request op result passes.new.items }
+    ensures called { CalledAt (lawful P.fixed_of P.can P.legal) turns.now place passes.old.items request op result
+        passes.new.items }
 {
     turns[place].call(rt, &mut passes[place], request, op)
 }
@@ -127,7 +129,8 @@ pub fn split_and_close<P: Part>(
 ) -> Result<Vec<P>, Memory>
     requires turns { Pairs IsPassOf turns.items passes.items }
     requires alone { Each IsAlone passes.items }
-    ensures { IfOk result (λ parts. Triples (Closed (lawful P.fixed_of P.can P.legal)) turns.items passes.items parts.items) }
+    ensures { IfOk result (λ parts. Triples (Closed (lawful P.fixed_of P.can P.legal)) turns.items passes.items
+        parts.items) }
 {
     let parts = Vec::with_capacity(alloc, turns.len())?;
     let others = split_all(alloc, &turns, &mut passes)?;

@@ -23,7 +23,8 @@ abbrev pub stripe_answers : StripeState Journal → StripeCall → StripeAnswer 
 stripe_answers s op reply t = call_answers (meaning s) op reply (meaning t)
 
 -- two calls in a row were made with a pass, for one request, and nothing else
-pub record MadeTwo (t : Name (Snapshot (StripeState Journal))) (k : Known (View (StripeState Journal) StripeCall StripeAnswer)) (q : ℕ) (a b : StripeCall) (r s : StripeAnswer)
+pub record MadeTwo (t : Name (Snapshot (StripeState Journal)))
+    (k : Known (View (StripeState Journal) StripeCall StripeAnswer)) (q : ℕ) (a b : StripeCall) (r s : StripeAnswer)
     (n : Known (View (StripeState Journal) StripeCall StripeAnswer)) : Type 0 where
   pub turn : IsPassOf t n
   pub owns : own n ≡ own k ++ call q a r ∷ call q b s ∷ []

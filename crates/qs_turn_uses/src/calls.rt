@@ -43,7 +43,8 @@ pub fn on_stripe<D: Disk + Drop, R: Wait>(
     requires turn { IsPassOf turn.now pass.old }
     requires fits { ⟦<Stripe<D> as Part>⟧.can (⟦<Stripe<D> as Part>⟧.fixed_of (opening turn.now)) op }
     ensures turn { IsPassOf turn.now pass.new }
-    ensures call { Calls (lawful ⟦<Stripe<D> as Part>⟧.fixed_of ⟦<Stripe<D> as Part>⟧.can ⟦<Stripe<D> as Part>⟧.legal) (opening turn.now) pass.old request op result pass.new }
+    ensures call { Calls (lawful ⟦<Stripe<D> as Part>⟧.fixed_of ⟦<Stripe<D> as Part>⟧.can ⟦<Stripe<D> as Part>⟧.legal)
+        (opening turn.now) pass.old request op result pass.new }
 {
     turn.call(rt, pass, request, op)
 }

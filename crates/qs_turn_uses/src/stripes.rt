@@ -27,7 +27,8 @@ pub type TwoReplies = (StripeAnswer, StripeAnswer);
 
 /// Whether the stripe takes both calls.
 pub fn both_fit(stripe: &Stripe<MemDisk>, ops: &TwoOps) -> bool
-    ensures { IsTrue result ↔ (FitsCall (stripe_fixed stripe.now) ops.now.0 × FitsCall (stripe_fixed stripe.now) ops.now.1) }
+    ensures { IsTrue result ↔ (FitsCall (stripe_fixed stripe.now) ops.now.0
+        × FitsCall (stripe_fixed stripe.now) ops.now.1) }
 {
     let fixed = stripe.fixed();
     let (first, second) = ops;
@@ -70,7 +71,8 @@ pub fn two_by_two<R: Threads + Wait + Sync>(
     requires theirs { FitsCall (stripe_fixed stripe) theirs.0 × FitsCall (stripe_fixed stripe) theirs.1 }
     ensures { IfOk result (λ r. (cs : List _)
         × StandsFor (lawful stripe_fixed FitsCall stripe_answers) stripe cs r.0
-        × Merges (call 1 ours.0 r.1.0 ∷ call 1 ours.1 r.1.1 ∷ []) (call 2 theirs.0 r.2.0 ∷ call 2 theirs.1 r.2.1 ∷ []) cs
+        × Merges (call 1 ours.0 r.1.0 ∷ call 1 ours.1 r.1.1 ∷ []) (call 2 theirs.0 r.2.0 ∷ call 2 theirs.1 r.2.1 ∷ [])
+        cs
         × HeldIn (all_singles (stripe_fixed stripe).align cs)) }
 {
     let geometry: Geometry = stripe.fixed();
@@ -80,14 +82,16 @@ pub fn two_by_two<R: Threads + Wait + Sync>(
     let ((one, mut pass), (two, other)) = join(
         rt,
         move || -> (TwoReplies, Pass<Stripe<MemDisk>>)
-            requires { IsPassOf shared.now pass × FitsCall (stripe_fixed (opening shared.now)) ours.0 × FitsCall (stripe_fixed (opening shared.now)) ours.1 }
+            requires { IsPassOf shared.now pass × FitsCall (stripe_fixed (opening shared.now)) ours.0
+                × FitsCall (stripe_fixed (opening shared.now)) ours.1 }
             ensures { MadeTwo shared.entry.now pass 1 ours.0 ours.1 result.0.0 result.0.1 result.1 }
         {
             let _geometry = geometry;
             call_twice(rt, shared, pass, 1, ours)
         },
         move || -> (TwoReplies, Pass<Stripe<MemDisk>>)
-            requires { IsPassOf shared.now other × FitsCall (stripe_fixed (opening shared.now)) theirs.0 × FitsCall (stripe_fixed (opening shared.now)) theirs.1 }
+            requires { IsPassOf shared.now other × FitsCall (stripe_fixed (opening shared.now)) theirs.0
+                × FitsCall (stripe_fixed (opening shared.now)) theirs.1 }
             ensures { MadeTwo shared.entry.now other 2 theirs.0 theirs.1 result.0.0 result.0.1 result.1 }
         {
             let _geometry = geometry;

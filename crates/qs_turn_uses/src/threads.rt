@@ -25,7 +25,8 @@ pub fn once<R: Wait>(
     requires turn { IsPassOf turn.now pass }
     requires fits { FitsTracker op }
     ensures turn { IsPassOf turn.now result.1 }
-    ensures call { Calls (lawful tracker_fixed tracker_fits answers) (opening turn.now) pass request op result.0 result.1 }
+    ensures call { Calls (lawful tracker_fixed tracker_fits answers) (opening turn.now) pass request op result.0
+        result.1 }
 {
     let reply = turn.call(rt, &mut pass, request, op);
     (reply, pass)
@@ -42,7 +43,8 @@ pub fn both<R: Threads + Wait + Sync>(
     second: TrackerOp,
 ) -> Result<(Tracker, TrackerReply, TrackerReply), Memory>
     requires { FitsTracker first × FitsTracker second }
-    ensures { IfOk result (λ r. (cs : List _) × StandsFor (lawful tracker_fixed tracker_fits answers) tracker cs r.0 × Merges (call 1 first r.1 ∷ []) (call 2 second r.2 ∷ []) cs) }
+    ensures { IfOk result (λ r. (cs : List _) × StandsFor (lawful tracker_fixed tracker_fits answers) tracker cs r.0
+        × Merges (call 1 first r.1 ∷ []) (call 2 second r.2 ∷ []) cs) }
 {
     let (turn, mut pass) = Turn::new(alloc, tracker)?;
     let other = turn.split(&mut pass);
@@ -51,11 +53,15 @@ pub fn both<R: Threads + Wait + Sync>(
         rt,
         move || -> (TrackerReply, Pass<Tracker>)
             requires { IsPassOf shared.now pass × FitsTracker first }
-            ensures { IsPassOf shared.entry.now result.1 × Calls (lawful tracker_fixed tracker_fits answers) (opening shared.entry.now) pass 1 first result.0 result.1 }
+            ensures { IsPassOf shared.entry.now result.1
+                × Calls (lawful tracker_fixed tracker_fits answers) (opening shared.entry.now) pass 1 first result.0
+                result.1 }
         { once(rt, shared, pass, 1, first) },
         move || -> (TrackerReply, Pass<Tracker>)
             requires { IsPassOf shared.now other × FitsTracker second }
-            ensures { IsPassOf shared.entry.now result.1 × Calls (lawful tracker_fixed tracker_fits answers) (opening shared.entry.now) other 2 second result.0 result.1 }
+            ensures { IsPassOf shared.entry.now result.1
+                × Calls (lawful tracker_fixed tracker_fits answers) (opening shared.entry.now) other 2 second result.0
+                result.1 }
         { once(rt, shared, other, 2, second) },
     );
     turn.join(&mut pass, other);

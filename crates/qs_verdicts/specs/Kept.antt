@@ -50,17 +50,19 @@ is_spanless Flush = true
 is_spanless Trim = true
 is_spanless _ = false
 
--- The state behind these steps. Requests in flight have distinct places, and no other place is taken. A place has a span exactly
--- where its request was listed, and it is that request's; a FLUSH or a TRIM has none. A request at its blocks has started, and so
--- has one that syncs and is no FLUSH. The holds are exactly the blocks whose bytes a request has kept and has since neither stored
--- nor freed, head at Head and tail at Tail, each on the request's serialising span; the block that a request frees is one, and the
--- block holds what was kept of it. The clients of an export are exactly the sessions that are attached to it, each once.
+-- The state behind these steps. Requests in flight have distinct places, and no other place is taken. A place has a
+-- span exactly where its request was listed, and it is that request's; a FLUSH or a TRIM has none. A request at its
+-- blocks has started, and so has one that syncs and is no FLUSH. The holds are exactly the blocks whose bytes a
+-- request has kept and has since neither stored nor freed, head at Head and tail at Tail, each on the request's
+-- serialising span; the block that a request frees is one, and the block holds what was kept of it. The clients of an
+-- export are exactly the sessions that are attached to it, each once.
 pub record Kept (A : ℕ) (w : World) (before : List Element) : Type 0 where
   pub placed : Placed w
   pub span : (r k : ℕ) (f : InFlight w r k) → (traced A r before).listed ≡ true →
       (l : Listing) × ((seat_at w.tracker.seats k ≡ Has l) × IsSpanOf A f.request.client l)
   pub spanless : (r k : ℕ) → InFlight w r k → (traced A r before).listed ≡ false → seat_at w.tracker.seats k ≡ Present
-  pub unlisted : (r k : ℕ) (f : InFlight w r k) → is_spanless f.request.client.ask.kind ≡ true → seat_at w.tracker.seats k ≡ Present
+  pub unlisted : (r k : ℕ) (f : InFlight w r k) → is_spanless f.request.client.ask.kind ≡ true →
+      seat_at w.tracker.seats k ≡ Present
   pub started : (r k : ℕ) (f : InFlight w r k) → IsAtBlocks f.step →
       (l : Listing) × ((seat_at w.tracker.seats k ≡ Has l) × (l.started ≡ true))
   pub syncing : (r k s : ℕ) (f : InFlight w r k) → f.step ≡ ToSync s → f.request.client.ask.kind ≢ Flush →

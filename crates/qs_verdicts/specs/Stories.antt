@@ -1,4 +1,5 @@
--- What happened to one request in a run, as its Ask, its Route, its blocks and its syncs tell it. No stage of the machine is named here.
+-- What happened to one request in a run, as its Ask, its Route, its blocks and its syncs tell it. No stage of the
+-- machine is named here.
 use Rattle.std.specs.Prelude.{◌≡◌, ℕ, Bool, true, false, ◌||◌, ◌==◌, if◌then◌else◌, List, [], ◌∷◌, ◌++◌, Option, Some, None}
 use Rattle.qs_part.specs.declared.graph.Route.{Route}
 use Rattle.qs_part.specs.declared.stripe.Side.TheVariants.{Tail}
@@ -11,9 +12,10 @@ pub data Way : Type 0 where
   Shut : Way
   Given : Route → Way
 
--- The request as it was made, its way, whether its session has left, whether its span was listed, whether it did anything to a
--- block or a stripe, whether a disk failed in such a step, whether it loaded or stored its last block, the covered bytes that it
--- loaded, and the stripes that it synced since its last store, done or refused, in order: those that were answered Synced or Clean.
+-- The request as it was made, its way, whether its session has left, whether its span was listed, whether it did
+-- anything to a block or a stripe, whether a disk failed in such a step, whether it loaded or stored its last block,
+-- the covered bytes that it loaded, and the stripes that it synced since its last store, done or refused, in order:
+-- those that were answered Synced or Clean.
 pub record Story : Type 0 where
   pub client : Client
   pub way : Way
@@ -27,7 +29,17 @@ pub record Story : Type 0 where
 
 -- a request that was just made
 abbrev pub begun : Client → Story
-begun c = record { client = c; way = Unknown; left = false; listed = false; worked = false; fault = false; ended = false; got = []; synced = [] }
+begun c = record {
+  client = c;
+  way = Unknown;
+  left = false;
+  listed = false;
+  worked = false;
+  fault = false;
+  ended = false;
+  got = [];
+  synced = [];
+}
 
 abbrev pub route_by : Way → Route
 route_by (Given route) = route
@@ -46,11 +58,16 @@ abbrev pub told_row : ℕ → Story → {stage : Stage} → Act stage → Story
 told_row A n (Routes route) = record n { way = Given route }
 told_row A n Shuts = record n { way = Shut }
 told_row A n (Lists m) = record n { listed = true }
-told_row A n (Loads {b = b} bytes) = record n { worked = true; ended = n.ended || is_last A (sent n) b; got = n.got ++ piece A (sent n) b bytes }
+told_row A n (Loads {b = b} bytes) = record n {
+  worked = true;
+  ended = n.ended || is_last A (sent n) b;
+  got = n.got ++ piece A (sent n) b bytes;
+}
 told_row A n LoadFails = record n { worked = true; fault = true }
 told_row A n (Holds bytes) = record n { worked = true }
 told_row A n HoldFails = record n { worked = true; fault = true }
-told_row A n (Stores {b = b} bytes past) = record n { worked = true; ended = n.ended || is_last A (sent n) b; synced = [] }
+told_row A n (Stores {b = b} bytes past) = record
+    n { worked = true; ended = n.ended || is_last A (sent n) b; synced = [] }
 told_row A n (StoreFails bytes took past) = record n { worked = true; fault = true; synced = [] }
 told_row A n (Syncs {s = s}) = record n { worked = true; synced = n.synced ++ s ∷ [] }
 told_row A n (Cleans {s = s}) = record n { worked = true; synced = n.synced ++ s ∷ [] }

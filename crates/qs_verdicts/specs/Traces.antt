@@ -5,8 +5,8 @@ use Rattle.qs_part.specs.declared.stripe.Side.TheVariants.{Head, Tail}
 use Rattle.qs_model.specs.Requests.{Client, Stage, edge}
 use Rattle.qs_model.specs.Acts.{Act, Lists, Holds, Stores, StoreFails, Frees, Element, Attached, Detached, Asked, Did, Crashed}
 
--- Of a request: whether its span was listed; and of its head and its tail whether the block's bytes were kept and the block was
--- since neither stored nor freed. A store that the disk refused counts as stored.
+-- Of a request: whether its span was listed; and of its head and its tail whether the block's bytes were kept and the
+-- block was since neither stored nor freed. A store that the disk refused counts as stored.
 pub record Trace : Type 0 where
   pub listed : Bool
   pub head : Bool
@@ -25,7 +25,11 @@ with_kept t Tail b = record t { tail = b }
 
 -- block b was stored
 abbrev pub with_stored : ℕ → Client → Trace → ℕ → Trace
-with_stored A c t b = record t { head = if b == edge A c Head then false else t.head; tail = if b == edge A c Tail then false else t.tail }
+with_stored A c t b = record t {
+  head = if b == edge A c Head then false else t.head;
+  tail = if b == edge A c Tail
+      then false else t.tail;
+}
 
 abbrev pub traced_row : ℕ → Trace → Client → {stage : Stage} → Act stage → Trace
 traced_row A t c (Lists m) = record t { listed = true }

@@ -1,4 +1,5 @@
--- The answer of a request, by the table of replies: the first line that applies (NBD proto.md, and this server's own order).
+-- The answer of a request, by the table of replies: the first line that applies (NBD proto.md, and this server's own
+-- order).
 use Rattle.std.specs.Prelude.{◌≡◌, ◌≢◌, ◌↔◌, ℕ, ◌+◌, ◌≤◌, ◌==◌, ◌⊎◌, Bool, true, false, not, ◌&&◌, ◌||◌, nat_lt, if◌then◌else◌, List, [], ◌∷◌, Option, Some, None}
 use Rattle.qs_bytes.specs.Geometry.{stripe_of}
 use Rattle.qs_bytes.specs.Payloads.{max_payload}
@@ -58,9 +59,9 @@ passes a route = nat_lt route.size (a.offset + a.length)
 abbrev pub done : Ask → List ℕ → Verdict
 done a got = if is_read a.kind then Got got else Fine
 
--- The lines of a request that has its way: EPERM where a WRITE, WRITE_ZEROES or TRIM has no leave; EINVAL where a READ or a TRIM
--- passes the end, ENOSPC where a WRITE or WRITE_ZEROES does; EIO where a disk failed for it; else it is done. A FLUSH may name any
--- range.
+-- The lines of a request that has its way: EPERM where a WRITE, WRITE_ZEROES or TRIM has no leave; EINVAL where a
+-- READ or a TRIM passes the end, ENOSPC where a WRITE or WRITE_ZEROES does; EIO where a disk failed for it; else it
+-- is done. A FLUSH may name any range.
 abbrev pub reply_on_way : Ask → Route → Bool → List ℕ → Verdict
 reply_on_way a route fault got =
     if needs_leave a.kind && not route.writable then Refused Perm
@@ -112,11 +113,11 @@ pub record AreStripes (A : ℕ) (c : Client) (stripes : List ℕ) : Type 0 where
   pub rising : IsRising stripes
   pub each : (s : ℕ) → IsAmong s stripes ↔ Meets (edge A c Head) (edge A c Tail) s
 
--- An answer is the first line that applies. It is EIO exactly where a disk failed for the request, and Dropped exactly where
--- its session left. A request that did something to a block or a stripe isn't refused but for EIO. One whose span was listed is
--- answered only when a disk failed for it, or its last block was loaded or stored and, with FUA, the stripes of its blocks were
--- synced behind that. A FLUSH that is Fine has synced the eight stripes in order, and a forced write those of its blocks; no other
--- request syncs any.
+-- An answer is the first line that applies. It is EIO exactly where a disk failed for the request, and Dropped
+-- exactly where its session left. A request that did something to a block or a stripe isn't refused but for EIO. One
+-- whose span was listed is answered only when a disk failed for it, or its last block was loaded or stored and, with
+-- FUA, the stripes of its blocks were synced behind that. A FLUSH that is Fine has synced the eight stripes in order,
+-- and a forced write those of its blocks; no other request syncs any.
 pub record IsByTable (A : ℕ) (n : Story) (v : Verdict) : Type 0 where
   pub line : verdict_of n ≡ Some v
   pub io : n.left ≡ false → (v ≡ Refused Io) ↔ (n.fault ≡ true)
@@ -130,7 +131,8 @@ pub record IsByTable (A : ℕ) (n : Story) (v : Verdict) : Type 0 where
 
 -- every answer
 abbrev pub Verdicts : ℕ → List Element → Type 0
-Verdicts A es = (r : ℕ) (v : Verdict) (before : List Element) (e : Element) → ComesBehind before e es → IsAnswered r v e →
+Verdicts A es = (r : ℕ) (v : Verdict) (before : List Element) (e : Element) → ComesBehind before e es →
+    IsAnswered r v e →
     HasStory A r before (λ n. IsByTable A n v)
 
 -- a row of Enter, Route or List
@@ -154,9 +156,11 @@ WasAskedAs r c [] = ⊥
 WasAskedAs r c (Asked s d ∷ es) = ((s ≡ r) × (d ≡ c)) ⊎ WasAskedAs r c es
 WasAskedAs r c (e ∷ es) = WasAskedAs r c es
 
--- A step of a request is with the client that asked it, but for its way, which is the one that the graph gave. A request whose
--- session has left enters, asks for its way and lists no more. Only a FLUSH whose session is there syncs, and a forced write.
-pub record IsOwn (A r : ℕ) (c : Client) (d : Bool) {stage : Stage} (act : Act stage) (before : List Element) (n : Story) : Type 0 where
+-- A step of a request is with the client that asked it, but for its way, which is the one that the graph gave. A
+-- request whose session has left enters, asks for its way and lists no more. Only a FLUSH whose session is there
+-- syncs, and a forced write.
+pub record IsOwn (A r : ℕ) (c : Client) (d : Bool) {stage : Stage} (act : Act stage) (before : List Element)
+    (n : Story) : Type 0 where
   pub client : c ≡ sent n
   pub dropped : d ≡ n.left
   pub asked : WasAskedAs r n.client before
@@ -170,16 +174,20 @@ IsOwnStep A _ before = Unit {0}
 abbrev pub Own : ℕ → List Element → Type 0
 Own A es = (before : List Element) (e : Element) → ComesBehind before e es → IsOwnStep A e before
 
--- the byte v for place x is the client's own: of a WRITE or WRITE_ZEROES that covers x, and zero where that is a WRITE_ZEROES
+-- the byte v for place x is the client's own: of a WRITE or WRITE_ZEROES that covers x, and zero where that is a
+-- WRITE_ZEROES
 pub record IsOwnByte (n : Story) (x v : ℕ) : Type 0 where
   pub room : needs_room n.client.ask.kind ≡ true
   pub covered : covers (sent n) x ≡ true
   pub byte : v ≡ body_at (sent n) x
   pub zeros : n.client.ask.kind ≡ Zero → v ≡ 0
 
--- What a request writes at x is its client's own byte for x, and only where it covers x; a store that a disk refused, too.
+-- What a request writes at x is its client's own byte for x, and only where it covers x; a store that a disk refused,
+-- too.
 pub record OwnBytes (A : ℕ) (es : List Element) : Type 0 where
-  pub write : (x r v : ℕ) (before : List Element) (e : Element) → ComesBehind before e es → cell_at A x e ≡ Written r v ∷ [] →
+  pub write : (x r v : ℕ) (before : List Element) (e : Element) → ComesBehind before e es →
+      cell_at A x e ≡ Written r v ∷ [] →
       HasStory A r before (λ n. IsOwnByte n x v)
-  pub maybe : (x r v : ℕ) (took : Bool) (before : List Element) (e : Element) → ComesBehind before e es → cell_at A x e ≡ Maybe r v took ∷ [] →
+  pub maybe : (x r v : ℕ) (took : Bool) (before : List Element) (e : Element) → ComesBehind before e es →
+      cell_at A x e ≡ Maybe r v took ∷ [] →
       HasStory A r before (λ n. IsOwnByte n x v)

@@ -38,10 +38,12 @@ pub fn own_bytes()
 /// What the core keeps at every position: of requests in flight and their places, of spans, syncs, holds
 /// and kept bytes, and of the clients of each export.
 pub fn kept()
-    ensures { (A : ℕ) (o : Opening) (es : List Element) → 0 < A → Runs A (opening_world o) es → AlwaysKept A (opening_world o) es }
+    ensures { (A : ℕ) (o : Opening) (es : List Element) → 0 < A → Runs A (opening_world o) es →
+        AlwaysKept A (opening_world o) es }
 {}
 
 /// These laws together.
 pub fn judged()
-    ensures { (A : ℕ) (o : Opening) (es : List Element) → 0 < A → Runs A (opening_world o) es → Judged A (opening_world o) es }
+    ensures { (A : ℕ) (o : Opening) (es : List Element) → 0 < A → Runs A (opening_world o) es →
+        Judged A (opening_world o) es }
 {}

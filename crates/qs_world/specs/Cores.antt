@@ -25,7 +25,8 @@ value_of c = record {
 }
 
 -- a step of request r, by any reading of the clock
-pub record StepsRequest {D : Type 0} (seen : D → Seen) (old : WorldValue D) (r : ℕ) (outcome : Outcome) (new : WorldValue D) : Type 0 where
+pub record StepsRequest {D : Type 0} (seen : D → Seen) (old : WorldValue D) (r : ℕ) (outcome : Outcome)
+    (new : WorldValue D) : Type 0 where
   pub element : Element
   pub answers_event : (now : ℕ) → IsEvent (Step (ARequest r) now) element
   pub outcome_is : outcome_of old.shape.align element ≡ Some outcome
@@ -38,7 +39,8 @@ pub record StepsRequest {D : Type 0} (seen : D → Seen) (old : WorldValue D) (r
 
 -- What an event does: a step of the model, or nothing where it can't come or memory was refused; a fault
 -- has its cause, and the core stays sound.
-pub record Handles {D : Type 0} (seen : D → Seen) (old : WorldValue D) (event : Event) (outcome : Outcome) (new : WorldValue D) : Type 0 where
+pub record Handles {D : Type 0} (seen : D → Seen) (old : WorldValue D) (event : Event) (outcome : Outcome)
+    (new : WorldValue D) : Type 0 where
   pub step : StepsTo seen old event outcome new
   pub next : (outcome ≡ NotNext) ↔ IsNotNext old event
   pub cause : HasCause seen old outcome new

@@ -19,17 +19,20 @@ pub record StripeCrashes (choice : CrashChoice) (old new : StripeValue) : Type 0
   pub opened : Opened new
 
 -- each of the stripes crashed
-pub record StripesCrash {D : Type 0} (seen : D → Seen) (choice : CrashChoice) (old new : List (StripeState D)) : Type 0 where
+pub record StripesCrash {D : Type 0} (seen : D → Seen) (choice : CrashChoice)
+    (old new : List (StripeState D)) : Type 0 where
   pub count : length new ≡ length old
-  pub each : (j : ℕ) → j < length old → StripeCrashes choice (stripe_at (map (stripe_value seen) old) j) (stripe_at (map (stripe_value seen) new) j)
+  pub each : (j : ℕ) → j < length old → StripeCrashes choice (stripe_at (map (stripe_value seen) old) j)
+      (stripe_at (map (stripe_value seen) new) j)
 
 -- what is left of each block: the chosen one of what a crash may leave
 abbrev pub left_at : List StripeValue → CrashChoice → ℕ → List ℕ
 left_at stripes choice b = left_of ((stripe_at stripes (stripe_of b)).disk.past b) (chosen choice b)
 
--- The power failed: each disk crashed, and all else is as the core is made, but the numbers of requests go on. It is a step of
--- the model, and the disks are the same ones.
-pub record Crashed {D : Type 0} (seen : D → Seen) (old : WorldValue D) (choice : CrashChoice) (new : WorldValue D) : Type 0 where
+-- The power failed: each disk crashed, and all else is as the core is made, but the numbers of requests go on. It is
+-- a step of the model, and the disks are the same ones.
+pub record Crashed {D : Type 0} (seen : D → Seen) (old : WorldValue D) (choice : CrashChoice)
+    (new : WorldValue D) : Type 0 where
   pub rest : new ≡ record old {
     requests = [];
     sessions = [];

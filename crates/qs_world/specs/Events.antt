@@ -30,11 +30,13 @@ use Rattle.qs_world.specs.Stands.{Stands}
 -- From each state of the model that the core stood for, the element may come, and the core stands for
 -- where it leads.
 abbrev pub Does : {D : Type 0} → (D → Seen) → WorldValue D → Element → WorldValue D → Type 0
-Does seen old e new = (m : World) → Stands seen old m → CanCome old.shape.align m e × Stands seen new (happens old.shape.align m e)
+Does seen old e new = (m : World) → Stands seen old m →
+    CanCome old.shape.align m e × Stands seen new (happens old.shape.align m e)
 
 -- a store that was planned to fail, on a disk that isn't full, left its block as the plan says
 abbrev pub IsRowAsPlanned : (ℕ → StripeValue) → {stage : Stage} → Act stage → Type 0
-IsRowAsPlanned stripe (StoreFails {b = b} bytes took past) = (writes : Bool) → (stripe (stripe_of b)).disk.full ≡ Some false →
+IsRowAsPlanned stripe (StoreFails {b = b} bytes took past) = (writes : Bool) →
+    (stripe (stripe_of b)).disk.full ≡ Some false →
     (plans_of (stripe (stripe_of b)).disk.planned).store ≡ Some writes → took ≡ writes
 IsRowAsPlanned stripe _ = Unit {0}
 
@@ -44,11 +46,13 @@ IsAsPlanned seen w _ = Unit {0}
 
 -- an operation on a block stands inside the image
 abbrev pub IsInside : Shape → Element → Type 0
-IsInside shape (Did r q act) = (b : ℕ) → block_of shape.align q.client act ≡ Some b → (0 < shape.align) × ((b + 1) * shape.align ≤ shape.size)
+IsInside shape (Did r q act) = (b : ℕ) → block_of shape.align q.client act ≡ Some b →
+    (0 < shape.align) × ((b + 1) * shape.align ≤ shape.size)
 IsInside shape _ = Unit {0}
 
 -- a step of the model that answers the event by this outcome
-pub record Steps {D : Type 0} (seen : D → Seen) (old : WorldValue D) (event : Event) (outcome : Outcome) (new : WorldValue D) : Type 0 where
+pub record Steps {D : Type 0} (seen : D → Seen) (old : WorldValue D) (event : Event) (outcome : Outcome)
+    (new : WorldValue D) : Type 0 where
   pub element : Element
   pub answers_event : IsEvent event element
   pub outcome_is : outcome_of old.shape.align element ≡ Some outcome
@@ -83,7 +87,8 @@ IsNotNext w (Ask session ask body) = ((e : ℕ) → session_at w.sessions sessio
 IsNotNext w (Step (ARequest r) now) = request_at w.requests r ≡ None
 IsNotNext w (Step (ASession s) now) = ((e : ℕ) → session_at w.sessions s ≢ Leaving e) ⊎ HasRequest w s
 
--- the stripe whose disk an operation is on, by its kind and what it stands on: the stripe of a block, or the stripe itself
+-- the stripe whose disk an operation is on, by its kind and what it stands on: the stripe of a block, or the stripe
+-- itself
 abbrev pub stripe_by : OpKind → Option ℕ → Option ℕ
 stripe_by LoadKind (Some b) = Some (stripe_of b)
 stripe_by HoldKind (Some b) = Some (stripe_of b)
@@ -108,9 +113,10 @@ calls_stripe (Moved note) = is_of_stripe note.reply
 calls_stripe (Answered verdict (Some note)) = is_of_stripe note.reply
 calls_stripe _ = false
 
--- What an event made of the disks: they are the same ones, and no count of faults fell; a fault comes only where its disk's count
--- rose, and an event whose operation isn't a stripe's leaves all stripes as they were.
-pub record HasCause {D : Type 0} (seen : D → Seen) (old : WorldValue D) (outcome : Outcome) (new : WorldValue D) : Type 0 where
+-- What an event made of the disks: they are the same ones, and no count of faults fell; a fault comes only where its
+-- disk's count rose, and an event whose operation isn't a stripe's leaves all stripes as they were.
+pub record HasCause {D : Type 0} (seen : D → Seen) (old : WorldValue D) (outcome : Outcome)
+    (new : WorldValue D) : Type 0 where
   pub disks : SameDisks (disks_of seen old) (disks_of seen new)
   pub fault : IsCaused seen old outcome new
   pub rest : calls_stripe outcome ≡ false → new.stripes ≡ old.stripes

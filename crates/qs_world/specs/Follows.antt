@@ -29,7 +29,10 @@ pub record IsFree (l : Live) : Type 0 where
 -- abandoned where it is of this session
 abbrev pub abandoned_of : ℕ → Live → Live
 abandoned_of session l =
-    if is_live_of session l then record l { request = record l.request { value = record l.request.value { request = abandon l.request.value.request } } } else l
+    if is_live_of session l then record l {
+      request = record
+          l.request { value = record l.request.value { request = abandon l.request.value.request } };
+    } else l
 
 -- it waits for this reply, among others
 pub record Awaits (l : Live) (reply : PartReply) : Type 0 where
@@ -59,5 +62,6 @@ abbrev pub Follows : Live → PartReply → Note → ℕ → List Live → Outco
 Follows l reply note at old (Moved n) new =
     (n ≡ note) × (IsReady (next_of l reply).stage → ⊥)
     × (new ≡ slice_set old at (moved_to l (next_of l reply)))
-Follows l reply note at old (Answered v n) new = (n ≡ Some note) × ((next_of l reply).stage ≡ Ready v) × (new ≡ remove old at)
+Follows l reply note at old (Answered v n) new = (n ≡ Some note) × ((next_of l reply).stage ≡ Ready v)
+    × (new ≡ remove old at)
 Follows l reply note at old _ new = ⊥

@@ -21,8 +21,8 @@ all_tell [] = true
 all_tell (v ∷ vs) = v.disk.tells && all_tell vs
 
 -- The image of the model is that of these stripes: a block's content, where it is told, is that of its
--- stripe's disk, it is held by whom its stripe says, and a stripe is clean where it says so. A stripe has holds of its own
--- blocks alone.
+-- stripe's disk, it is held by whom its stripe says, and a stripe is clean where it says so. A stripe has holds of
+-- its own blocks alone.
 pub record StandsImage (stripe : ℕ → StripeValue) (tells : Bool) (i : Image) : Type 0 where
   pub now : IsTrue tells → (b : ℕ) → i.now b ≡ (stripe (stripe_of b)).disk.now b
   pub past : IsTrue tells → (b : ℕ) → i.past b ≡ (stripe (stripe_of b)).disk.past b

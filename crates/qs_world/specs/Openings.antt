@@ -50,7 +50,8 @@ opening_over disks file read_only = record {
 }
 
 -- The core over these disks, with a file node and nothing else: it stands for the opening state of the model over them.
-pub record IsOpened {D : Type 0} (seen : D → Seen) (disks : List D) (file : List ℕ) (read_only : Bool) (w : WorldValue D) : Type 0 where
+pub record IsOpened {D : Type 0} (seen : D → Seen) (disks : List D) (file : List ℕ) (read_only : Bool)
+    (w : WorldValue D) : Type 0 where
   pub image : IsImage (map seen disks)
   pub shape : w.shape ≡ record { align = align_of (map seen disks); size = size_of (map seen disks) }
   pub next : w.next ≡ 0
@@ -72,15 +73,23 @@ abbrev pub HasNoExport : {D : Type 0} → WorldValue D → Type 0
 HasNoExport w = (e : ℕ) → export_at w.graph.places e ≡ None
 
 -- an export over the file node was made, with this id and name: a step of the model
-pub record Exports {D : Type 0} (seen : D → Seen) (old : WorldValue D) (name : List ℕ) (writable : Bool) (new : WorldValue D) : Type 0 where
+pub record Exports {D : Type 0} (seen : D → Seen) (old : WorldValue D) (name : List ℕ) (writable : Bool)
+    (new : WorldValue D) : Type 0 where
   pub place : ℕ
   pub does : Does seen old (Exported (ExportAdd name name old.graph.file writable true) place) new
-  pub same : new ≡ record old { graph = after old.graph (ExportAdd name name old.graph.file writable true) (Added place) }
+  pub same : new ≡ record old {
+    graph = after old.graph (ExportAdd name name old.graph.file writable true)
+        (Added place);
+  }
 
 -- A failure was planned on the disk of one stripe, and nothing else changed: a step of the model.
-pub record Planned {D : Type 0} (seen : D → Seen) (old : WorldValue D) (stripe : ℕ) (fail : Fail) (new : WorldValue D) : Type 0 where
+pub record Planned {D : Type 0} (seen : D → Seen) (old : WorldValue D) (stripe : ℕ) (fail : Fail)
+    (new : WorldValue D) : Type 0 where
   pub rest : new ≡ record old { stripes = new.stripes }
   pub planned : (stripe_at (stripes_of seen new) stripe).disk
-      ≡ record (stripe_at (stripes_of seen old) stripe).disk { planned = Some (planned_too fail (plans_of (stripe_at (stripes_of seen old) stripe).disk.planned)) }
+      ≡ record (stripe_at (stripes_of seen old) stripe).disk {
+        planned = Some
+            (planned_too fail (plans_of (stripe_at (stripes_of seen old) stripe).disk.planned));
+      }
   pub others : (j : ℕ) → j ≢ stripe → stripe_at (stripes_of seen new) j ≡ stripe_at (stripes_of seen old) j
   pub does : Does seen old (PlannedStep stripe fail) new

@@ -40,10 +40,11 @@ pub record GoesOn (event : Event) (old new : WorldValue Seen) : Type 0 where
   pub step : OneStep event (Moved note) old new
   pub done : IsDone note.reply
 
--- The event comes some times, one after the other, each a step of the model: the last one is answered by the outcome, and those
--- before it were done.
+-- The event comes some times, one after the other, each a step of the model: the last one is answered by the outcome,
+-- and those before it were done.
 abbrev pub Repeats : {D : Type 0} → (D → Seen) → WorldValue D → Event → Outcome → WorldValue D → Type 0
-Repeats seen old event outcome new = (n : ℕ) × EndsAt (λ i. GoesOn event) (λ i. OneStep event outcome) n (meant seen old) (meant seen new)
+Repeats seen old event outcome new = (n : ℕ) × EndsAt (λ i. GoesOn event) (λ i. OneStep event outcome) n
+    (meant seen old) (meant seen new)
 
 -- the outcome of an event that came
 abbrev pub IsStepOutcome : Outcome → Type 0
@@ -58,13 +59,15 @@ RepeatsTo seen old event Memory new = ⊥
 RepeatsTo seen old event outcome new = Repeats seen old event outcome new
 
 -- steps of request r, by any reading of the clock
-pub record RepeatsRequest {D : Type 0} (seen : D → Seen) (old : WorldValue D) (r : ℕ) (outcome : Outcome) (new : WorldValue D) : Type 0 where
+pub record RepeatsRequest {D : Type 0} (seen : D → Seen) (old : WorldValue D) (r : ℕ) (outcome : Outcome)
+    (new : WorldValue D) : Type 0 where
   pub repeats : (now : ℕ) → Repeats seen old (Step (ARequest r) now) outcome new
   pub comes : IsStepOutcome outcome
   pub sound : IsSound seen new
 
 -- what a request does where its run of whole blocks is done as one call
-pub record RunsRequest {D : Type 0} (seen : D → Seen) (old : WorldValue D) (r now : ℕ) (outcome : Outcome) (new : WorldValue D) : Type 0 where
+pub record RunsRequest {D : Type 0} (seen : D → Seen) (old : WorldValue D) (r now : ℕ) (outcome : Outcome)
+    (new : WorldValue D) : Type 0 where
   pub repeats : RepeatsTo seen old (Step (ARequest r) now) outcome new
   pub next : (outcome ≡ NotNext) ↔ IsNotNext old (Step (ARequest r) now)
   pub sound : IsSound seen new

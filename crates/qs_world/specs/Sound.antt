@@ -21,7 +21,8 @@ pub record IsIdle (shape : Shape) (next : ℕ) (l : Live) : Type 0 where
 
 -- stripe j is of this number, and its disk has the image's shape
 abbrev pub IsStripe : {D : Type 0} → (D → Seen) → WorldValue D → ℕ → Type 0
-IsStripe seen w j = geometry (stripe_at (stripes_of seen w) j) ≡ record { stripe = j; align = w.shape.align; size = w.shape.size }
+IsStripe seen w j = geometry (stripe_at (stripes_of seen w) j)
+    ≡ record { stripe = j; align = w.shape.align; size = w.shape.size }
 
 -- eight stripes of one shape, a graph over it, requests and sessions by their numbers, and a state of
 -- the model that the core stands for

@@ -60,8 +60,10 @@ impl<D: Disk + Drop> Core<D> {
         requires room { vec_len self.old.requests < vec_capacity self.old.requests }
         requires number { self.old.next < 2 ^ 64 - 1 }
         ensures made { result ≡ Made self.old.next }
-        ensures requests { self.new.requests.items ≡ self.old.requests.items ++ record { number = self.old.next; request = request } ∷ [] }
-        ensures same { value_of self.new ≡ record (value_of self.old) { next = self.old.next + 1; requests = self.new.requests.items } }
+        ensures requests { self.new.requests.items ≡ self.old.requests.items
+            ++ record { number = self.old.next; request = request } ∷ [] }
+        ensures same { value_of self.new ≡ record
+            (value_of self.old) { next = self.old.next + 1; requests = self.new.requests.items } }
     {
         let number = self.next;
         self.next = number + 1;

@@ -103,7 +103,8 @@ impl<D: Disk + Drop> Core<D> {
     /// Notes a session that was attached. There is room for it.
     fn seat(&mut self, session: u32, e: u8)
         requires { vec_len self.old.sessions < vec_capacity self.old.sessions }
-        ensures sessions { self.new.sessions.items ≡ self.old.sessions.items ++ record { session = session; e = e; left = false } ∷ [] }
+        ensures sessions { self.new.sessions.items ≡ self.old.sessions.items
+            ++ record { session = session; e = e; left = false } ∷ [] }
         ensures same { value_of self.new ≡ record (value_of self.old) { sessions = self.new.sessions.items } }
     {
         let member = Member {

@@ -108,7 +108,8 @@ pub fn follow(
 ) -> Outcome
     requires inside { at < length requests.old.items }
     requires awaits { (l : ALive) → IsElement requests.old.items at l → Awaits l reply }
-    ensures { (l : ALive) → IsElement requests.old.items at l → Follows l reply note at requests.old.items result requests.new.items }
+    ensures { (l : ALive) → IsElement requests.old.items at l →
+        Follows l reply note at requests.old.items result requests.new.items }
 {
     match answer(&mut requests[at], reply) {
         None => Outcome::Moved(note),

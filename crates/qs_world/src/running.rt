@@ -22,7 +22,8 @@ impl<D: Disk + Drop> Core<D> {
         requires sound { IsSound D.seen (value_of self.old) }
         requires inside { at < length self.old.requests.items }
         requires zeros { AreZeros 65536 zeros.old }
-        requires next { (l : ALive) → IsElement self.old.requests.items at l → IsNextRun self.old.shape.align l.request.value.request run }
+        requires next { (l : ALive) → IsElement self.old.requests.items at l →
+            IsNextRun self.old.shape.align l.request.value.request run }
         ensures runs { (l : ALive) → IsElement self.old.requests.items at l →
             RepeatsRequest D.seen (value_of self.old) l.number result (value_of self.new) }
         ensures zeros { zeros.new ≡ zeros.old }

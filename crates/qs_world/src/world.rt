@@ -54,7 +54,8 @@ impl<D: Disk + Drop> Model for World<D> {
 
     ghost view = { λ w. value_of w.core };
 
-    ghost invariant = { λ w. IsSound D.seen (value_of w.core) × (w.spare.items ≡ []) × (8 ≤ vec_capacity w.spare) × AreZeros 65536 w.zeros };
+    ghost invariant = { λ w. IsSound D.seen (value_of w.core) × (w.spare.items ≡ []) × (8 ≤ vec_capacity w.spare)
+        × AreZeros 65536 w.zeros };
 }
 
 impl<D: Disk + Drop> World<D> {

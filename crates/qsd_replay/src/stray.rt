@@ -6,7 +6,8 @@ use qs_replay_words::Reading;
 /// The first word that isn't understood: those before it may begin the command, and with it they may not.
 /// `None` where all words may begin it.
 pub fn stray_word(words: &[String]) -> Option<usize>
-    ensures some { IfSome result (λ i. (i < length words.now) × IsFront (take i words.now) × ¬ IsFront (take (i + 1) words.now)) }
+    ensures some { IfSome result (λ i. (i < length words.now) × IsFront (take i words.now)
+        × ¬ IsFront (take (i + 1) words.now)) }
     ensures none { IfNone result (IsFront words.now) }
 {
     let mut reading = Reading::new();

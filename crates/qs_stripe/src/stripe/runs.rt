@@ -72,7 +72,8 @@ impl<D: Disk + Drop> Stripe<D> {
     /// Loads a run.
     fn load_run(&mut self, b: u64, k: u8, n: u8, at: u64, buf: Bytes) -> RunReply
         requires { IsWholeRun (geometry (value_of D.seen self.old)) b n at buf }
-        ensures row { run_answers (value_of D.seen self.old) (RunOp.Load b k n at buf) result (value_of D.seen self.new) }
+        ensures row { run_answers (value_of D.seen self.old) (RunOp.Load b k n at buf) result
+            (value_of D.seen self.new) }
         ensures same { geometry (value_of D.seen self.new) ≡ geometry (value_of D.seen self.old) }
     {
         let run = self.place_of(b, n, at);
@@ -95,9 +96,11 @@ impl<D: Disk + Drop> Stripe<D> {
         requires free { (i : ℕ) → i < n → IsFreeFor (holds_of self.old.places) k (b + i) }
         ensures row { MatchResult result
             (λ back. (back ≡ buf)
-            × InOrder (StoredAt (D.seen self.old.disk).align b k at buf) n (value_of D.seen self.old) (value_of D.seen self.new))
+            × InOrder (StoredAt (D.seen self.old.disk).align b k at buf) n (value_of D.seen self.old)
+            (value_of D.seen self.new))
             (λ e. (e.1 ≡ buf) × (e.0 < n)
-            × EndsAt (StoredAt (D.seen self.old.disk).align b k at buf) (NotStored (D.seen self.old.disk).align b k at buf) e.0
+            × EndsAt (StoredAt (D.seen self.old.disk).align b k at buf)
+            (NotStored (D.seen self.old.disk).align b k at buf) e.0
             (value_of D.seen self.old) (value_of D.seen self.new)) }
         ensures same { geometry (value_of D.seen self.new) ≡ geometry (value_of D.seen self.old) }
     {
@@ -119,7 +122,8 @@ impl<D: Disk + Drop> Stripe<D> {
     fn store_whole(&mut self, b: u64, k: u8, n: u8, at: u64, buf: Bytes) -> RunReply
         requires run { IsWholeRun (geometry (value_of D.seen self.old)) b n at buf }
         requires free { (i : ℕ) → i < n → IsFreeFor (holds_of self.old.places) k (b + i) }
-        ensures row { run_answers (value_of D.seen self.old) (RunOp.Store b k n at buf) result (value_of D.seen self.new) }
+        ensures row { run_answers (value_of D.seen self.old) (RunOp.Store b k n at buf) result
+            (value_of D.seen self.new) }
         ensures same { geometry (value_of D.seen self.new) ≡ geometry (value_of D.seen self.old) }
     {
         match self.store_free(b, k, n, at, buf) {
@@ -141,7 +145,8 @@ impl<D: Disk + Drop> Stripe<D> {
     ) -> RunReply
         requires run { IsWholeRun (geometry (value_of D.seen self.old)) b n at buf }
         requires held { IsFirstHeld (holds_of self.old.places) k b n free j }
-        ensures row { run_answers (value_of D.seen self.old) (RunOp.Store b k n at buf) result (value_of D.seen self.new) }
+        ensures row { run_answers (value_of D.seen self.old) (RunOp.Store b k n at buf) result
+            (value_of D.seen self.new) }
         ensures same { geometry (value_of D.seen self.new) ≡ geometry (value_of D.seen self.old) }
     {
         if free == 0 {
@@ -156,7 +161,8 @@ impl<D: Disk + Drop> Stripe<D> {
     /// Stores a run, up to the first block that another place holds.
     fn store_run(&mut self, b: u64, k: u8, n: u8, at: u64, buf: Bytes) -> RunReply
         requires { IsWholeRun (geometry (value_of D.seen self.old)) b n at buf }
-        ensures row { run_answers (value_of D.seen self.old) (RunOp.Store b k n at buf) result (value_of D.seen self.new) }
+        ensures row { run_answers (value_of D.seen self.old) (RunOp.Store b k n at buf) result
+            (value_of D.seen self.new) }
         ensures same { geometry (value_of D.seen self.new) ≡ geometry (value_of D.seen self.old) }
     {
         match self.holds.first_held(b, k, n) {
