@@ -66,6 +66,13 @@ impl Bytes {
         }
     }
 
+    /// Lets the bytes go, and keeps their room.
+    pub fn clear(&mut self)
+        ensures { self.new ≡ [] }
+    {
+        self.0.clear();
+    }
+
     /// The same bytes as a vector. It takes no memory.
     pub fn into_vec(self) -> Vec<u8>
         ensures { result.items ≡ self }

@@ -28,6 +28,3 @@ pub use mem_source::MemSource;
 pub use quiet_disk::QuietDisk;
 pub use rigged_disk::{Fail, Plans, RiggedDisk};
 pub use stream::{Failed, Sink, Source};
-
-#[cfg(test)]
-mod tests;

@@ -17,9 +17,9 @@ use Rattle.qs_replay_generated.specs.Generating.{CountsFault, Generates}
 use Rattle.qs_replay_words.proofs.FromLeft.{tells_one}
 use Rattle.qs_replay_words.specs.Words.{IsImageOf, TellsWords}
 use Rattle.qs_replay_words.specs.declared.words.ReplayWords.{ReplayWords}
-use Rattle.qs_replay.specs.Runs.{IsEnough, IsReplayed, Opening, Ran, RanBy, RunsScript, first_scene, most_lines, no_names}
+use Rattle.qs_replay.specs.Runs.{IsEnough, IsReplayed, Opening, Ran, RanBy, RunsScript, first_scene, most_lines}
 use Rattle.qs_replay.specs.Scripts.{AllDone, Replays, Scene, SoFar, side_of}
-use Rattle.qs_replay_lines.specs.Tables.{Names}
+use Rattle.qs_replay_lines.specs.Tables.{Names, no_names}
 use Rattle.qs_calls.proofs.Plays.{plays_more}
 use Rattle.qs_calls.proofs.Runs.{has_run}
 use Rattle.qs_replay.proofs.Reaching.{reaches}

@@ -12,13 +12,8 @@ use Rattle.qs_replay_words.specs.declared.words.ReplayWords.{ReplayWords}
 use Rattle.qs_calls.specs.Runs.{Begins, HasRun}
 use Rattle.qs_replay_generated.specs.Generating.{Generates}
 use Rattle.qs_replay.specs.Scripts.{ReachesLine, Replays, Scene, lines_of}
-use Rattle.std.specs.FinMap.{empty as no_requests}
-use Rattle.std.specs.FinSet.{empty as no_cookies}
-use Rattle.qs_replay_lines.specs.Tables.{Names}
+use Rattle.qs_replay_lines.specs.Tables.{Names, no_names}
 use Rattle.qs_replay_words.specs.Words.{TellsWords}
-
-abbrev pub no_names : Names
-no_names = record { sessions = []; used = no_cookies; live = no_requests }
 
 -- the most lines of a script
 abbrev pub most_lines : ℕ

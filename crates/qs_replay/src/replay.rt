@@ -5,14 +5,11 @@ ghost use Rattle.qs_stream.specs.Flows.{Puts, side};
 ghost use Rattle.qs_replay.specs.Scripts.{Finishes, PlaysText, PutsText, Replays, Turns, done_of, fault_turn, is_silent as the_silent, scene, status_of};
 
 use crate::lines::{Came, next_line};
-use qs_bytes::Bytes;
 use qs_outside::{RiggedDisk, Sink, Source};
 use qs_replay_lines::{Desk, LineTold, Stop};
 use qs_script::{LineCutter, LineFault, read_line};
 use qs_status::Status;
 use qs_stream::{State, Stream};
-use std::alloc::Global;
-use std::mem;
 
 /// What came of one line of a script.
 #[derive(Clone, Copy, Debug, PartialEq, Eq)]
@@ -67,15 +64,6 @@ fn play_text<D: RiggedDisk + Drop>(desk: &mut Desk<D>, text: &[u8]) -> Result<()
     }
 }
 
-/// Lets the bytes go, and keeps their room.
-fn clear(alloc: Global, out: &mut Bytes)
-    ensures { out.new ≡ [] }
-{
-    let mut bytes = mem::replace(out, Bytes::of(Vec::new(alloc))).into_vec();
-    bytes.clear();
-    *out = Bytes::of(bytes);
-}
-
 /// Puts what was printed behind the bytes that wait to be written.
 fn print<O: Sink, D: RiggedDisk + Drop>(desk: &mut Desk<D>, stream: &mut Stream, output: &mut O)
     ensures puts { Puts desk.old.out (side O.sent O.write_faults output.old) stream.old
@@ -83,7 +71,7 @@ fn print<O: Sink, D: RiggedDisk + Drop>(desk: &mut Desk<D>, stream: &mut Stream,
     ensures desk { desk.new ≡ record desk.old { out = [] } }
 {
     stream.put(output, desk.out.as_slice());
-    clear(desk.alloc, &mut desk.out);
+    desk.out.clear();
 }
 
 /// The line that a text spells is done, and what it printed is put.

@@ -19,14 +19,14 @@ use Rattle.qs_calls.specs.Calls.{Call, Plays}
 use Rattle.qs_calls.specs.Runs.{Begins, HasRun}
 use Rattle.qs_calls.proofs.Plays.{plays_more}
 use Rattle.qs_calls.proofs.Runs.{has_run}
-use Rattle.qs_replay_lines.specs.Tables.{Names}
+use Rattle.qs_replay_lines.specs.Tables.{Names, no_names}
 use Rattle.qs_replay_lines.specs.declared.stop.Stop.{Stop}
 use Rattle.qs_replay_lines.specs.declared.stop.Stop.TheVariants as stop
 use Rattle.qs_generate.specs.Lives.{Generated}
 use Rattle.qs_generate.specs.Sums.{totals_line}
 use Rattle.qs_generate.specs.declared.live.LiveRequest.{LiveRequest}
 use Rattle.qs_generate.specs.declared.live.NextMove.TheVariants.{Attach}
-use Rattle.qs_replay_generated.specs.Generating.{BreaksOff, CountsFault, EndsGenerating, EndsWhole, Generates, IsGenerated, IsWhole, Prints, RunsCore, TellsTotals, first_place, no_names, status_of, totals}
+use Rattle.qs_replay_generated.specs.Generating.{BreaksOff, CountsFault, EndsGenerating, EndsWhole, Generates, IsGenerated, IsWhole, Prints, RunsCore, TellsTotals, first_place, status_of, totals}
 use Rattle.qs_replay_generated.specs.Making.{BreaksAt, LinesMade, Place, RunMade, SoFar, calls_of}
 use Rattle.qs_replay_generated.specs.Summing.{SumsUp}
 use Rattle.qs_replay_generated.specs.declared.counts.Counts.{Counts}

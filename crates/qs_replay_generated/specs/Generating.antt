@@ -1,7 +1,5 @@
 -- A made-up run over disks, from its seed to the line that it prints.
 use Rattle.std.specs.Prelude.{◌≡◌, ℕ, ◌+◌, ◌*◌, ◌%◌, ◌^◌, ◌⊎◌, false, List, [], ◌++◌, map, Option, Some, None, Result}
-use Rattle.std.specs.FinMap.{empty as no_requests}
-use Rattle.std.specs.FinSet.{empty as no_cookies}
 use Rattle.std.specs.Io.KnownBytes.{Appends}
 use Rattle.qs_status.specs.declared.status.Status.{Status}
 use Rattle.qs_status.specs.declared.status.Status.TheVariants as status
@@ -16,15 +14,12 @@ use Rattle.qs_stream.specs.Faults.{Stays}
 use Rattle.qs_world.specs.Values.{WorldValue}
 use Rattle.qs_calls.specs.Calls.{Call}
 use Rattle.qs_calls.specs.Runs.{Begins, HasRun}
-use Rattle.qs_replay_lines.specs.Tables.{Names}
+use Rattle.qs_replay_lines.specs.Tables.{Names, no_names}
 use Rattle.qs_replay_lines.specs.declared.stop.Stop.{Stop}
 use Rattle.qs_replay_lines.specs.declared.stop.Stop.TheVariants as stop
 use Rattle.qs_replay_generated.specs.Making.{BreaksAt, Place, RunMade, SoFar, calls_of}
 use Rattle.qs_replay_generated.specs.Summing.{SumsUp}
 use Rattle.qs_replay_generated.specs.declared.counts.Counts.{Counts}
-
-abbrev pub no_names : Names
-no_names = record { sessions = []; used = no_cookies; live = no_requests }
 
 -- where a run begins: the draws at the seed, no request is live, and no name stands for anything
 abbrev pub first_place : {D : Type 0} → ℕ → ℕ → WorldValue D → Place D

@@ -8,22 +8,11 @@ ghost use Rattle.qs_script.specs.declared.line.Line.{Line as ALine};
 
 use crate::change::{Change, change_of};
 use crate::counts::{Counts, counted};
-use qs_bytes::{Bytes, Memory};
+use qs_bytes::Memory;
 use qs_generate::{GeneratedRun, LiveRequest};
 use qs_outside::RiggedDisk;
 use qs_replay_lines::{Desk, LineTold, Stop};
 use qs_script::{Line, LineFault};
-use std::alloc::Global;
-use std::mem;
-
-/// Lets the bytes go, and keeps their room.
-fn clear(alloc: Global, out: &mut Bytes)
-    ensures { out.new ≡ [] }
-{
-    let mut bytes = mem::replace(out, Bytes::of(Vec::new(alloc))).into_vec();
-    bytes.clear();
-    *out = Bytes::of(bytes);
-}
 
 /// The request with this cookie isn't live any more.
 fn forget(live: &mut Vec<LiveRequest>, cookie: u64)
@@ -88,7 +77,7 @@ fn do_made<D: RiggedDisk + Drop>(
 {
     let change = change_of(&made);
     let told = play_made(desk, made)?;
-    clear(desk.alloc, &mut desk.out);
+    desk.out.clear();
     renew(live, change, told.ended)?;
     *counts = counted(*counts, told);
     Ok(())

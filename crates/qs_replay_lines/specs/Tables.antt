@@ -15,6 +15,10 @@ pub record Names : Type 0 where
   pub used : set.FinSet by_session
   pub live : map.FinMap by_session ℕ
 
+-- where nothing was named yet
+abbrev pub no_names : Names
+no_names = record { sessions = []; used = set.empty; live = map.empty }
+
 abbrev pub coded_names : Coded Names
 coded_names = code_by (List (List ℕ) × (set.FinSet by_session × map.FinMap by_session ℕ))
     (coded× (coded_list (coded_list coded_ℕ))

@@ -14,10 +14,10 @@ use Rattle.qs_world.specs.Values.{WorldValue}
 use Rattle.qs_world.proofs.Opening.{disk_of}
 use Rattle.qs_calls.specs.Calls.{AreCalls, Call, Plays}
 use Rattle.qs_calls.specs.Runs.{image_export, exported, opened_world}
-use Rattle.qs_replay.specs.Runs.{IsReplayed, most_lines, no_names, first_scene}
+use Rattle.qs_replay.specs.Runs.{IsReplayed, most_lines, first_scene}
 use Rattle.qs_same_replay.specs.Same.{AreCalm, AreComparable, AreSame, IsSmooth}
 use Rattle.qs_replay.specs.Scripts.{AllDone, EndsScript, ReachesLine, Replays, lines_of}
-use Rattle.qs_replay_lines.specs.Tables.{Names}
+use Rattle.qs_replay_lines.specs.Tables.{Names, no_names}
 use Rattle.qs_replay.proofs.Reaching.{splits_of}
 use Rattle.qs_calls.proofs.Runs.{Starts, starts}
 use Rattle.qs_same_replay.proofs.Calm.{undisturbed}

@@ -2,8 +2,7 @@
 use Rattle.std.specs.Prelude.{◌≡◌, ◌≢◌, ℕ, true, ◌&&◌, ◌∷◌, [], Bool, List, map, Option, Some, None}
 use Rattle.qs_status.specs.declared.status.OpenBad.{OpenBad}
 use Rattle.qs_outside.specs.Blocks.{Seen}
-use Rattle.qs_bytes.specs.Geometry.{stripe_of}
-use Rattle.qs_image.specs.Image.{disk, align_of, size_of, block_now}
+use Rattle.qs_image.specs.Image.{disk, align_of, size_of, block_now, block_past}
 use Rattle.qs_image.specs.Opening.{Opens, IsImage}
 use Rattle.qs_outside.specs.declared.rigged_disk.Fail.{Fail}
 use Rattle.qs_outside.specs.declared.rigged_disk.Plans.{Plans}
@@ -31,10 +30,6 @@ planned_of disks j = plans_of (disk disks j).planned
 abbrev pub tells_of : List Seen → Bool
 tells_of [] = true
 tells_of (d ∷ ds) = d.tells && tells_of ds
-
--- what a crash may leave of a block
-abbrev pub block_past : List Seen → ℕ → List (List ℕ)
-block_past disks b = (disk disks (stripe_of b)).past b
 
 -- what a core over these disks and this file node is opened over, in the words of the model
 abbrev pub opening_over : List Seen → List ℕ → Bool → Opening

@@ -50,36 +50,22 @@ impl<D: Disk + Drop> Core<D> {
             Todo::Tracker(op) => {
                 let kind = tracker_kind(&op);
                 let reply = self.tracker.step(op);
-                follow(
-                    &mut self.requests,
-                    &mut self.spare,
-                    at,
-                    PartReply::Tracker(reply),
-                    tracker_note(kind, reply),
-                )
+                let note = tracker_note(kind, reply);
+                let by = PartReply::Tracker(reply);
+                follow(&mut self.requests, &mut self.spare, at, by, note)
             }
             Todo::Route { e } => {
                 let reply = self.graph.step(GraphOp::Route { e });
                 let note = route_note(&reply);
-                follow(
-                    &mut self.requests,
-                    &mut self.spare,
-                    at,
-                    PartReply::Graph(reply),
-                    note,
-                )
+                let by = PartReply::Graph(reply);
+                follow(&mut self.requests, &mut self.spare, at, by, note)
             }
             Todo::Stripe(stripe, op) => {
                 let (kind, place) = stripe_kind(stripe, &op);
                 let reply = self.stripes[usize::from(stripe)].one(op);
                 let note = stripe_note(kind, place, &reply);
-                follow(
-                    &mut self.requests,
-                    &mut self.spare,
-                    at,
-                    PartReply::Stripe(reply),
-                    note,
-                )
+                let by = PartReply::Stripe(reply);
+                follow(&mut self.requests, &mut self.spare, at, by, note)
             }
             Todo::Answer(verdict) => {
                 let live = self.requests.remove(at);

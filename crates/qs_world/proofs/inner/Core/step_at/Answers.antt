@@ -86,8 +86,8 @@ returns-in-Tracker g c = λ l e.
     c.args.at x c.in-Tracker.op c.step-reply.result c.follow.result c.requires.sound at wants
     c.step-reply.ensures.legal refl refl refl refl refl
     (follow_tells c.args.self.now.requests.items c.args.at x c.next.new.self (ByTracker c.step-reply.result) (tracker_note (tracker_kind c.in-Tracker.op) c.step-reply.result)
-    c.tracker_note.result c.follow.result c.follow.new.requests.items c.requires.inside c.in-Tracker.ensures.gives
-    (c.tracker_note.ensures ∙ ap (λ (k : OpKind). tracker_note k c.step-reply.result) c.tracker_kind-kind.ensures) c.follow.ensures))
+    c.tracker_note-note.result c.follow.result c.follow.new.requests.items c.requires.inside c.in-Tracker.ensures.gives
+    (c.tracker_note-note.ensures ∙ ap (λ (k : OpKind). tracker_note k c.step-reply.result) c.tracker_kind-kind.ensures) c.follow.ensures))
 
 pub returns-in-Route : goal.returns-in-Route
 returns-in-Route g c = λ l e.

@@ -2,8 +2,11 @@ ghost use Rattle.std.specs.Prelude.{◌≡◌, ◌*◌, length};
 ghost use Rattle.qs_outside.specs.Blocks.{Fixed, IsBlock};
 ghost use Rattle.qs_outside.specs.Runs.{IsRun};
 
-use super::*;
 use qs_bytes::Bytes;
+use qs_outside::{
+    Clock, CrashChoice, Disk, Fail, Failed, MemClock, MemDisk, MemSink, MemSource, Picks,
+    QuietDisk, RiggedDisk, Sink, Source,
+};
 use std::sync::Arc;
 use std::test::Fail as Failure;
 
