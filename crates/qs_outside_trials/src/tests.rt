@@ -4,7 +4,7 @@ ghost use Rattle.qs_outside.specs.Runs.{IsRun};
 
 use qs_bytes::Bytes;
 use qs_outside::{
-    Clock, CrashChoice, Disk, Fail, Failed, MemClock, MemDisk, MemSink, MemSource, Picks,
+    Clock, CrashChoice, Disk, Fail, Failed, FailedAt, MemClock, MemDisk, MemSink, MemSource, Picks,
     QuietDisk, RiggedDisk, Sink, Source,
 };
 use std::sync::Arc;
