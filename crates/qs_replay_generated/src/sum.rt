@@ -41,7 +41,7 @@ fn sum_of_blocks<D: Disk>(disks: &mut [D], blocks: u64, work: &mut [u8]) -> u64
 
 /// The sum of an image's bytes, each times its place counted from 1, modulo 2^64: its blocks are loaded one
 /// after the other, and one whose load fails adds nothing. Nothing is written. Its only error is refused
-/// memory for a block, and then no disk is called.
+/// memory for a block.
 pub fn sum_of_disks<D: Disk + Drop>(
     alloc: Global,
     disks: &mut Vec<D>,
