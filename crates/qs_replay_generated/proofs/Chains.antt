@@ -35,7 +35,7 @@ lines_more seen a b c (l ∷ lines) calls done one = (done.0, (done.1.0, lines_m
 pub so_far_none : {D : Type 0} (seen : D → Seen) (a : Place D) → SoFar seen a a (record { errors = 0; steps = 0; lines = 0 })
 so_far_none seen a = record {
   lines = [];
-  made_next = refl;
+  made = refl;
   errors = refl;
   steps = refl;
   count = refl;
@@ -47,7 +47,7 @@ so_far_more seen a b c old new calls so one counted =
     let whole = calls_more so.lines calls in
     record {
       lines = so.lines ++ calls ∷ [];
-      made_next = lines_more seen a b c so.lines calls so.made one;
+      made = lines_more seen a b c so.lines calls so.made one;
       errors = one_line_more _ (errors_in (calls_of so.lines)) (errors_in calls) old.errors new.errors so.errors counted.errors
           (ap errors_in whole ∙ errors_more (calls_of so.lines) calls);
       steps = one_line_more _ (steps_in (calls_of so.lines)) (steps_in calls) old.steps new.steps so.steps counted.steps

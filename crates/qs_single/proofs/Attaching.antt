@@ -161,14 +161,14 @@ module _ {D : Type 0} (seen : D → Seen) (disks : List D) (read_only : Bool) (w
         leave = ap (λ (i : ExportInfo). i.writable) info_is;
         disks = disks_same;
         rests = record {
-          opened_world = opening_over (map seen disks) (codes "file0") read_only;
+          opened = opening_over (map seen disks) (codes "file0") read_only;
           steps = Exported (image_export read_only) begins.exports.place ∷ e ∷ [];
           run = subst (λ (a : ℕ). Runs a (opened_world (map seen disks) read_only) (Exported (image_export read_only) begins.exports.place ∷ e ∷ [])) (sym align) (begun.may, (did.0, tt));
           stands = subst (λ (a : ℕ). Stands seen w' (world_after a (opened_world (map seen disks) read_only) (Exported (image_export read_only) begins.exports.place ∷ e ∷ []))) (sym align) did.1;
           idle = none_left w'.requests (λ r. sym (did.1.request r));
           place = 0;
           live = sym (did.1.session session) ∙ put_here m.session session (Live info.e) ∙ ap Live place;
-          image_export = record (its_export read_only) { clients = 1 };
+          export = record (its_export read_only) { clients = 1 };
           is = ap (λ (g : GraphValue). export_at g.places 0) graph;
           leave = refl;
           image = subst IsImage (sym disks_here) begins.opened.image;

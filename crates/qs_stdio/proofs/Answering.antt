@@ -145,7 +145,7 @@ not_asking (Unknown n) writing = absurd (true≢false (sym writing))
 
 pub bare_body : (a : Ask) (body : Option (List ℕ)) → has_data a ≡ false → (asks_bytes a.kind ≡ false → body ≡ None) → IsBody a [] body
 bare_body a body bare none = record {
-  whole_route = λ writing. no_length a.kind a.length writing (sym (same_test a) ∙ bare);
+  whole = λ writing. no_length a.kind a.length writing (sym (same_test a) ∙ bare);
   is = λ writing. none_some body (none (not_asking a.kind writing));
 }
   where
