@@ -90,7 +90,7 @@ deletion name now = object
 
 abbrev pub user_text : User → List ℕ
 user_text (users.Node name) = codes "node '" ++ name ++ codes "'"
-user_text (users.Export id) = codes "export_data '" ++ id ++ codes "'"
+user_text (users.Export id) = codes "export '" ++ id ++ codes "'"
 
 abbrev pub refusal_text : Refusal → List ℕ
 refusal_text (refusals.Duplicate name) = codes "Duplicate name '" ++ name ++ codes "'"
