@@ -1,0 +1,13 @@
+-- Links and wires in memory.
+use Rattle.std.specs.Prelude.{ℕ, List}
+use Rattle.qs_outside.specs.Streams.{Incoming, Outgoing, Calls}
+
+-- the two directions of a link
+pub record TwoWay : Type 0 where
+  pub incoming : Incoming
+  pub outgoing : Outgoing
+
+-- a link as a wire, and which of its tries find it not ready; `faults` of these tries is how often it wasn't
+pub record Wired (L : Type 0) : Type 0 where
+  pub link : L
+  pub tries : Calls

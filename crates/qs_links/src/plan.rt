@@ -1,0 +1,47 @@
+ghost use Rattle.std.specs.Prelude.{◌≡◌, ◌↔◌, IsTrue, Contains, if◌then◌else◌};
+ghost use Rattle.qs_outside.specs.Streams.{made_badly, made_well};
+
+use std::marker::Model;
+
+/// Which calls go otherwise, by their numbers from 0, and how many did. Both counts stand still at
+/// 2^64 - 1.
+#[derive(Debug, Drop)]
+pub(crate) struct Plan {
+    chosen: Vec<u64>,
+    made: u64,
+    met: u64,
+}
+
+impl Model for Plan {
+    ghost use Rattle.qs_outside.specs.Streams.{Calls};
+
+    ghost Value = { Calls };
+
+    ghost view = { λ p. record { failing = p.chosen.items; made = p.made; faults = p.met } };
+}
+
+impl Plan {
+    /// No call was made yet.
+    pub(crate) fn new(chosen: Vec<u64>) -> Self
+        ensures { result ≡ record { failing = chosen.items; made = 0; faults = 0 } }
+    {
+        Plan {
+            chosen,
+            made: 0,
+            met: 0,
+        }
+    }
+
+    /// Counts a call, and tells whether it is one of those that were chosen, which counts too.
+    pub(crate) fn meets(&mut self) -> bool
+        ensures chosen { IsTrue result ↔ Contains self.old.failing self.old.made }
+        ensures counted { self.new ≡ if result then made_badly self.old else made_well self.old }
+    {
+        let chosen = self.chosen.contains(&self.made);
+        self.made = self.made.saturating_add(1);
+        if chosen {
+            self.met = self.met.saturating_add(1);
+        }
+        chosen
+    }
+}
