@@ -1,5 +1,5 @@
 -- Jobs that are started, and links that are accepted.
-use Rattle.std.specs.Prelude.{◌≡◌, ◌∷◌, ℕ, ◌+◌, List, Option, Some, None, Result, Ok, Err, ⊤, ⊥}
+use Rattle.std.specs.Prelude.{◌≡◌, ◌∷◌, ℕ, ◌+◌, List, Option, Some, None, Result, Ok, Err, ⊤}
 use Rattle.qs_outside.specs.Streams.{Calls, made_well, made_badly}
 
 -- an accepted link is the first of those that wait, where these are told; a failure takes none

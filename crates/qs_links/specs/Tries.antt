@@ -1,5 +1,5 @@
 -- A try of a wire: a read or a write that doesn't wait.
-use Rattle.std.specs.Prelude.{◌≡◌, ◌⊎◌, ℕ, ◌<◌, ◌≤◌, Bool, true, false, List, [], Option, Some, None, length, take, ⊤, ⊥, Contains}
+use Rattle.std.specs.Prelude.{◌≡◌, ◌⊎◌, ℕ, ◌<◌, ◌≤◌, Bool, true, false, List, [], Option, Some, None, length, take, ⊤, Contains}
 use Rattle.std.specs.Io.KnownBytes.{IsAtEnd}
 use Rattle.qs_outside.specs.Faults.{Rose}
 use Rattle.qs_outside.specs.Streams.{next_count}

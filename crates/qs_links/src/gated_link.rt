@@ -31,10 +31,10 @@ impl<L, G> GatedLink<L, G> {
     }
 
     /// The link, in whatever state it is.
-    pub fn into_inner(self) -> L
-        ensures { result ≡ self.inner }
+    pub fn link(&self) -> &L
+        ensures { result.now ≡ self.now.inner }
     {
-        self.inner
+        &self.inner
     }
 
     /// Whether so many bytes were sent that the gate is to be raised.

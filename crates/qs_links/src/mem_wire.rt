@@ -1,4 +1,4 @@
-ghost use Rattle.std.specs.Prelude.{◌≡◌, ◌≢◌, ◌↔◌, IsTrue, Contains, if◌then◌else◌, length};
+ghost use Rattle.std.specs.Prelude.{◌≡◌, ◌≢◌, ◌≤◌, ◌↔◌, IsTrue, Contains, if◌then◌else◌, length};
 ghost use Rattle.std.specs.Io.KnownBytes.{Appends, Consumes};
 ghost use Rattle.qs_outside.specs.Streams.{made_badly, made_well};
 ghost use Rattle.qs_links.specs.Tries.{CountsIf, EndsRead, MovesWithin, is_failed, is_not_ready, moved_by};
@@ -49,6 +49,7 @@ impl<L> MemWire<L> {
         ensures chosen { IsTrue result ↔ Contains self.old.tries.failing self.old.tries.made }
         ensures counted { self.new ≡ record self.old
             { tries = if result then made_badly self.old.tries else made_well self.old.tries } }
+        ensures later { self.old.tries.faults ≤ self.new.tries.faults }
     {
         self.unready.meets()
     }

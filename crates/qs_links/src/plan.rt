@@ -1,4 +1,4 @@
-ghost use Rattle.std.specs.Prelude.{◌≡◌, ◌↔◌, IsTrue, Contains, if◌then◌else◌};
+ghost use Rattle.std.specs.Prelude.{◌≡◌, ◌≤◌, ◌↔◌, IsTrue, Contains, if◌then◌else◌};
 ghost use Rattle.qs_outside.specs.Streams.{made_badly, made_well};
 
 use std::marker::Model;
@@ -36,6 +36,7 @@ impl Plan {
     pub(crate) fn meets(&mut self) -> bool
         ensures chosen { IsTrue result ↔ Contains self.old.failing self.old.made }
         ensures counted { self.new ≡ if result then made_badly self.old else made_well self.old }
+        ensures later { self.old.faults ≤ self.new.faults }
     {
         let chosen = self.chosen.contains(&self.made);
         self.made = self.made.saturating_add(1);
