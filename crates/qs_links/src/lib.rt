@@ -3,6 +3,7 @@
 #![tactic(auto)]
 
 mod acceptor;
+mod closure_spawner;
 mod count_spawner;
 mod gate;
 mod gated_disk;
@@ -13,9 +14,12 @@ mod mem_link;
 mod mem_wire;
 mod plan;
 mod spawner;
+#[cfg(test)]
+mod tests;
 mod wire;
 
 pub use acceptor::Acceptor;
+pub use closure_spawner::ClosureSpawner;
 pub use count_spawner::CountSpawner;
 pub use gate::{Flag, Gate};
 pub use gated_disk::GatedDisk;

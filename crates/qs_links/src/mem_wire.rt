@@ -1,6 +1,6 @@
-ghost use Rattle.std.specs.Prelude.{◌≡◌, ◌≢◌, ◌≤◌, ◌↔◌, IsTrue, Contains, if◌then◌else◌, length};
+ghost use Rattle.std.specs.Prelude.{◌≡◌, ◌≢◌, ◌≤◌, ◌↔◌, IsTrue, Contains, length};
 ghost use Rattle.std.specs.Io.KnownBytes.{Appends, Consumes};
-ghost use Rattle.qs_outside.specs.Streams.{made_badly, made_well};
+ghost use Rattle.qs_links.specs.Ends.{after_try};
 ghost use Rattle.qs_links.specs.Tries.{CountsIf, EndsRead, MovesWithin, is_failed, is_not_ready, moved_by};
 ghost use Rattle.qs_links.specs.declared.wire.Tried.TheVariants.{Ended};
 
@@ -47,8 +47,7 @@ impl<L> MemWire<L> {
     /// Counts a try, and tells whether the wire isn't ready at it.
     fn is_unready(&mut self) -> bool
         ensures chosen { IsTrue result ↔ Contains self.old.tries.failing self.old.tries.made }
-        ensures counted { self.new ≡ record self.old
-            { tries = if result then made_badly self.old.tries else made_well self.old.tries } }
+        ensures counted { self.new ≡ record self.old { tries = after_try result self.old.tries } }
         ensures later { self.old.tries.faults ≤ self.new.tries.faults }
     {
         self.unready.meets()
@@ -66,7 +65,20 @@ impl<L: Link> Wire for MemWire<L> {
 
     ghost waits = { λ w. w.tries.faults };
 
-    fn try_read(&mut self, into: &mut [u8]) -> Tried {
+    fn try_read(&mut self, into: &mut [u8]) -> Tried
+        ensures bound { MovesWithin (length into.new) result }
+        ensures bytes { Consumes (L.left self.old.link) (L.left self.new.link) (moved_by result into.new) }
+        ensures end { EndsRead (L.left self.new.link) (length into.new) result }
+        ensures cause { CountsIf (is_failed result) (L.read_faults self.old.link) (L.read_faults self.new.link) }
+        ensures wait { CountsIf (is_not_ready result) self.old.tries.faults self.new.tries.faults }
+        ensures beside { L.sent self.new.link ≡ L.sent self.old.link }
+        ensures beside_count { L.write_faults self.new.link ≡ L.write_faults self.old.link }
+
+        // It isn't ready exactly where it was told to, and then nothing happens to the link.
+        ensures unready { IsTrue (is_not_ready result) ↔ Contains self.old.tries.failing self.old.tries.made }
+        ensures same { IsTrue (is_not_ready result) → self.new.link ≡ self.old.link }
+        ensures tries { self.new.tries ≡ after_try (is_not_ready result) self.old.tries }
+    {
         if self.is_unready() {
             return Tried::NotReady;
         }
@@ -77,7 +89,20 @@ impl<L: Link> Wire for MemWire<L> {
         }
     }
 
-    fn try_write(&mut self, piece: &[u8]) -> Tried {
+    fn try_write(&mut self, piece: &[u8]) -> Tried
+        ensures bound { MovesWithin (length piece.now) result }
+        ensures bytes { Appends (L.sent self.old.link) (L.sent self.new.link) (moved_by result piece.now) }
+        ensures endless { result ≢ Ended }
+        ensures cause { CountsIf (is_failed result) (L.write_faults self.old.link) (L.write_faults self.new.link) }
+        ensures wait { CountsIf (is_not_ready result) self.old.tries.faults self.new.tries.faults }
+        ensures beside { L.left self.new.link ≡ L.left self.old.link }
+        ensures beside_count { L.read_faults self.new.link ≡ L.read_faults self.old.link }
+
+        // It isn't ready exactly where it was told to, and then nothing happens to the link.
+        ensures unready { IsTrue (is_not_ready result) ↔ Contains self.old.tries.failing self.old.tries.made }
+        ensures same { IsTrue (is_not_ready result) → self.new.link ≡ self.old.link }
+        ensures tries { self.new.tries ≡ after_try (is_not_ready result) self.old.tries }
+    {
         if self.is_unready() {
             return Tried::NotReady;
         }

@@ -1,5 +1,5 @@
-ghost use Rattle.std.specs.Prelude.{◌≡◌, ◌≤◌, ◌↔◌, IsTrue, Contains, if◌then◌else◌};
-ghost use Rattle.qs_outside.specs.Streams.{made_badly, made_well};
+ghost use Rattle.std.specs.Prelude.{◌≡◌, ◌≤◌, ◌↔◌, IsTrue, Contains};
+ghost use Rattle.qs_links.specs.Ends.{after_try};
 
 use std::marker::Model;
 
@@ -35,7 +35,7 @@ impl Plan {
     /// Counts a call, and tells whether it is one of those that were chosen, which counts too.
     pub(crate) fn meets(&mut self) -> bool
         ensures chosen { IsTrue result ↔ Contains self.old.failing self.old.made }
-        ensures counted { self.new ≡ if result then made_badly self.old else made_well self.old }
+        ensures counted { self.new ≡ after_try result self.old }
         ensures later { self.old.faults ≤ self.new.faults }
     {
         let chosen = self.chosen.contains(&self.made);
