@@ -1,5 +1,5 @@
 -- Jobs that are started, and links that are accepted.
-use Rattle.std.specs.Prelude.{◌≡◌, ◌∷◌, ℕ, ◌+◌, List, Option, Some, None, Result, Ok, Err, ⊤}
+use Rattle.std.specs.Prelude.{◌≡◌, ◌∷◌, Bool, true, false, ℕ, ◌+◌, List, Option, Some, None, Result, Ok, Err, ⊤}
 use Rattle.qs_outside.specs.Streams.{Calls, made_well, made_badly}
 
 -- an accepted link is the first of those that wait, where these are told; a failure takes none
@@ -18,6 +18,11 @@ pub record Arriving (L : Type 0) : Type 0 where
 abbrev pub started_after : {E : Type 0} → ℕ → Result ⊤ E → ℕ
 started_after n (Ok done) = n + 1
 started_after n (Err e) = n
+
+-- whether the job was started
+abbrev pub is_started : {T E : Type 0} → Result T E → Bool
+is_started (Ok done) = true
+is_started (Err e) = false
 
 -- how many jobs were started, and which calls fail
 pub record Starting : Type 0 where

@@ -1,4 +1,6 @@
-ghost use Rattle.std.specs.Prelude.{◌≡◌};
+ghost use Rattle.std.specs.Prelude.{◌≡◌, ◌<◌, ◌^◌};
+ghost use Rattle.qs_outside.specs.Faults.{HasCause};
+ghost use Rattle.qs_links.specs.Starts.{is_started, started_after};
 
 use crate::spawner::Spawner;
 use qs_outside::Failed;
@@ -42,7 +44,16 @@ impl<J, F: FnMut(J) -> bool + Drop> Spawner<J> for ClosureSpawner<F> {
 
     ghost faults = { λ s. s.faults };
 
-    fn start(&mut self, job: J) -> Result<(), Failed> {
+    fn start(&mut self, job: J) -> Result<(), Failed>
+        requires ready { F.IsAlwaysCallable self.old.by }
+        requires room { self.old.started < 2 ^ 63 }
+        ensures ready { F.IsAlwaysCallable self.new.by }
+        ensures started { self.new.started ≡ started_after self.old.started result }
+        ensures cause { HasCause self.old.faults self.new.faults result }
+
+        // The closure was called with the job once, and decided.
+        ensures called { F.step self.old.by job (is_started result) self.new.by }
+    {
         if (self.by)(job) {
             self.started += 1;
             Ok(())

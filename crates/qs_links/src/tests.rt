@@ -90,7 +90,10 @@ fn a_load_waits_for_its_gate(rt: HostRuntime) -> Result<(), Fail> {
     gate.raise();
     assert_eq!(rt; disk.load(1, &mut into), Ok(()));
     assert_eq!(rt; into, [5, 6]);
-    assert_eq!(rt; (disk.stripe(), disk.align(), disk.length(), disk.sync()), (0, 2, 4, Ok(())));
+    assert_eq!(rt;
+        (disk.stripe(), disk.align(), disk.length(), disk.sync()),
+        (0, 2, 4, Ok(()))
+    );
     Ok(())
 }
 
