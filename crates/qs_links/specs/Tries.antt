@@ -1,8 +1,7 @@
 -- A try of a wire: a read or a write that doesn't wait.
-use Rattle.std.specs.Prelude.{◌≡◌, ◌⊎◌, ℕ, ◌<◌, ◌≤◌, Bool, true, false, List, [], Option, Some, None, length, take, ⊤, Contains}
+use Rattle.std.specs.Prelude.{◌≡◌, ℕ, ◌<◌, ◌≤◌, Bool, true, false, List, [], Option, take, ⊤}
 use Rattle.std.specs.Io.KnownBytes.{IsAtEnd}
 use Rattle.qs_outside.specs.Faults.{Rose}
-use Rattle.qs_outside.specs.Streams.{next_count}
 use Rattle.qs_links.specs.declared.wire.Tried.{Tried}
 use Rattle.qs_links.specs.declared.wire.Tried.TheVariants.{Did, NotReady, Ended, Failed}
 
