@@ -1,0 +1,4 @@
+pub mod Ends
+pub mod Gated
+pub mod Starts
+pub mod Tries
