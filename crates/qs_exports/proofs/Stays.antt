@@ -11,7 +11,7 @@ use Rattle.qs_exports.specs.declared.export.Refused.{Refused}
 use Rattle.qs_exports.specs.declared.export.Refused.TheVariants.{Duplicate, Full, NoExport, Crowded, NotAttached, Connected, Memory}
 use Rattle.qs_exports.specs.Attached.{StaysAt}
 use Rattle.qs_exports.specs.Changes.{ended_at, less_one, made_at_place, AddsExport, Attaches, DeletesExport, Detaches}
-use Rattle.qs_exports.specs.Standing.{is_last, stands_at, AreSeated}
+use Rattle.qs_exports.specs.Standing.{goes_with_next, stands_at, AreSeated}
 use Rattle.qs_exports.proofs.Places.{at_less, at_more, at_other, found_at_place, set_at_place}
 
 pub same_stays : (left : ℕ) (old new : List Export) (place : ℕ) → new ≡ old → StaysAt left old new place
@@ -105,7 +105,7 @@ deletes_stays old new id hard (Ok done) place seated (i, x, (first, hard_is, is)
         subst (λ (l : List Export). StaysAt 0 old l place) (sym (ap (λ (b : Bool). cond b (remove old i) (slice_set old i (record x { shutting = true }))) e))
         (changed 0 old i x (record x { shutting = true }) place seated first.1 refl refl (λ h. omega (arith)))
 
-one_client : (x : Export) → is_last x ≡ true → x.clients ≤ 1
+one_client : (x : Export) → goes_with_next x ≡ true → x.clients ≤ 1
 one_client x last = go x.shutting refl
   where
     go : (t : Bool) → x.shutting ≡ t → x.clients ≤ 1
@@ -115,9 +115,9 @@ one_client x last = go x.shutting refl
 -- one client less of an export leaves the others as they are
 less_stays : (left : ℕ) (old : List Export) (i : ℕ) (x : Export) (place : ℕ) → AreSeated old → slice_get old i ≡ Some x →
     ((x.place == place) ≡ true → 1 ≤ left) → StaysAt left old (less_one old i x) place
-less_stays left old i x place seated at one = go (is_last x) refl
+less_stays left old i x place seated at one = go (goes_with_next x) refl
   where
-    go : (t : Bool) → is_last x ≡ t → StaysAt left old (less_one old i x) place
+    go : (t : Bool) → goes_with_next x ≡ t → StaysAt left old (less_one old i x) place
     go true e =
         subst (λ (l : List Export). StaysAt left old l place) (sym (ap (λ (b : Bool). cond b (remove old i) (slice_set old i (record x { clients = x.clients - 1 }))) e))
         (gone left old i x place seated at (λ h. omega (arith, one_client x e, one h)))

@@ -22,16 +22,16 @@ is_meant [] own = true
 is_meant (byte ∷ bytes) own = bytes_eq own (byte ∷ bytes)
 
 -- it stands, and a client that asks for this name means it
-abbrev pub answers_to : List ℕ → Export → Bool
-answers_to name x = not x.shutting && is_meant name x.made.name
+abbrev pub is_meant_by : List ℕ → Export → Bool
+is_meant_by name x = not x.shutting && is_meant name x.made.name
 
 -- it exports the node at this place
 abbrev pub is_over_node : ℕ → Export → Bool
 is_over_node node x = x.made.node == node
 
 -- it goes with its next client that leaves: it is shutting, and has one client
-abbrev pub is_last : Export → Bool
-is_last x = x.shutting && x.clients == 1
+abbrev pub goes_with_next : Export → Bool
+goes_with_next x = x.shutting && x.clients == 1
 
 -- the id of the first export over the node at a place, in order of making
 abbrev pub first_id_over : List Export → ℕ → Option (List ℕ)

@@ -1,5 +1,5 @@
 ghost use Rattle.std.specs.Prelude.{◌≡◌};
-ghost use Rattle.qs_exports.specs.Standing.{answers_to, has_standing_id, is_alike, is_last, is_over_node, stands_at};
+ghost use Rattle.qs_exports.specs.Standing.{is_meant_by, has_standing_id, is_alike, goes_with_next, is_over_node, stands_at};
 
 use qs_bytes::Name;
 
@@ -73,7 +73,7 @@ impl Export {
 
     /// Whether it stands and a client that asks for this name means it. The empty name means every one.
     pub fn answers_to(&self, name: &Name) -> bool
-        ensures { result ≡ answers_to name.now self.now }
+        ensures { result ≡ is_meant_by name.now self.now }
     {
         let meant = match name.as_slice() {
             [] => true,
@@ -84,7 +84,7 @@ impl Export {
 
     /// Whether it goes with its next client that leaves.
     pub fn is_last(&self) -> bool
-        ensures { result ≡ is_last self.now }
+        ensures { result ≡ goes_with_next self.now }
     {
         self.shutting && self.clients == 1
     }

@@ -1,6 +1,6 @@
 ghost use Rattle.std.specs.Prelude.{◌≡◌, ◌+◌, ◌<◌, ◌≤◌, [], find, length, position, IfSome, Some};
 ghost use Rattle.std.specs.List.{slice_get, slice_set};
-ghost use Rattle.qs_exports.specs.Standing.{answers_to, has_alike_at, first_id_over, has_standing_id, is_over_node, is_place_taken, stands_at, AreSeated, LowestAlike, LowestFreePlace};
+ghost use Rattle.qs_exports.specs.Standing.{is_meant_by, has_alike_at, first_id_over, has_standing_id, is_over_node, is_place_taken, stands_at, AreSeated, LowestAlike, LowestFreePlace};
 ghost use Rattle.qs_exports.specs.Changes.{ended_at, less_one, AddsExport, Attaches, DeletesExport, Detaches};
 
 use crate::export::{Export, NewExport, Refused};
@@ -134,7 +134,7 @@ impl Exports {
     /// The standing export that a client means by a name; the empty name means the one that was made
     /// first (this server's answer to the default export of NBD proto.md, `NBD_OPT_EXPORT_NAME`).
     pub fn named(&self, name: &Name) -> Option<Export>
-        ensures { result ≡ find (answers_to name.now) self.now }
+        ensures { result ≡ find (is_meant_by name.now) self.now }
     {
         self.list
             .iter()
@@ -163,7 +163,7 @@ impl Exports {
     }
 
     fn index_named(&self, name: &Name) -> Option<usize>
-        ensures at { result ≡ position (answers_to name.now) self.now }
+        ensures at { result ≡ position (is_meant_by name.now) self.now }
         ensures inside { IfSome result (λ at. at < length self.now) }
     {
         self.list.iter().position(|export| export.answers_to(name))

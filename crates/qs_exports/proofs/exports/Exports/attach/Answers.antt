@@ -3,7 +3,7 @@ use Rattle.std.specs.Prelude.{Some, position}
 use Rattle.std.specs.List.{slice_get, slice_set}
 use Rattle.std.proofs.lemmas.Option.{same_Some}
 use Rattle.qs_exports.specs.declared.export.Export.{Export}
-use Rattle.qs_exports.specs.Standing.{answers_to}
+use Rattle.qs_exports.specs.Standing.{is_meant_by}
 use Rattle.qs_exports.proofs.Seats.{set_here}
 use Rattle.qs_exports.proofs.exports.Exports.attach.Goals as goal
 
@@ -13,7 +13,7 @@ returns c =
     let i : ℕ = c.in-Some.at in
     let x : Export = c.element-export.result in
     let n : Export = record x { clients = x.clients + 1 } in
-    let first : position (answers_to c.args.name.now) old ≡ Some i = search rules in
+    let first : position (is_meant_by c.args.name.now) old ≡ Some i = search rules in
     let few : x.clients < 1024 = search rules in
     let here : slice_get old i ≡ Some x = c.element-export.ensures.here in
     let is : n ≡ c.element.result = same_Some n c.element.result
