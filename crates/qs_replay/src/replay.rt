@@ -7,7 +7,7 @@ ghost use Rattle.qs_replay.specs.Scripts.{Finishes, PlaysText, PutsText, Replays
 use crate::lines::{Came, next_line};
 use qs_outside::{RiggedDisk, Sink, Source};
 use qs_replay_lines::{Desk, LineTold, Stop};
-use qs_script::{LineCutter, LineFault, read_line};
+use qs_script::{LineCutter, LineFault, is_quiet, read_line};
 use qs_status::Status;
 use qs_stream::{State, Stream};
 
@@ -75,7 +75,7 @@ fn print<O: Sink, D: RiggedDisk + Drop>(desk: &mut Desk<D>, stream: &mut Stream,
 }
 
 /// The line that a text spells is done, and what it printed is put.
-fn do_line<O: Sink, D: RiggedDisk + Drop>(
+fn do_spelled<O: Sink, D: RiggedDisk + Drop>(
     desk: &mut Desk<D>,
     stream: &mut Stream,
     output: &mut O,
@@ -89,6 +89,24 @@ fn do_line<O: Sink, D: RiggedDisk + Drop>(
     play_text(desk, text)?;
     print(desk, stream, output);
     Ok(())
+}
+
+/// A line is done, and what it printed is put; an empty line or a comment does nothing.
+fn do_line<O: Sink, D: RiggedDisk + Drop>(
+    desk: &mut Desk<D>,
+    stream: &mut Stream,
+    output: &mut O,
+    text: &[u8],
+) -> Result<(), Stop>
+    requires { desk.old.out ≡ [] }
+    ensures puts { PutsText D.Disk.seen desk.old (side O.sent O.write_faults output.old) stream.old text.now result
+        desk.new (side O.sent O.write_faults output.new) stream.new }
+    ensures empty { desk.new.out ≡ [] }
+{
+    if is_quiet(text) {
+        return Ok(());
+    }
+    do_spelled(desk, stream, output, text)
 }
 
 /// What a stream that failed makes of a line.

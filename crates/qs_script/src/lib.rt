@@ -17,7 +17,7 @@ pub use actor::{ScriptActor, actor_of};
 pub use cutter::{Cut, LineCutter};
 pub use line::{Line, LineFault};
 pub use print::{SessionNews, put_answer, put_session, put_step};
-pub use read::read_line;
+pub use read::{is_quiet, read_line};
 pub use session_name::SessionName;
 
 #[cfg(test)]

@@ -54,8 +54,8 @@ pub fn read_line(alloc: Global, text: &[u8]) -> Result<Line, LineFault>
     }
 }
 
-/// Whether the line is empty, or a comment.
-fn is_quiet(text: &[u8]) -> bool
+/// Whether the line is empty, or a comment: then [`read_line`] gives `Nothing`.
+pub fn is_quiet(text: &[u8]) -> bool
     ensures { IsTrue result ↔ IsQuiet text.now }
 {
     match text {
