@@ -1,0 +1,142 @@
+ghost use Rattle.std.specs.Prelude.{◌≡◌, false};
+ghost use Rattle.qs_model.specs.Requests.{abandon};
+ghost use Rattle.qs_task.specs.Tasks.{Moves, Polls};
+
+use crate::need::{Need, Polled, is_wait, part_of};
+use crate::station::Station;
+use qs_bytes::Ask;
+use qs_request::{Req, Todo};
+use std::marker::Model;
+use std::sync::Wait;
+
+/// A live request, and the number that all its calls have.
+#[derive(Debug, Drop)]
+pub struct RequestTask {
+    request: Req,
+    number: u64,
+}
+
+impl Model for RequestTask {
+    ghost use Rattle.std.specs.Prelude.{◌≡◌, false};
+    ghost use Rattle.qs_task.specs.Tasks.{TaskValue};
+
+    ghost Value = { TaskValue };
+
+    ghost view = { λ t. record {
+      number = t.number;
+      request = t.request.request;
+      shape = t.request.shape;
+      over = t.request.answered;
+    } };
+
+    ghost invariant = { λ t. t.request.answered ≡ false → t.request.waits ≡ false };
+}
+
+impl RequestTask {
+    /// The task of a request that hasn't begun.
+    pub fn new(request: Req, number: u64) -> RequestTask
+        requires free { request.waits ≡ false }
+        requires unanswered { request.answered ≡ false }
+        ensures { result ≡ record {
+          number = number;
+          request = request.request;
+          shape = request.shape;
+          over = false;
+        } }
+    {
+        RequestTask { request, number }
+    }
+
+    /// The number that its calls have.
+    pub fn number(&self) -> u64
+        ensures { result ≡ self.now.number }
+    {
+        self.number
+    }
+
+    /// What the client asked for.
+    pub fn ask(&self) -> Ask
+        ensures { result ≡ self.now.request.client.ask }
+    {
+        self.request.ask()
+    }
+
+    /// The session has left: a request that hasn't entered is dropped at once, one without a span ends, also a
+    /// FLUSH that syncs, and another runs on. Its verdict is Dropped.
+    pub fn abandon(&mut self)
+        requires { self.old.over ≡ false }
+        ensures { self.new ≡ record self.old { request = abandon self.old.request } }
+    {
+        self.request.abandon();
+    }
+
+    /// Makes one call, and says what the request has to wait for, if it can't go on.
+    fn call<S: Station, R: Wait>(
+        &mut self,
+        rt: &R,
+        hall: &S::Hall,
+        station: &mut S,
+        todo: Todo,
+    ) -> Option<Need>
+    {
+        let part = part_of(&todo);
+        let reply = station.call(rt, hall, self.number, todo);
+        let waits = is_wait(&reply);
+        self.request.after(reply);
+        if waits { part } else { None }
+    }
+
+    /// Makes the next call, or gives the answer. None where the request can go on.
+    fn advance<S: Station, R: Wait>(
+        &mut self,
+        rt: &R,
+        hall: &S::Hall,
+        station: &mut S,
+        now: u64,
+    ) -> Option<Polled>
+        requires of { S.is_of hall.now station.old }
+        requires shape { self.old.shape ≡ S.shape hall.now }
+        requires unanswered { self.old.over ≡ false }
+        ensures of { S.is_of hall.now station.new }
+        ensures moves { Moves result self.old self.new (S.book station.old) (S.book station.new) }
+        ensures later { S.follows station.old station.new }
+    {
+        match self.request.next(now) {
+            Todo::Answer(verdict) => Some(Polled::Ready(verdict)),
+            todo => {
+                let part = part_of(&todo);
+                let reply = station.call(rt, hall, self.number, todo);
+                let waits = is_wait(&reply);
+                self.request.after(reply);
+                pending(waits, part)
+            }
+        }
+    }
+
+    /// Does the request's operations, until it has its answer or has to wait for a part. Ready comes exactly where
+    /// the request table says the answer, and Pending exactly where the last operation of this poll was answered by
+    /// Quiesced, Full, NotYet, HeldBy, Taken, Strange or NotHeld. Nothing is asked of an answered task. `now` is the
+    /// clock's reading in nanoseconds.
+    pub fn poll<S: Station, R: Wait>(
+        &mut self,
+        rt: &R,
+        hall: &S::Hall,
+        station: &mut S,
+        now: u64,
+    ) -> Polled
+        requires of { S.is_of hall.now station.old }
+        requires shape { self.old.shape ≡ S.shape hall.now }
+        requires unanswered { self.old.over ≡ false }
+        ensures of { S.is_of hall.now station.new }
+        ensures polls { Polls result self.old self.new (S.book station.old) (S.book station.new) }
+        ensures later { S.follows station.old station.new }
+    {
+        for _ in rt.forever() {
+            match self.advance(rt, hall, station, now) {
+                Some(polled) => return polled,
+                None => {}
+            }
+        }
+        unreachable!()
+    }
+}
