@@ -23,13 +23,18 @@ pub record IsAnswered (old new : TaskValue) : Type 0 where
   pub number : new.number ≡ old.number
   pub shape : new.shape ≡ old.shape
 
--- a task made one call: the next of its request, noted in the book
-pub record MakesCall (old new : TaskValue) (before after : Book) (wait : Option Need) : Type 0 where
+-- request n made one call, its next one, which was noted in the book; what it has to wait for after it, if anything
+pub record MakesCall (shape : Shape) (n : ℕ) (wait : Option Need) (old new : Req) (before after : Book) : Type 0 where
   pub made : RequestCall
-  pub next : IsNextCall old.shape old.number old.request made
-  pub moved : new ≡ record old { request = followed old.shape.align old.request made.reply }
+  pub next : IsNextCall shape n old made
+  pub moved : new ≡ followed shape.align old made.reply
   pub booked : after ≡ notes made before
   pub waits : wait_after made ≡ wait
+
+-- a task made one call
+pub record TaskCalls (wait : Option Need) (old new : TaskValue) (before after : Book) : Type 0 where
+  pub makes : MakesCall old.shape old.number wait old.request new.request before after
+  pub rest : new ≡ record old { request = new.request }
 
 -- a task gave its answer, and made no call
 pub record GivesAnswer (v : Verdict) (old new : TaskValue) (before after : Book) : Type 0 where
@@ -37,10 +42,15 @@ pub record GivesAnswer (v : Verdict) (old new : TaskValue) (before after : Book)
   pub answered : IsAnswered old new
   pub booked : after ≡ before
 
+-- a poll ends after a call after which the request has to wait
+abbrev pub pause : Option Need → Option Polled
+pause None = None
+pause (Some need) = Some (IsPending need)
+
 -- one move of a task: a call after which it goes on, one after which it waits, or its answer
 abbrev pub Moves : Option Polled → TaskValue → TaskValue → Book → Book → Type 0
-Moves None old new before after = MakesCall old new before after None
-Moves (Some (IsPending need)) old new before after = MakesCall old new before after (Some need)
+Moves None old new before after = TaskCalls None old new before after
+Moves (Some (IsPending need)) old new before after = TaskCalls (Some need) old new before after
 Moves (Some (IsReady v)) old new before after = GivesAnswer v old new before after
 
 -- How a poll ends, after these calls, which led to the request t: ready with the answer of t, and it had to wait after

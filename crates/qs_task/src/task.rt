@@ -1,6 +1,8 @@
-ghost use Rattle.std.specs.Prelude.{◌≡◌, false};
+ghost use Rattle.std.specs.Prelude.{◌≡◌, false, true, if◌then◌else◌, None};
 ghost use Rattle.qs_model.specs.Requests.{abandon};
-ghost use Rattle.qs_task.specs.Tasks.{Moves, Polls};
+ghost use Rattle.qs_request.specs.Table.{FitsPart, Wants};
+ghost use Rattle.qs_task.specs.Books.{IsOperation};
+ghost use Rattle.qs_task.specs.Tasks.{MakesCall, Moves, Polls, pause};
 
 use crate::need::{Need, Polled, is_wait, part_of};
 use crate::station::Station;
@@ -30,6 +32,53 @@ impl Model for RequestTask {
     } };
 
     ghost invariant = { λ t. t.request.answered ≡ false → t.request.waits ≡ false };
+}
+
+/// What a request has to wait for after an answer of this part, if it can't go on.
+fn wait_for(part: Option<Need>, waits: bool) -> Option<Need>
+    ensures { result ≡ (if waits then part else None) }
+{
+    if waits { part } else { None }
+}
+
+/// Makes the call that comes next, and says what the request has to wait for, if it can't go on.
+#[tactic(auto, using(qs_request::proofs::Wanted::may_reply))]
+fn make_call<S: Station, R: Wait>(
+    rt: &R,
+    hall: &S::Hall,
+    station: &mut S,
+    request: &mut Req,
+    number: u64,
+    todo: Todo,
+) -> Option<Need>
+    requires of { S.is_of hall.now station.old }
+    requires shape { request.old.shape ≡ S.shape hall.now }
+    requires waits { request.old.waits ≡ true }
+    requires unanswered { request.old.answered ≡ false }
+    requires wants { Wants request.old.shape.align request.old.request todo }
+    requires operation { IsOperation todo }
+    requires fits { FitsPart request.old.shape todo }
+    ensures of { S.is_of hall.now station.new }
+    ensures makes { MakesCall request.old.shape number result request.old.request request.new.request
+        (S.book station.old) (S.book station.new) }
+    ensures rest { request.new ≡ record request.old { request = request.new.request; waits = false } }
+    ensures later { S.follows station.old station.new }
+{
+    let part = part_of(&todo);
+    let reply = station.call(rt, hall, number, todo);
+    let waits = is_wait(&reply);
+    request.after(reply);
+    wait_for(part, waits)
+}
+
+/// How a poll ends after a call, if it ends.
+fn paused(wait: Option<Need>) -> Option<Polled>
+    ensures { result ≡ pause wait }
+{
+    match wait {
+        Some(need) => Some(Polled::Pending(need)),
+        None => None,
+    }
 }
 
 impl RequestTask {
@@ -70,22 +119,6 @@ impl RequestTask {
         self.request.abandon();
     }
 
-    /// Makes one call, and says what the request has to wait for, if it can't go on.
-    fn call<S: Station, R: Wait>(
-        &mut self,
-        rt: &R,
-        hall: &S::Hall,
-        station: &mut S,
-        todo: Todo,
-    ) -> Option<Need>
-    {
-        let part = part_of(&todo);
-        let reply = station.call(rt, hall, self.number, todo);
-        let waits = is_wait(&reply);
-        self.request.after(reply);
-        if waits { part } else { None }
-    }
-
     /// Makes the next call, or gives the answer. None where the request can go on.
     fn advance<S: Station, R: Wait>(
         &mut self,
@@ -104,11 +137,8 @@ impl RequestTask {
         match self.request.next(now) {
             Todo::Answer(verdict) => Some(Polled::Ready(verdict)),
             todo => {
-                let part = part_of(&todo);
-                let reply = station.call(rt, hall, self.number, todo);
-                let waits = is_wait(&reply);
-                self.request.after(reply);
-                pending(waits, part)
+                let wait = make_call(rt, hall, station, &mut self.request, self.number, todo);
+                paused(wait)
             }
         }
     }
