@@ -1,3 +1,4 @@
 pub mod Books
 pub mod Walks
 pub mod Tasks
+pub mod Crews

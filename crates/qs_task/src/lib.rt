@@ -2,10 +2,12 @@
 //! book of them, and tasks that do a request's operations until it has its answer or has to wait.
 #![tactic(auto)]
 
+pub mod crew;
 pub mod need;
 pub mod station;
 pub mod task;
 
+pub use crew::{Crew, CrewPoll, MOST};
 pub use need::{Need, Polled};
 pub use station::Station;
 pub use task::RequestTask;
