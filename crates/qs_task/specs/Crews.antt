@@ -27,7 +27,7 @@ no_crew shape = record { shape = shape; newest = 0; live = [] }
 
 -- a task of this image that hasn't been answered
 pub record IsManned (shape : Shape) (t : TaskValue) : Type 0 where
-  pub shape : t.shape ≡ shape
+  pub of : t.shape ≡ shape
   pub unanswered : t.over ≡ false
 
 -- what may happen: a request begins, a request makes a call, a request is answered, or the session leaves
