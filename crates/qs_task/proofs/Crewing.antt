@@ -20,7 +20,7 @@ use Rattle.qs_task.specs.declared.need.Polled.TheVariants.{Ready as IsReady, Pen
 use Rattle.qs_task.specs.Books.{Book, RequestCall, notes, noted}
 use Rattle.qs_task.specs.Walks.{IsNextCall, WalksTo}
 use Rattle.qs_task.specs.Tasks.{TaskValue, Polls}
-use Rattle.qs_task.specs.Crews.{CrewValue, CrewEvent, Called, Answered, IsManned, CrewStep, CrewRuns, CallsNext, AnswersNext, PollsAt, CrewPolls, AreOf, live_request, with_request, without_request}
+use Rattle.qs_task.specs.Crews.{CrewValue, CrewEvent, Called, Answered, IsManned, CrewStep, CrewRuns, CallsNext, AnswersNext, PollsAt, CrewPolls, AreOf, live_request, with_request, without_request, abandoned_task}
 
 pub all_at : {X : Type 0} (P : X → Type 0) (xs : List X) (i : ℕ) (x : X) → AllByRecursion P xs → slice_get xs i ≡ Some x → P x
 all_at P [] i x all is = absurd (never is)
@@ -324,16 +324,32 @@ still_manned shape at n result old new before after is manned polls =
     go (HasAnswered ask v) t ready (u, does, asked, same) =
         subst (AllByRecursion (IsManned shape)) (sym same) (all_gone (IsManned shape) old at manned)
 
--- abandoning goes through the list
-pub map_on : {X : Type 0} (f : X → X) (xs ys : List X) (i : ℕ) (x : X) → i < length xs → ys ≡ map f (take i xs) ++ drop i xs →
-    slice_get xs i ≡ Some x → slice_set ys i (f x) ≡ map f (take (suc i) xs) ++ drop (suc i) xs
-map_on f xs ys i x inside is at = ap (λ zs. slice_set zs i (f x)) is ∙ go xs i inside at
-  where
-    go : (zs : List _) (k : ℕ) → k < length zs → slice_get zs k ≡ Some x →
-        slice_set (map f (take k zs) ++ drop k zs) k (f x) ≡ map f (take (suc k) zs) ++ drop (suc k) zs
-    go [] k below e = absurd (omega arith)
-    go (z ∷ zs) zero below e = ap (λ y. f y ∷ zs) (same e)
-      where
-        same : Some z ≡ Some x → x ≡ z
-        same g = cc
-    go (z ∷ zs) (suc k) below e = ap (λ (ys : List _). f z ∷ ys) (go zs k (omega arith) e)
+-- abandoning goes through the list: what comes next is as it was
+over_at : {X : Type 0} (f : X → X) (xs : List X) (i : ℕ) (d : X) → i < length xs → get_or (map f (take i xs) ++ drop i xs) i d ≡ get_or xs i d
+over_at f [] i d inside = absurd (omega arith)
+over_at f (x ∷ xs) zero d inside = refl
+over_at f (x ∷ xs) (suc i) d inside = over_at f xs i d (omega arith)
+
+all_got : {X : Type 0} (P : X → Type 0) (xs : List X) (i : ℕ) (d : X) → AllByRecursion P xs → i < length xs → P (get_or xs i d)
+all_got P [] i d all inside = absurd (omega arith)
+all_got P (x ∷ xs) zero d all inside = all.0
+all_got P (x ∷ xs) (suc i) d all inside = all_got P xs i d all.1 (omega arith)
+
+pub next_is : {X : Type 0} (P : X → Type 0) (f : X → X) (xs ys : List X) (i : ℕ) (d : X) → AllByRecursion P xs → i < length xs →
+    ys ≡ map f (take i xs) ++ drop i xs → P (get_or ys i d)
+next_is P f xs ys i d all inside is =
+    subst P (sym (ap (λ zs. get_or zs i d) is ∙ over_at f xs i d inside)) (all_got P xs i d all inside)
+
+-- and when it is over each was changed
+pub map_over : {X : Type 0} (f : X → X) (xs ys : List X) (i : ℕ) → length xs ≤ i → ys ≡ map f (take i xs) ++ drop i xs → ys ≡ map f xs
+map_over f xs ys i long is = is ∙ rw (take_all i xs long, drop_all i xs long) (append-nil (map f xs))
+
+pub all_free : (shape : Shape) (live : List TaskValue) → AllByRecursion (IsManned shape) live → AllByRecursion (λ t. t.over ≡ false) live
+all_free shape [] all = tt
+all_free shape (t ∷ live) all = (all.0.unanswered, all_free shape live all.1)
+
+pub still_free : (shape : Shape) (live : List TaskValue) → AllByRecursion (IsManned shape) live →
+    AllByRecursion (IsManned shape) (map abandoned_task live)
+still_free shape [] all = tt
+still_free shape (t ∷ live) all =
+    (record { of = all.0.of; unanswered = all.0.unanswered }, still_free shape live all.1)

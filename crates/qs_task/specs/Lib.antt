@@ -2,3 +2,4 @@ pub mod Books
 pub mod Walks
 pub mod Tasks
 pub mod Crews
+pub mod Stories

@@ -94,6 +94,15 @@ fn abandon_all(tasks: &mut [RequestTask])
     }
 }
 
+/// The same over the tasks of a vector.
+fn abandon_each(tasks: &mut Vec<RequestTask>)
+    requires { AllByRecursion (λ t. t.over ≡ false) tasks.old.items }
+    ensures items { tasks.new.items ≡ map abandoned_task tasks.old.items }
+    ensures capacity { vec_capacity tasks.new ≡ vec_capacity tasks.old }
+{
+    abandon_all(tasks.as_mut_slice());
+}
+
 impl Crew {
     /// A crew for requests to an image of this shape, with nobody in it. It takes all the memory that it ever needs,
     /// and its only error is refused memory.
@@ -168,6 +177,6 @@ impl Crew {
     pub fn abandon(&mut self)
         ensures { CrewStep self.old Left self.new }
     {
-        abandon_all(&mut self.tasks);
+        abandon_each(&mut self.tasks);
     }
 }

@@ -3,6 +3,7 @@
 #![tactic(auto)]
 
 pub mod crew;
+pub mod laws;
 pub mod need;
 pub mod station;
 pub mod task;
