@@ -9,7 +9,7 @@ use Rattle.qs_task.specs.declared.need.Polled.{Polled}
 use Rattle.qs_task.specs.declared.need.Polled.TheVariants.{Ready as IsReady, Pending as IsPending}
 use Rattle.qs_task.specs.Books.{Book, RequestCall, notes, noted}
 use Rattle.qs_task.specs.Walks.{IsNextCall, WalksTo, GoOn, StopsFor, wait_after}
-use Rattle.qs_task.specs.Tasks.{TaskValue, IsAnswered, TaskCalls, MakesCall, GivesAnswer, Moves, Polls}
+use Rattle.qs_task.specs.Tasks.{TaskValue, IsAnswered, RunsTo, TaskCalls, MakesCall, GivesAnswer, Moves, Polls}
 
 -- one call more at the end of a walk
 pub walks_more : (shape : Shape) (n : ℕ) (q : Req) (calls : List RequestCall) (t : Req) (c : RequestCall) →
@@ -105,3 +105,66 @@ polling_ends (IsPending need) old now new before mid after so move =
       ends = (record { before = so.calls; stop = c; all = refl; went = so.went; waits = move.makes.waits },
         rest_of old now new so.rest move.rest);
     }
+
+-- two walks, one after the other
+pub walks_join : (shape : Shape) (n : ℕ) (q : Req) (calls : List RequestCall) (t : Req) (others : List RequestCall) (u : Req) →
+    WalksTo shape n q calls t → WalksTo shape n t others u → WalksTo shape n q (calls ++ others) u
+walks_join shape n q [] t others u at rest = subst (λ x. WalksTo shape n x others u) at rest
+walks_join shape n q (c ∷ calls) t others u (first, behind) rest =
+    (first, walks_join shape n (followed shape.align q c.reply) calls t others u behind rest)
+
+pub noted_join : (calls others : List RequestCall) (book : Book) → noted (calls ++ others) book ≡ noted others (noted calls book)
+noted_join [] others book = refl
+noted_join (c ∷ calls) others book = noted_join calls others (notes c book)
+
+-- polls so far: these calls were made, and the request isn't answered
+pub record PolledOn (old now : TaskValue) (before after : Book) : Type 0 where
+  pub calls : List RequestCall
+  pub walks : WalksTo old.shape old.number old.request calls now.request
+  pub booked : after ≡ noted calls before
+  pub rest : now ≡ record old { request = now.request }
+
+pub polled_none : (old : TaskValue) (before : Book) → PolledOn old old before before
+polled_none old before = record { calls = []; walks = refl; booked = refl; rest = refl }
+
+-- the walk of one poll more
+walks_then : (polled : Polled) (old now new : TaskValue) (before mid after : Book) (so : PolledOn old now before mid) (one : Polls polled now new mid after) →
+    WalksTo old.shape old.number old.request (so.calls ++ one.calls) one.end
+walks_then polled old now new before mid after so one =
+    walks_join old.shape old.number old.request so.calls now.request one.calls one.end so.walks
+    (subst (λ t. WalksTo t.shape t.number now.request one.calls one.end) so.rest one.walks)
+
+booked_then : (polled : Polled) (old now new : TaskValue) (before mid after : Book) (so : PolledOn old now before mid) (one : Polls polled now new mid after) →
+    after ≡ noted (so.calls ++ one.calls) before
+booked_then polled old now new before mid after so one =
+    one.booked ∙ ap (noted one.calls) so.booked ∙ sym (noted_join so.calls one.calls before)
+
+pub polled_more : (need : Need) (old now new : TaskValue) (before mid after : Book) → PolledOn old now before mid →
+    Polls (IsPending need) now new mid after → PolledOn old new before after
+polled_more need old now new before mid after so one =
+    let requested : new.request ≡ one.end = ap (λ t. t.request) one.ends.1 in
+    let with_new : TaskValue → TaskValue = λ t. record t { request = one.end } in
+    let same : new ≡ record old { request = one.end } = one.ends.1 ∙ ap with_new so.rest in
+    let with_old : Req → TaskValue = λ q. record old { request = q } in
+    record {
+      calls = so.calls ++ one.calls;
+      walks = subst (λ q. WalksTo old.shape old.number old.request (so.calls ++ one.calls) q) (sym requested)
+          (walks_then (IsPending need) old now new before mid after so one);
+      booked = booked_then (IsPending need) old now new before mid after so one;
+      rest = same ∙ ap with_old (sym requested);
+    }
+
+pub polled_over : (v : Verdict) (old now new : TaskValue) (before mid after : Book) → PolledOn old now before mid →
+    Polls (IsReady v) now new mid after → RunsTo v old before after × IsAnswered old new
+polled_over v old now new before mid after so one =
+    (record {
+      calls = so.calls ++ one.calls;
+      end = one.end;
+      walks = walks_then (IsReady v) old now new before mid after so one;
+      ready = one.ends.1;
+      booked = booked_then (IsReady v) old now new before mid after so one;
+    }, record {
+      over = one.ends.2.over;
+      number = one.ends.2.number ∙ ap (λ t. t.number) so.rest;
+      shape = one.ends.2.shape ∙ ap (λ t. t.shape) so.rest;
+    })

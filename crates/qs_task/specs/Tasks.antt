@@ -67,3 +67,11 @@ pub record Polls (polled : Polled) (old new : TaskValue) (before after : Book) :
   pub walks : WalksTo old.shape old.number old.request calls end
   pub booked : after ≡ noted calls before
   pub ends : PollEnds polled calls end old new
+
+-- The whole run of a request: its calls lead through the request table to this answer, and those alone were noted.
+pub record RunsTo (v : Verdict) (task : TaskValue) (before after : Book) : Type 0 where
+  pub calls : List RequestCall
+  pub end : Req
+  pub walks : WalksTo task.shape task.number task.request calls end
+  pub ready : end.stage ≡ Ready v
+  pub booked : after ≡ noted calls before

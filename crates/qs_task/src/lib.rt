@@ -11,4 +11,4 @@ pub mod task;
 pub use crew::{Crew, CrewPoll, MOST};
 pub use need::{Need, Polled};
 pub use station::Station;
-pub use task::RequestTask;
+pub use task::{RequestTask, poll_alone};

@@ -2,11 +2,12 @@ ghost use Rattle.std.specs.Prelude.{◌≡◌, false, true, if◌then◌else◌,
 ghost use Rattle.qs_model.specs.Requests.{abandon};
 ghost use Rattle.qs_request.specs.Table.{FitsPart, Wants};
 ghost use Rattle.qs_task.specs.Books.{IsOperation};
-ghost use Rattle.qs_task.specs.Tasks.{MakesCall, Moves, Polls, pause};
+ghost use Rattle.qs_task.specs.Tasks.{IsAnswered, MakesCall, Moves, Polls, RunsTo, pause};
 
 use crate::need::{Need, Polled, is_wait, part_of};
 use crate::station::Station;
-use qs_bytes::Ask;
+use qs_bytes::{Ask, Verdict};
+use qs_outside::Clock;
 use qs_request::{Req, Todo};
 use std::marker::Model;
 use std::sync::Wait;
@@ -169,4 +170,50 @@ impl RequestTask {
         }
         unreachable!()
     }
+
+    /// Polls until the answer, each time at a reading of the clock.
+    pub fn finish<S: Station, C: Clock, R: Wait>(
+        &mut self,
+        rt: &R,
+        hall: &S::Hall,
+        station: &mut S,
+        clock: &C,
+    ) -> Verdict
+        requires of { S.is_of hall.now station.old }
+        requires shape { self.old.shape ≡ S.shape hall.now }
+        requires unanswered { self.old.over ≡ false }
+        ensures of { S.is_of hall.now station.new }
+        ensures runs { RunsTo result self.old (S.book station.old) (S.book station.new) }
+        ensures answered { IsAnswered self.old self.new }
+        ensures later { S.follows station.old station.new }
+    {
+        for _ in rt.forever() {
+            match self.poll(rt, hall, station, clock.now()) {
+                Polled::Ready(verdict) => return verdict,
+                Polled::Pending(_) => {}
+            }
+        }
+        unreachable!()
+    }
+}
+
+/// Runs one request to its answer, and gives the station back.
+pub fn poll_alone<S: Station, C: Clock, R: Wait>(
+    rt: &R,
+    hall: &S::Hall,
+    station: S,
+    task: RequestTask,
+    clock: &C,
+) -> (Verdict, S)
+    requires of { S.is_of hall.now station }
+    requires shape { task.shape ≡ S.shape hall.now }
+    requires unanswered { task.over ≡ false }
+    ensures of { S.is_of hall.now result.1 }
+    ensures runs { RunsTo result.0 task (S.book station) (S.book result.1) }
+    ensures later { S.follows station result.1 }
+{
+    let mut at = station;
+    let mut alone = task;
+    let verdict = alone.finish(rt, hall, &mut at, clock);
+    (verdict, at)
 }
