@@ -8,6 +8,7 @@ use Rattle.qs_part.specs.declared.runs.StripeAnswer.TheVariants.{One as OneAnswe
 use Rattle.qs_part.specs.declared.runs.StripeCall.{StripeCall}
 use Rattle.qs_part.specs.declared.runs.StripeCall.TheVariants.{One as OneCall}
 use Rattle.qs_part.specs.declared.tracker.TrackerOp.{TrackerOp}
+use Rattle.qs_part.specs.declared.tracker.TrackerOp.TheVariants.{Enter, List as ListOp, Start, End}
 use Rattle.qs_part.specs.declared.tracker.TrackerReply.{TrackerReply}
 use Rattle.qs_part.specs.Histories.{Call, call}
 use Rattle.qs_request.specs.declared.todo.Todo.{Todo}
@@ -56,7 +57,13 @@ abbrev pub noted : List RequestCall → Book → Book
 noted [] book = book
 noted (c ∷ calls) book = noted calls (notes c book)
 
--- an operation of a part
+-- an operation that a request does: on the tracker those four, on the graph Route, and all of a stripe
 abbrev pub IsOperation : Todo → Type 0
+IsOperation (Tracker Enter) = Unit {0}
+IsOperation (Tracker (ListOp k span serial)) = Unit {0}
+IsOperation (Tracker (Start k)) = Unit {0}
+IsOperation (Tracker (End k)) = Unit {0}
+IsOperation (Tracker op) = ⊥
+IsOperation (Route e) = Unit {0}
+IsOperation (Stripe s op) = Unit {0}
 IsOperation (Answer v) = ⊥
-IsOperation _ = Unit {0}
