@@ -1,6 +1,6 @@
 -- A crew's list of live requests, and what polls make of it.
 use Rattle.std.proofs.Common.{◌≡◌, ◌≢◌, ℕ, zero, suc, ◌<◌, ◌≤◌, ◌⊎◌, inl, inr, List, [], ◌∷◌, ◌++◌, length, get_or, map, take, drop, Bool, true, false, cond, refl, sym, ◌∙◌, ap, subst, arith, eq-eqb, ne_eqb, append-nil}
-use Rattle.std.specs.Prelude.{Option, Some, None, ◌==◌, nat_lt, position, slice_get}
+use Rattle.std.specs.Prelude.{Some, None, ◌==◌, nat_lt, position, slice_get}
 use Rattle.std.specs.List.{slice_set, remove, position_or_len, AllByRecursion}
 use Rattle.std.specs.Option.{option_map}
 use Rattle.std.proofs.lemmas.List.{take_all, drop_all}
@@ -16,11 +16,10 @@ use Rattle.qs_request_state.specs.declared.shape.Shape.{Shape}
 use Rattle.qs_request.specs.Table.{followed}
 use Rattle.qs_task.specs.declared.crew.CrewPoll.{CrewPoll}
 use Rattle.qs_task.specs.declared.crew.CrewPoll.TheVariants.{NoSuch, Pending as StillPending, Answered as HasAnswered}
-use Rattle.qs_task.specs.declared.need.Polled.TheVariants.{Ready as IsReady, Pending as IsPending}
-use Rattle.qs_task.specs.Books.{Book, RequestCall, notes, noted}
-use Rattle.qs_task.specs.Walks.{IsNextCall, WalksTo}
-use Rattle.qs_task.specs.Tasks.{TaskValue, Polls}
-use Rattle.qs_task.specs.Crews.{CrewValue, CrewEvent, Called, Answered, IsManned, CrewStep, CrewRuns, CallsNext, AnswersNext, PollsAt, CrewPolls, AreOf, live_request, with_request, without_request, abandoned_task}
+use Rattle.qs_task.specs.Books.{Book, RequestCall}
+use Rattle.qs_task.specs.Walks.{WalksTo}
+use Rattle.qs_task.specs.Tasks.{TaskValue}
+use Rattle.qs_task.specs.Crews.{CrewValue, CrewEvent, Called, Answered, IsManned, CrewStep, CrewRuns, PollsAt, CrewPolls, AreOf, live_request, with_request, without_request, abandoned_task}
 
 pub all_at : {X : Type 0} (P : X → Type 0) (xs : List X) (i : ℕ) (x : X) → AllByRecursion P xs → slice_get xs i ≡ Some x → P x
 all_at P [] i x all is = absurd (never is)
@@ -223,14 +222,17 @@ walk_runs crew n q (c ∷ calls) t is (next, rest) =
     let r : Req = followed crew.shape.align q c.reply in
     let mid : CrewValue = record crew { live = with_request n r crew.live } in
     let on : CrewRuns mid (map Called calls) (record mid { live = with_request n t mid.live }) =
-        walk_runs mid n r calls t (with_is n q r crew.live is) rest in
-    let lists : List TaskValue → CrewValue = λ ts. record crew { live = ts } in
-    (mid, record {
-      request = q;
-      is_live = ap (λ k. live_request k crew.live) next.number ∙ is;
-      next = record { number = refl; wants = next.wants; may = next.may };
-      live = ap lists (ap (λ k. with_request k r crew.live) (sym next.number));
-    }, subst (λ w. CrewRuns mid (map Called calls) w) (ap lists (with_twice n r t crew.live)) on)
+    walk_runs mid n r calls t (with_is n q r crew.live is) rest in
+    let lists : List TaskValue → CrewValue = λ ts. record crew { live = ts } in (
+      mid,
+      record {
+        request = q;
+        is_live = ap (λ k. live_request k crew.live) next.number ∙ is;
+        next = record { number = refl; wants = next.wants; may = next.may };
+        live = ap lists (ap (λ k. with_request k r crew.live) (sym next.number));
+      },
+      subst (λ w. CrewRuns mid (map Called calls) w) (ap lists (with_twice n r t crew.live)) on,
+    )
 
 pub walk_numbered : (shape : Shape) (n : ℕ) (q : Req) (calls : List RequestCall) (t : Req) → WalksTo shape n q calls t → AreOf n calls
 walk_numbered shape n q [] t at = tt
@@ -258,7 +260,7 @@ waits_there crew at n need live before after f manned (u, polls, is) =
     let walks = walk_there crew n f.task polls.calls polls.end manned f.number polls.walks in
     let lists : List TaskValue → CrewValue = λ ts. record crew { live = ts } in
     let same : with_request n polls.end crew.live ≡ live =
-        sym (f.set polls.end) ∙ ap (slice_set crew.live at) (sym polls.ends.1) ∙ sym is in
+    sym (f.set polls.end) ∙ ap (slice_set crew.live at) (sym polls.ends.1) ∙ sym is in
     record {
       calls = polls.calls;
       numbered = walk_numbered crew.shape n f.task.request polls.calls polls.end walks;

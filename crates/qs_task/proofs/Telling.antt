@@ -1,5 +1,5 @@
 -- What the events of a crew tell of one request.
-use Rattle.std.proofs.Common.{◌≡◌, ◌≢◌, ℕ, ◌<◌, ◌≤◌, ◌⊎◌, inl, inr, List, [], ◌∷◌, ◌++◌, map, Option, Some, None, refl, sym, ◌∙◌, ap, subst, arith}
+use Rattle.std.proofs.Common.{◌≡◌, ◌≢◌, ℕ, ◌<◌, ◌≤◌, ◌⊎◌, inl, inr, List, [], ◌∷◌, ◌++◌, map, Some, None, refl, sym, ◌∙◌, ap, subst, arith}
 use Rattle.std.specs.Option.{option_map}
 use Rattle.qs_bytes.specs.declared.ask.Verdict.{Verdict}
 use Rattle.qs_model.proofs.Basics.{same_or}
@@ -9,7 +9,7 @@ use Rattle.qs_request.specs.Table.{followed}
 use Rattle.qs_task.specs.Books.{RequestCall}
 use Rattle.qs_task.specs.Walks.{IsNextCall}
 use Rattle.qs_task.specs.Tasks.{TaskValue}
-use Rattle.qs_task.specs.Crews.{CrewValue, CrewEvent, Began, Called, Answered, Left, MayBegin, CallsNext, AnswersNext, CrewStep, CrewRuns, Progress, Unbegun, Going, Over, TellsOf, WalkOf, HasWalk, going, left_behind, live_request, with_request, without_request, abandoned_task, no_crew}
+use Rattle.qs_task.specs.Crews.{CrewValue, CrewEvent, Began, Called, Answered, Left, MayBegin, CallsNext, AnswersNext, CrewStep, CrewRuns, Progress, Unbegun, Going, Over, TellsOf, WalkOf, going, left_behind, live_request, with_request, without_request, abandoned_task, no_crew}
 use Rattle.qs_task.specs.Stories.{MergedWalks}
 use Rattle.qs_task.proofs.Crewing.{request_here, request_past, with_here, with_past, without_here, without_past, with_is}
 
@@ -194,10 +194,10 @@ calls shape n crew c p new k does (inl e) =
     let is : p ≡ Going q = going_is p q (sym does.is_live ∙ ap (λ i. live_request i crew.live) e ∙ k.live) in
     let r : Req = followed shape.align q c.reply in
     let same : new ≡ record crew { live = with_request n r crew.live } =
-        subst (λ i. new ≡ record crew { live = with_request i r crew.live }) e
-        (subst (λ s. new ≡ record crew { live = with_request c.request (followed s.align q c.reply) crew.live }) k.of does.live) in
+    subst (λ i. new ≡ record crew { live = with_request i r crew.live }) e
+    (subst (λ s. new ≡ record crew { live = with_request c.request (followed s.align q c.reply) crew.live }) k.of does.live) in
     let next : IsNextCall shape n q c =
-        subst (λ i. IsNextCall shape i q c) e (subst (λ s. IsNextCall s c.request q c) k.of does.next) in
+    subst (λ i. IsNextCall shape i q c) e (subst (λ s. IsNextCall s c.request q c) k.of does.next) in
     record {
       progress = Going r;
       tells = inl (q, is, next, refl);
@@ -227,7 +227,7 @@ answers shape n crew i v p new k does (inl e) =
     let q = does.request in
     let is : p ≡ Going q = going_is p q (sym does.is_live ∙ ap (λ j. live_request j crew.live) e ∙ k.live) in
     let same : new ≡ record crew { live = without_request n crew.live } =
-        subst (λ j. new ≡ record crew { live = without_request j crew.live }) e does.live in
+    subst (λ j. new ≡ record crew { live = without_request j crew.live }) e does.live in
     record {
       progress = Over v;
       tells = inl (q, e, is, does.ready, refl);
@@ -288,5 +288,5 @@ walked shape n crew (e ∷ events) p new k (mid, step, rest) =
 pub merged : MergedWalks
 merged shape events crew runs n =
     let w = walked shape n (no_crew shape) events Unbegun crew
-        (record { of = refl; rising = omega arith; live = refl; begun = tt }) runs in
+    (record { of = refl; rising = omega arith; live = refl; begun = tt }) runs in
     record { progress = w.0; walk = w.1; live = w.2 }

@@ -1,5 +1,5 @@
 -- A poll, move by move.
-use Rattle.std.proofs.Common.{◌≡◌, ℕ, List, [], ◌∷◌, ◌++◌, Option, Some, None, refl, sym, ap, ◌∙◌, subst}
+use Rattle.std.proofs.Common.{◌≡◌, ℕ, List, [], ◌∷◌, ◌++◌, Some, None, refl, sym, ap, ◌∙◌, subst}
 use Rattle.qs_bytes.specs.declared.ask.Verdict.{Verdict}
 use Rattle.qs_model.specs.Requests.{Req}
 use Rattle.qs_request_state.specs.declared.shape.Shape.{Shape}
@@ -8,8 +8,8 @@ use Rattle.qs_task.specs.declared.need.Need.{Need}
 use Rattle.qs_task.specs.declared.need.Polled.{Polled}
 use Rattle.qs_task.specs.declared.need.Polled.TheVariants.{Ready as IsReady, Pending as IsPending}
 use Rattle.qs_task.specs.Books.{Book, RequestCall, notes, noted}
-use Rattle.qs_task.specs.Walks.{IsNextCall, WalksTo, GoOn, StopsFor, wait_after}
-use Rattle.qs_task.specs.Tasks.{TaskValue, IsAnswered, RunsTo, TaskCalls, MakesCall, GivesAnswer, Moves, Polls}
+use Rattle.qs_task.specs.Walks.{IsNextCall, WalksTo, GoOn, wait_after}
+use Rattle.qs_task.specs.Tasks.{TaskValue, IsAnswered, RunsTo, Moves, Polls}
 
 -- one call more at the end of a walk
 pub walks_more : (shape : Shape) (n : ℕ) (q : Req) (calls : List RequestCall) (t : Req) (c : RequestCall) →
@@ -89,11 +89,15 @@ polling_ends (IsReady v) old now new before mid after so move = record {
   end = now.request;
   walks = so.walks;
   booked = move.booked ∙ so.booked;
-  ends = (so.went, move.ready, record {
-    over = move.answered.over;
-    number = move.answered.number ∙ ap (λ t. t.number) so.rest;
-    shape = move.answered.shape ∙ ap (λ t. t.shape) so.rest;
-  });
+  ends = (
+    so.went,
+    move.ready,
+    record {
+      over = move.answered.over;
+      number = move.answered.number ∙ ap (λ t. t.number) so.rest;
+      shape = move.answered.shape ∙ ap (λ t. t.shape) so.rest;
+    },
+  );
 }
 polling_ends (IsPending need) old now new before mid after so move =
     let c = move.makes.made in
@@ -102,8 +106,10 @@ polling_ends (IsPending need) old now new before mid after so move =
       end = new.request;
       walks = walks_on old now new so.calls c so.rest so.walks move.makes.next move.makes.moved;
       booked = booked_on so.calls c before mid after so.booked move.makes.booked;
-      ends = (record { before = so.calls; stop = c; all = refl; went = so.went; waits = move.makes.waits },
-        rest_of old now new so.rest move.rest);
+      ends = (
+        record { before = so.calls; stop = c; all = refl; went = so.went; waits = move.makes.waits },
+        rest_of old now new so.rest move.rest,
+      );
     }
 
 -- two walks, one after the other
@@ -156,15 +162,17 @@ polled_more need old now new before mid after so one =
 
 pub polled_over : (v : Verdict) (old now new : TaskValue) (before mid after : Book) → PolledOn old now before mid →
     Polls (IsReady v) now new mid after → RunsTo v old before after × IsAnswered old new
-polled_over v old now new before mid after so one =
-    (record {
-      calls = so.calls ++ one.calls;
-      end = one.end;
-      walks = walks_then (IsReady v) old now new before mid after so one;
-      ready = one.ends.1;
-      booked = booked_then (IsReady v) old now new before mid after so one;
-    }, record {
-      over = one.ends.2.over;
-      number = one.ends.2.number ∙ ap (λ t. t.number) so.rest;
-      shape = one.ends.2.shape ∙ ap (λ t. t.shape) so.rest;
-    })
+polled_over v old now new before mid after so one = (
+  record {
+    calls = so.calls ++ one.calls;
+    end = one.end;
+    walks = walks_then (IsReady v) old now new before mid after so one;
+    ready = one.ends.1;
+    booked = booked_then (IsReady v) old now new before mid after so one;
+  },
+  record {
+    over = one.ends.2.over;
+    number = one.ends.2.number ∙ ap (λ t. t.number) so.rest;
+    shape = one.ends.2.shape ∙ ap (λ t. t.shape) so.rest;
+  },
+)

@@ -1,5 +1,5 @@
 -- The story of each request of a crew: a law over every list of events.
-use Rattle.std.specs.Prelude.{◌≡◌, ℕ, List}
+use Rattle.std.specs.Prelude.{ℕ, List}
 use Rattle.qs_request_state.specs.declared.shape.Shape.{Shape}
 use Rattle.qs_task.specs.Crews.{CrewValue, CrewEvent, CrewRuns, HasWalk, no_crew}
 

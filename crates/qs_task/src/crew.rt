@@ -139,7 +139,7 @@ impl Crew {
         requires number { self.old.newest < number }
         ensures { MatchResult result
             (λ _. CrewStep self.old
-                (Began (record { number = number; request = request.request; shape = request.shape; over = false })) self.new)
+            (Began (record { number = number; request = request.request; shape = request.shape; over = false })) self.new)
             (λ back. (16 ≤ length self.old.live) × (back ≡ request) × (self.new ≡ self.old)) }
     {
         if self.tasks.len() >= MOST {

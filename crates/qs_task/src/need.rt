@@ -40,7 +40,10 @@ fn tracker_waits(reply: &TrackerReply) -> bool
 {
     matches!(
         reply,
-        TrackerReply::Quiesced | TrackerReply::Full | TrackerReply::NotYet(_) | TrackerReply::Strange
+        TrackerReply::Quiesced
+            | TrackerReply::Full
+            | TrackerReply::NotYet(_)
+            | TrackerReply::Strange
     )
 }
 

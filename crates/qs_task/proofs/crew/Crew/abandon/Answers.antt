@@ -10,7 +10,7 @@ abandon_each-requires c = all_free c.self.inside.shape c.self.inside.tasks.items
 
 pub invariant_of-self : goal.invariant_of-self
 invariant_of-self c = (
-      subst (λ (n : ℕ). 16 ≤ n) (sym c.abandon_each.ensures.capacity) c.self.invariant.0,
-      subst (λ (ts : List TaskValue). AllByRecursion (IsManned c.self.inside.shape) ts) (sym c.abandon_each.ensures.items)
+  subst (λ (n : ℕ). 16 ≤ n) (sym c.abandon_each.ensures.capacity) c.self.invariant.0,
+  subst (λ (ts : List TaskValue). AllByRecursion (IsManned c.self.inside.shape) ts) (sym c.abandon_each.ensures.items)
       (still_free c.self.inside.shape c.self.inside.tasks.items c.self.invariant.1),
-    )
+)

@@ -1,4 +1,4 @@
-use Rattle.std.proofs.Common.{◌≡◌, ℕ, ◌≤◌, ◌==◌, List, sym, ap, subst, refl, ◌∙◌}
+use Rattle.std.proofs.Common.{ℕ, ◌≤◌, ◌==◌, List, sym, ap, subst, refl, ◌∙◌}
 use Rattle.std.specs.Prelude.{position}
 use Rattle.qs_task.specs.Tasks.{TaskValue}
 use Rattle.qs_task.specs.Crews.{CrewValue, CrewPolls, live_request}
@@ -7,17 +7,15 @@ use Rattle.qs_task.proofs.crew.Crew.poll.Goals as goal
 
 pub invariant_of-self : goal.invariant_of-self
 invariant_of-self g c =
-    let place = ap (λ (ts : List TaskValue). position (λ t. t.number == c.args.number) ts) (sym c.deref.ensures.value) ∙ sym c.find.ensures ∙ c.in-Some.is in
-    (
+    let place = ap (λ (ts : List TaskValue). position (λ t. t.number == c.args.number) ts) (sym c.deref.ensures.value) ∙ sym c.find.ensures ∙ c.in-Some.is in (
       subst (λ (n : ℕ). 16 ≤ n) (sym c.poll_at.ensures.capacity) c.self.invariant.0,
       still_manned c.self.inside.shape c.in-Some.at c.args.number c.poll_at.result c.self.inside.tasks.items c.poll_at.new.tasks.items _ _ place c.self.invariant.1
-      c.poll_at.ensures.polls,
+          c.poll_at.ensures.polls,
     )
 
 pub returns-in-None-clause-polls : goal.returns-in-None-clause-polls
 returns-in-None-clause-polls g c =
-    let place = ap (λ (ts : List TaskValue). position (λ t. t.number == c.args.number) ts) (sym c.deref.ensures.value) ∙ sym c.find.ensures ∙ c.in-None.is in
-    (
+    let place = ap (λ (ts : List TaskValue). position (λ t. t.number == c.args.number) ts) (sym c.deref.ensures.value) ∙ sym c.find.ensures ∙ c.in-None.is in (
       ap (λ (w : CrewValue). live_request c.args.number w.live) (sym c.self.view_is) ∙ found_none c.args.number c.self.inside.tasks.items place,
       refl,
       refl,

@@ -1,4 +1,4 @@
-use Rattle.std.proofs.Common.{rules, ◌∙◌, sym, ap}
+use Rattle.std.proofs.Common.{◌∙◌, ap}
 use Rattle.qs_task.proofs.Walking.{polling_none, polling_on, polling_ends}
 use Rattle.qs_task.proofs.task.RequestTask.poll.Goals as goal
 
@@ -9,10 +9,13 @@ loop-init g c =
 pub loop-preserved : goal.loop-preserved
 loop-preserved g c =
     let calls = c.in-None-advance.ensures.moves in
-    let so = c.loop.invariant.3 in
-    (c.advance.ensures.of, ap (λ t. t.shape) calls.rest ∙ c.loop.invariant.1, ap (λ t. t.over) calls.rest ∙ c.loop.invariant.2,
-        polling_on _ _ _ _ _ _ so calls,
-        g.met.S.Station.follows_on _ _ _ c.loop.invariant.4 c.advance.ensures.later)
+    let so = c.loop.invariant.3 in (
+      c.advance.ensures.of,
+      ap (λ t. t.shape) calls.rest ∙ c.loop.invariant.1,
+      ap (λ t. t.over) calls.rest ∙ c.loop.invariant.2,
+      polling_on _ _ _ _ _ _ so calls,
+      g.met.S.Station.follows_on _ _ _ c.loop.invariant.4 c.advance.ensures.later,
+    )
 
 pub returns-in-Some-advance-clause-polls : goal.returns-in-Some-advance-clause-polls
 returns-in-Some-advance-clause-polls g c =
