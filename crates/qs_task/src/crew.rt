@@ -116,6 +116,13 @@ impl Crew {
         })
     }
 
+    /// The image that its requests go to.
+    pub fn shape(&self) -> Shape
+        ensures { result ≡ self.now.shape }
+    {
+        self.shape
+    }
+
     /// The number of the request that came last, and 0 where none came.
     pub fn newest(&self) -> u64
         ensures { result ≡ self.now.newest }

@@ -9,6 +9,7 @@ use crate::station::Station;
 use qs_bytes::{Ask, Verdict};
 use qs_outside::Clock;
 use qs_request::{Req, Todo};
+use qs_request_state::Shape;
 use std::marker::Model;
 use std::sync::Wait;
 
@@ -102,6 +103,20 @@ impl RequestTask {
         ensures { result ≡ self.now.number }
     {
         self.number
+    }
+
+    /// The image that the request goes to.
+    pub fn shape(&self) -> Shape
+        ensures { result ≡ self.now.shape }
+    {
+        self.request.shape()
+    }
+
+    /// Whether the answer was given.
+    pub fn is_over(&self) -> bool
+        ensures { result ≡ self.now.over }
+    {
+        self.request.is_answered()
     }
 
     /// What the client asked for.

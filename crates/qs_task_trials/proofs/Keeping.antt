@@ -1,5 +1,5 @@
 -- One more kept call.
-use Rattle.std.proofs.Common.{◌≡◌, ◌+◌, ◌≤◌, Bool, true, false, length, List, [], ◌∷◌, ◌++◌, map, refl}
+use Rattle.std.proofs.Common.{◌≡◌, ◌+◌, ◌≤◌, Bool, true, false, List, arith, [], ◌∷◌, ◌++◌, map, refl}
 use Rattle.qs_part.specs.declared.graph.Route.{Route as Way}
 use Rattle.qs_part.specs.declared.stripe.StripeOp.{StripeOp}
 use Rattle.qs_part.specs.declared.stripe.StripeOp.TheVariants.{Load, Hold, Store, Free, Sync}
