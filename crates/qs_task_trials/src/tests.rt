@@ -1,11 +1,13 @@
-use crate::station::KeepingStation;
+ghost use Rattle.std.specs.Prelude.{◌+◌, ◌≤◌};
+
+use crate::station::{KeepingStation, KeptCall};
 use qs_bytes::{Ask, Bytes, Errno, Kind, Verdict};
 use qs_outside::MemClock;
 use qs_part::graph::Route;
 use qs_part::tracker::TrackerOp;
 use qs_request::{Req, Todo};
 use qs_request_state::{Blocks, Shape};
-use qs_task::{Crew, CrewPoll, MOST, Need, Polled, RequestTask, Station, poll_alone};
+use qs_task::{Crew, CrewPoll, MOST, Need, RequestTask, poll_alone};
 use std::alloc::Global;
 use std::process::Abort;
 use std::sync::Wait;
@@ -67,12 +69,22 @@ fn asked(rt: &impl Abort, alloc: Global, kind: Kind, offset: u64, length: u64) -
     Ok(Req::new(alloc, 1, ask, 0, Some(body), Some(blocks), IMAGE))
 }
 
-fn station(alloc: Global, busy: u64) -> KeepingStation {
+fn station(alloc: Global, busy: u64) -> KeepingStation
+    ensures { result.way.offset + result.way.size ≤ 4096 }
+{
     KeepingStation {
         alloc,
         way: WAY,
         busy,
         kept: Vec::new(alloc),
+    }
+}
+
+/// Whether the last call that was kept is an End.
+fn ends(kept: &[KeptCall]) -> bool {
+    match kept.last() {
+        Some(call) => matches!(call.todo, Todo::Tracker(TrackerOp::End { .. })),
+        None => false,
     }
 }
 
@@ -154,7 +166,6 @@ fn left_requests_run_to_their_end(rt: HostRuntime) -> Result<(), Fail> {
     assert_eq!(rt; poll(&rt, &mut crew, &mut at, 2), Said::Dropped);
     assert_eq!(rt; at.kept.len(), before);
     assert_eq!(rt; poll(&rt, &mut crew, &mut at, 1), Said::Dropped);
-    let last = at.kept.pop();
-    assert!(rt; matches!(last, Some(call) if matches!(call.todo, Todo::Tracker(TrackerOp::End { k: 0 }))));
+    assert!(rt; ends(at.kept.as_slice()));
     Ok(())
 }
