@@ -54,7 +54,13 @@ fn poll_said(polled: &CrewPoll) -> Said {
     }
 }
 
-fn asked(rt: &impl Abort, alloc: Global, kind: Kind, offset: u64, length: u64) -> Result<Req, Fail> {
+fn asked(
+    rt: &impl Abort,
+    alloc: Global,
+    kind: Kind,
+    offset: u64,
+    length: u64,
+) -> Result<Req, Fail> {
     let ask = Ask {
         kind,
         fua: false,
@@ -130,7 +136,10 @@ fn two_requests_go_at_once(rt: HostRuntime) -> Result<(), Fail> {
     let read = asked(&rt, rt.alloc(), Kind::Read, 500, 600)?;
     assert!(rt; add(&rt, &mut crew, write, 1));
     assert!(rt; add(&rt, &mut crew, read, 2));
-    assert_eq!(rt; poll(&rt, &mut crew, &mut at, 1), Said::Waits(Need::Tracker));
+    assert_eq!(rt;
+        poll(&rt, &mut crew, &mut at, 1),
+        Said::Waits(Need::Tracker)
+    );
     assert_eq!(rt; poll(&rt, &mut crew, &mut at, 2), Said::Got(600));
     assert_eq!(rt; poll(&rt, &mut crew, &mut at, 2), Said::NoSuch);
     assert_eq!(rt; poll(&rt, &mut crew, &mut at, 1), Said::Fine);
@@ -160,7 +169,10 @@ fn left_requests_run_to_their_end(rt: HostRuntime) -> Result<(), Fail> {
     let waiting = asked(&rt, rt.alloc(), Kind::Write, 512, 512)?;
     assert!(rt; add(&rt, &mut crew, started, 1));
     assert!(rt; add(&rt, &mut crew, waiting, 2));
-    assert_eq!(rt; poll(&rt, &mut crew, &mut at, 1), Said::Waits(Need::Tracker));
+    assert_eq!(rt;
+        poll(&rt, &mut crew, &mut at, 1),
+        Said::Waits(Need::Tracker)
+    );
     crew.abandon();
     let before = at.kept.len();
     assert_eq!(rt; poll(&rt, &mut crew, &mut at, 2), Said::Dropped);
