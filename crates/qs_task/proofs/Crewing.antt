@@ -19,7 +19,7 @@ use Rattle.qs_task.specs.declared.crew.CrewPoll.TheVariants.{NoSuch, Pending as 
 use Rattle.qs_task.specs.Books.{Book, RequestCall}
 use Rattle.qs_task.specs.Walks.{WalksTo}
 use Rattle.qs_task.specs.Tasks.{TaskValue}
-use Rattle.qs_task.specs.Crews.{CrewValue, CrewEvent, Called, Answered, IsManned, CrewStep, CrewRuns, PollsAt, CrewPolls, AreOf, live_request, with_request, without_request, abandoned_task}
+use Rattle.qs_task.specs.Crews.{CrewValue, CrewEvent, Called, Answered, IsManned, CrewStep, CrewRuns, PollsAt, CrewPolls, AreCallsOf, live_by_number, with_request, without_request, abandoned_task}
 
 pub all_at : {X : Type 0} (P : X → Type 0) (xs : List X) (i : ℕ) (x : X) → AllByRecursion P xs → slice_get xs i ≡ Some x → P x
 all_at P [] i x all is = absurd (never is)
@@ -64,11 +64,11 @@ passed : {X : Type 0} (k n : ℕ) (x y : X) → k ≢ n → cond (k == n) x y �
 passed k n x y other = ap (λ (b : Bool). cond b x y) (ne_eqb k n other)
 
 -- the head of the list, where it is the one and where it isn't
-pub request_here : (n : ℕ) (t : TaskValue) (live : List TaskValue) → t.number ≡ n → live_request n (t ∷ live) ≡ Some t.request
-request_here n t live is = chosen t.number n (Some t.request) (live_request n live) is
+pub request_here : (n : ℕ) (t : TaskValue) (live : List TaskValue) → t.number ≡ n → live_by_number n (t ∷ live) ≡ Some t.request
+request_here n t live is = chosen t.number n (Some t.request) (live_by_number n live) is
 
-pub request_past : (n : ℕ) (t : TaskValue) (live : List TaskValue) → t.number ≢ n → live_request n (t ∷ live) ≡ live_request n live
-request_past n t live other = passed t.number n (Some t.request) (live_request n live) other
+pub request_past : (n : ℕ) (t : TaskValue) (live : List TaskValue) → t.number ≢ n → live_by_number n (t ∷ live) ≡ live_by_number n live
+request_past n t live other = passed t.number n (Some t.request) (live_by_number n live) other
 
 pub with_here : (n : ℕ) (q : Req) (t : TaskValue) (live : List TaskValue) → t.number ≡ n →
     with_request n q (t ∷ live) ≡ record t { request = q } ∷ live
@@ -90,7 +90,7 @@ pub record Found (n : ℕ) (live : List TaskValue) (at : ℕ) : Type 0 where
   pub task : TaskValue
   pub stands : slice_get live at ≡ Some task
   pub number : task.number ≡ n
-  pub is_live : live_request n live ≡ Some task.request
+  pub is_live : live_by_number n live ≡ Some task.request
   pub set : (q : Req) → slice_set live at (record task { request = q }) ≡ with_request n q live
   pub gone : remove live at ≡ without_request n live
 
@@ -133,13 +133,13 @@ found_at n (x ∷ live) at is =
 
 -- where no place was found no request is live
 none : (n : ℕ) (live : List TaskValue) → ((k : ℕ) (d : TaskValue) → k < length live → ((get_or live k d).number == n) ≡ false) →
-    live_request n live ≡ None
+    live_by_number n live ≡ None
 none n [] fails = refl
 none n (x ∷ live) fails =
     let first : (x.number == n) ≡ false = fails 0 x (omega arith) in
     request_past n x live (λ e. grind (arith, first, e)) ∙ none n live (λ k d below. fails (suc k) d (omega (arith, below)))
 
-pub found_none : (n : ℕ) (live : List TaskValue) → position (λ t. t.number == n) live ≡ None → live_request n live ≡ None
+pub found_none : (n : ℕ) (live : List TaskValue) → position (λ t. t.number == n) live ≡ None → live_by_number n live ≡ None
 found_none n live is = none n live below
   where
     below : (j : ℕ) (d : TaskValue) → j < length live → ((get_or live j d).number == n) ≡ false
@@ -153,17 +153,17 @@ found_none n live is = none n live below
             fails_before_first (λ (t : TaskValue). t.number == n) live j d (omega (arith, most, h))
 
 -- a live request that was changed is there, and nothing else of it stays
-pub with_is : (n : ℕ) (q r : Req) (live : List TaskValue) → live_request n live ≡ Some q → live_request n (with_request n r live) ≡ Some r
+pub with_is : (n : ℕ) (q r : Req) (live : List TaskValue) → live_by_number n live ≡ Some q → live_by_number n (with_request n r live) ≡ Some r
 with_is n q r [] is = absurd (never is)
   where
     never : None ≡ Some q → ⊥
     never e = cc
 with_is n q r (t ∷ live) is = go (same_or t.number n) (λ e. with_is n q r live e)
   where
-    go : (t.number ≡ n) ⊎ (t.number ≢ n) → (live_request n live ≡ Some q → live_request n (with_request n r live) ≡ Some r) →
-        live_request n (with_request n r (t ∷ live)) ≡ Some r
-    go (inl e) rest = ap (live_request n) (with_here n r t live e) ∙ request_here n (record t { request = r }) live e
-    go (inr o) rest = ap (live_request n) (with_past n r t live o) ∙ request_past n t (with_request n r live) o
+    go : (t.number ≡ n) ⊎ (t.number ≢ n) → (live_by_number n live ≡ Some q → live_by_number n (with_request n r live) ≡ Some r) →
+        live_by_number n (with_request n r (t ∷ live)) ≡ Some r
+    go (inl e) rest = ap (live_by_number n) (with_here n r t live e) ∙ request_here n (record t { request = r }) live e
+    go (inr o) rest = ap (live_by_number n) (with_past n r t live o) ∙ request_past n t (with_request n r live) o
         ∙ rest (sym (request_past n t live o) ∙ is)
 
 pub with_twice : (n : ℕ) (q r : Req) (live : List TaskValue) → with_request n r (with_request n q live) ≡ with_request n r live
@@ -179,14 +179,14 @@ with_twice n q r (t ∷ live) = go (same_or t.number n) (with_twice n q r live)
         ap (with_request n r) (with_past n q t live o) ∙ with_past n r t (with_request n q live) o
         ∙ ap (λ (ts : List TaskValue). t ∷ ts) rest ∙ sym (with_past n r t live o)
 
-pub with_same : (n : ℕ) (q : Req) (live : List TaskValue) → live_request n live ≡ Some q → with_request n q live ≡ live
+pub with_same : (n : ℕ) (q : Req) (live : List TaskValue) → live_by_number n live ≡ Some q → with_request n q live ≡ live
 with_same n q [] is = refl
 with_same n q (t ∷ live) is = go (same_or t.number n) (λ e. with_same n q live e)
   where
     same : Some t.request ≡ Some q → q ≡ t.request
     same e = cc
 
-    go : (t.number ≡ n) ⊎ (t.number ≢ n) → (live_request n live ≡ Some q → with_request n q live ≡ live) →
+    go : (t.number ≡ n) ⊎ (t.number ≢ n) → (live_by_number n live ≡ Some q → with_request n q live ≡ live) →
         with_request n q (t ∷ live) ≡ t ∷ live
     go (inl e) rest =
         let as_it_is : Req → TaskValue = λ r. record t { request = r } in
@@ -213,7 +213,7 @@ with_now : CrewValue → ℕ → Req → CrewValue
 with_now crew n q = record crew { live = with_request n q crew.live }
 
 -- the calls of one walk, as events of the crew
-pub walk_runs : (crew : CrewValue) (n : ℕ) (q : Req) (calls : List RequestCall) (t : Req) → live_request n crew.live ≡ Some q →
+pub walk_runs : (crew : CrewValue) (n : ℕ) (q : Req) (calls : List RequestCall) (t : Req) → live_by_number n crew.live ≡ Some q →
     WalksTo crew.shape n q calls t → CrewRuns crew (map Called calls) (record crew { live = with_request n t crew.live })
 walk_runs crew n q [] t is at =
     let lists : List TaskValue → CrewValue = λ ts. record crew { live = ts } in
@@ -227,14 +227,14 @@ walk_runs crew n q (c ∷ calls) t is (next, rest) =
       mid,
       record {
         request = q;
-        is_live = ap (λ k. live_request k crew.live) next.number ∙ is;
+        is_live = ap (λ k. live_by_number k crew.live) next.number ∙ is;
         next = record { number = refl; wants = next.wants; may = next.may };
         live = ap lists (ap (λ k. with_request k r crew.live) (sym next.number));
       },
       subst (λ w. CrewRuns mid (map Called calls) w) (ap lists (with_twice n r t crew.live)) on,
     )
 
-pub walk_numbered : (shape : Shape) (n : ℕ) (q : Req) (calls : List RequestCall) (t : Req) → WalksTo shape n q calls t → AreOf n calls
+pub walk_numbered : (shape : Shape) (n : ℕ) (q : Req) (calls : List RequestCall) (t : Req) → WalksTo shape n q calls t → AreCallsOf n calls
 walk_numbered shape n q [] t at = tt
 walk_numbered shape n q (c ∷ calls) t (next, rest) =
     (next.number, walk_numbered shape n (followed shape.align q c.reply) calls t rest)

@@ -9,7 +9,7 @@ use Rattle.qs_request.specs.Table.{followed}
 use Rattle.qs_task.specs.Books.{RequestCall}
 use Rattle.qs_task.specs.Walks.{IsNextCall}
 use Rattle.qs_task.specs.Tasks.{TaskValue}
-use Rattle.qs_task.specs.Crews.{CrewValue, CrewEvent, Began, Called, Answered, Left, MayBegin, CallsNext, AnswersNext, CrewStep, CrewRuns, Progress, Unbegun, Going, Over, TellsOf, WalkOf, going, left_behind, live_request, with_request, without_request, abandoned_task, no_crew}
+use Rattle.qs_task.specs.Crews.{CrewValue, CrewEvent, Began, Called, Answered, Left, MayBegin, CallsNext, AnswersNext, CrewStep, CrewRuns, Progress, Unbegun, Going, Over, TellsOf, WalkOf, under_way, left_behind, live_by_number, with_request, without_request, abandoned_task, no_crew}
 use Rattle.qs_task.specs.Stories.{MergedWalks}
 use Rattle.qs_task.proofs.Crewing.{request_here, request_past, with_here, with_past, without_here, without_past, with_is}
 
@@ -48,78 +48,78 @@ rising_left m [] top rising = rising
 rising_left m (t ∷ live) top (first, rest) = (first, rising_left t.number live top rest)
 
 -- no number at or below m is live
-none_below : (m n : ℕ) (live : List TaskValue) (top : ℕ) → n ≤ m → Rising m live top → live_request n live ≡ None
+none_below : (m n : ℕ) (live : List TaskValue) (top : ℕ) → n ≤ m → Rising m live top → live_by_number n live ≡ None
 none_below m n [] top below rising = refl
 none_below m n (t ∷ live) top below (first, rest) =
     request_past n t live (λ e. omega (arith, below, first, e)) ∙ none_below t.number n live top (omega (arith, below, first)) rest
 
 -- the live request of a number after each kind of edit
-request_new : (n : ℕ) (live : List TaskValue) (t : TaskValue) → live_request n live ≡ None → t.number ≡ n →
-    live_request n (live ++ t ∷ []) ≡ Some t.request
+request_new : (n : ℕ) (live : List TaskValue) (t : TaskValue) → live_by_number n live ≡ None → t.number ≡ n →
+    live_by_number n (live ++ t ∷ []) ≡ Some t.request
 request_new n [] t absent is = request_here n t [] is
 request_new n (x ∷ live) t absent is = go (same_or x.number n) (λ e. request_new n live t e is)
   where
     never : Some x.request ≡ None → ⊥
     never e = cc
 
-    go : (x.number ≡ n) ⊎ (x.number ≢ n) → (live_request n live ≡ None → live_request n (live ++ t ∷ []) ≡ Some t.request) →
-        live_request n (x ∷ live ++ t ∷ []) ≡ Some t.request
+    go : (x.number ≡ n) ⊎ (x.number ≢ n) → (live_by_number n live ≡ None → live_by_number n (live ++ t ∷ []) ≡ Some t.request) →
+        live_by_number n (x ∷ live ++ t ∷ []) ≡ Some t.request
     go (inl e) rest = absurd (never (sym (request_here n x live e) ∙ absent))
     go (inr o) rest = request_past n x (live ++ t ∷ []) o ∙ rest (sym (request_past n x live o) ∙ absent)
 
-request_kept : (n : ℕ) (live : List TaskValue) (t : TaskValue) → t.number ≢ n → live_request n (live ++ t ∷ []) ≡ live_request n live
+request_kept : (n : ℕ) (live : List TaskValue) (t : TaskValue) → t.number ≢ n → live_by_number n (live ++ t ∷ []) ≡ live_by_number n live
 request_kept n [] t other = request_past n t [] other
 request_kept n (x ∷ live) t other = go (same_or x.number n) (request_kept n live t other)
   where
-    go : (x.number ≡ n) ⊎ (x.number ≢ n) → live_request n (live ++ t ∷ []) ≡ live_request n live →
-        live_request n (x ∷ live ++ t ∷ []) ≡ live_request n (x ∷ live)
+    go : (x.number ≡ n) ⊎ (x.number ≢ n) → live_by_number n (live ++ t ∷ []) ≡ live_by_number n live →
+        live_by_number n (x ∷ live ++ t ∷ []) ≡ live_by_number n (x ∷ live)
     go (inl e) rest = request_here n x (live ++ t ∷ []) e ∙ sym (request_here n x live e)
     go (inr o) rest = request_past n x (live ++ t ∷ []) o ∙ rest ∙ sym (request_past n x live o)
 
 -- the same head in front of two lists
-same_head : (n : ℕ) (x y : TaskValue) (xs ys : List TaskValue) → x.number ≡ y.number → x.request ≡ y.request → live_request n xs ≡ live_request n ys →
-    live_request n (x ∷ xs) ≡ live_request n (y ∷ ys)
+same_head : (n : ℕ) (x y : TaskValue) (xs ys : List TaskValue) → x.number ≡ y.number → x.request ≡ y.request → live_by_number n xs ≡ live_by_number n ys →
+    live_by_number n (x ∷ xs) ≡ live_by_number n (y ∷ ys)
 same_head n x y xs ys number request rest = go (same_or y.number n)
   where
-    go : (y.number ≡ n) ⊎ (y.number ≢ n) → live_request n (x ∷ xs) ≡ live_request n (y ∷ ys)
+    go : (y.number ≡ n) ⊎ (y.number ≢ n) → live_by_number n (x ∷ xs) ≡ live_by_number n (y ∷ ys)
     go (inl e) = request_here n x xs (number ∙ e) ∙ ap Some request ∙ sym (request_here n y ys e)
     go (inr o) = request_past n x xs (λ e. o (sym number ∙ e)) ∙ rest ∙ sym (request_past n y ys o)
 
-with_other : (n k : ℕ) (q : Req) (live : List TaskValue) → k ≢ n → live_request n (with_request k q live) ≡ live_request n live
+with_other : (n k : ℕ) (q : Req) (live : List TaskValue) → k ≢ n → live_by_number n (with_request k q live) ≡ live_by_number n live
 with_other n k q [] other = refl
 with_other n k q (t ∷ live) other = go (same_or t.number k) (with_other n k q live other)
   where
-    go : (t.number ≡ k) ⊎ (t.number ≢ k) → live_request n (with_request k q live) ≡ live_request n live →
-        live_request n (with_request k q (t ∷ live)) ≡ live_request n (t ∷ live)
+    go : (t.number ≡ k) ⊎ (t.number ≢ k) → live_by_number n (with_request k q live) ≡ live_by_number n live →
+        live_by_number n (with_request k q (t ∷ live)) ≡ live_by_number n (t ∷ live)
     go (inl e) rest =
         let past : t.number ≢ n = λ f. other (sym e ∙ f) in
-        ap (live_request n) (with_here k q t live e) ∙ request_past n (record t { request = q }) live past ∙ sym (request_past n t live past)
-    go (inr o) rest = ap (live_request n) (with_past k q t live o) ∙ same_head n t t (with_request k q live) live refl refl rest
+        ap (live_by_number n) (with_here k q t live e) ∙ request_past n (record t { request = q }) live past ∙ sym (request_past n t live past)
+    go (inr o) rest = ap (live_by_number n) (with_past k q t live o) ∙ same_head n t t (with_request k q live) live refl refl rest
 
-without_other : (n k : ℕ) (live : List TaskValue) → k ≢ n → live_request n (without_request k live) ≡ live_request n live
+without_other : (n k : ℕ) (live : List TaskValue) → k ≢ n → live_by_number n (without_request k live) ≡ live_by_number n live
 without_other n k [] other = refl
 without_other n k (t ∷ live) other = go (same_or t.number k) (without_other n k live other)
   where
-    go : (t.number ≡ k) ⊎ (t.number ≢ k) → live_request n (without_request k live) ≡ live_request n live →
-        live_request n (without_request k (t ∷ live)) ≡ live_request n (t ∷ live)
-    go (inl e) rest = ap (live_request n) (without_here k t live e) ∙ sym (request_past n t live (λ f. other (sym e ∙ f)))
-    go (inr o) rest = ap (live_request n) (without_past k t live o) ∙ same_head n t t (without_request k live) live refl refl rest
+    go : (t.number ≡ k) ⊎ (t.number ≢ k) → live_by_number n (without_request k live) ≡ live_by_number n live →
+        live_by_number n (without_request k (t ∷ live)) ≡ live_by_number n (t ∷ live)
+    go (inl e) rest = ap (live_by_number n) (without_here k t live e) ∙ sym (request_past n t live (λ f. other (sym e ∙ f)))
+    go (inr o) rest = ap (live_by_number n) (without_past k t live o) ∙ same_head n t t (without_request k live) live refl refl rest
 
-without_is : (m n : ℕ) (live : List TaskValue) (top : ℕ) → Rising m live top → live_request n (without_request n live) ≡ None
+without_is : (m n : ℕ) (live : List TaskValue) (top : ℕ) → Rising m live top → live_by_number n (without_request n live) ≡ None
 without_is m n [] top rising = refl
 without_is m n (t ∷ live) top (first, rest) = go (same_or t.number n) (without_is t.number n live top rest)
   where
-    go : (t.number ≡ n) ⊎ (t.number ≢ n) → live_request n (without_request n live) ≡ None → live_request n (without_request n (t ∷ live)) ≡ None
+    go : (t.number ≡ n) ⊎ (t.number ≢ n) → live_by_number n (without_request n live) ≡ None → live_by_number n (without_request n (t ∷ live)) ≡ None
     go (inl e) behind =
-        ap (live_request n) (without_here n t live e) ∙ none_below t.number n live top (omega (arith, e)) rest
-    go (inr o) behind = ap (live_request n) (without_past n t live o) ∙ request_past n t (without_request n live) o ∙ behind
+        ap (live_by_number n) (without_here n t live e) ∙ none_below t.number n live top (omega (arith, e)) rest
+    go (inr o) behind = ap (live_by_number n) (without_past n t live o) ∙ request_past n t (without_request n live) o ∙ behind
 
-left_is : (n : ℕ) (live : List TaskValue) → live_request n (map abandoned_task live) ≡ option_map abandon (live_request n live)
+left_is : (n : ℕ) (live : List TaskValue) → live_by_number n (map abandoned_task live) ≡ option_map abandon (live_by_number n live)
 left_is n [] = refl
 left_is n (t ∷ live) = go (same_or t.number n) (left_is n live)
   where
-    go : (t.number ≡ n) ⊎ (t.number ≢ n) → live_request n (map abandoned_task live) ≡ option_map abandon (live_request n live) →
-        live_request n (abandoned_task t ∷ map abandoned_task live) ≡ option_map abandon (live_request n (t ∷ live))
+    go : (t.number ≡ n) ⊎ (t.number ≢ n) → live_by_number n (map abandoned_task live) ≡ option_map abandon (live_by_number n live) →
+        live_by_number n (abandoned_task t ∷ map abandoned_task live) ≡ option_map abandon (live_by_number n (t ∷ live))
     go (inl e) rest = request_here n (abandoned_task t) (map abandoned_task live) e ∙ ap (option_map abandon) (sym (request_here n t live e))
     go (inr o) rest =
         request_past n (abandoned_task t) (map abandoned_task live) o ∙ rest ∙ ap (option_map abandon) (sym (request_past n t live o))
@@ -134,7 +134,7 @@ Begun n top (Over v) = n ≤ top
 record Knows (shape : Shape) (n : ℕ) (crew : CrewValue) (p : Progress) : Type 0 where
   of : crew.shape ≡ shape
   rising : Rising 0 crew.live crew.newest
-  live : live_request n crew.live ≡ going p
+  live : live_by_number n crew.live ≡ under_way p
   begun : Begun n crew.newest p
 
 -- one event
@@ -143,7 +143,7 @@ record Told (shape : Shape) (n : ℕ) (e : CrewEvent) (p : Progress) (new : Crew
   tells : TellsOf shape n e p progress
   knows : Knows shape n new progress
 
-going_is : (p : Progress) (q : Req) → Some q ≡ going p → p ≡ Going q
+going_is : (p : Progress) (q : Req) → Some q ≡ under_way p → p ≡ Going q
 going_is Unbegun q is = absurd (never is)
   where
     never : Some q ≡ None → ⊥
@@ -191,7 +191,7 @@ calls : (shape : Shape) (n : ℕ) (crew : CrewValue) (c : RequestCall) (p : Prog
     (c.request ≡ n) ⊎ (c.request ≢ n) → Told shape n (Called c) p new
 calls shape n crew c p new k does (inl e) =
     let q = does.request in
-    let is : p ≡ Going q = going_is p q (sym does.is_live ∙ ap (λ i. live_request i crew.live) e ∙ k.live) in
+    let is : p ≡ Going q = going_is p q (sym does.is_live ∙ ap (λ i. live_by_number i crew.live) e ∙ k.live) in
     let r : Req = followed shape.align q c.reply in
     let same : new ≡ record crew { live = with_request n r crew.live } =
     subst (λ i. new ≡ record crew { live = with_request i r crew.live }) e
@@ -204,7 +204,7 @@ calls shape n crew c p new k does (inl e) =
       knows = subst (λ w. Knows shape n w (Going r)) (sym same) (record {
         of = k.of;
         rising = rising_with 0 n r crew.live crew.newest k.rising;
-        live = with_is n q r crew.live (ap (λ i. live_request i crew.live) (sym e) ∙ does.is_live);
+        live = with_is n q r crew.live (ap (λ i. live_by_number i crew.live) (sym e) ∙ does.is_live);
         begun = subst (Begun n crew.newest) is k.begun;
       });
     }
@@ -225,7 +225,7 @@ answers : (shape : Shape) (n : ℕ) (crew : CrewValue) (i : ℕ) (v : Verdict) (
     (i ≡ n) ⊎ (i ≢ n) → Told shape n (Answered i v) p new
 answers shape n crew i v p new k does (inl e) =
     let q = does.request in
-    let is : p ≡ Going q = going_is p q (sym does.is_live ∙ ap (λ j. live_request j crew.live) e ∙ k.live) in
+    let is : p ≡ Going q = going_is p q (sym does.is_live ∙ ap (λ j. live_by_number j crew.live) e ∙ k.live) in
     let same : new ≡ record crew { live = without_request n crew.live } =
     subst (λ j. new ≡ record crew { live = without_request j crew.live }) e does.live in
     record {
@@ -249,7 +249,7 @@ answers shape n crew i v p new k does (inr o) = record {
   });
 }
 
-left_going : (p : Progress) → option_map abandon (going p) ≡ going (left_behind p)
+left_going : (p : Progress) → option_map abandon (under_way p) ≡ under_way (left_behind p)
 left_going Unbegun = refl
 left_going (Going q) = refl
 left_going (Over v) = refl
@@ -278,8 +278,8 @@ told shape n crew Left p new k is = record {
 
 -- all events
 walked : (shape : Shape) (n : ℕ) (crew : CrewValue) (events : List CrewEvent) (p : Progress) (new : CrewValue) → Knows shape n crew p →
-    CrewRuns crew events new → (r : Progress) × WalkOf shape n p events r × (live_request n new.live ≡ going r)
-walked shape n crew [] p new k at = (p, refl, ap (λ w. live_request n w.live) at ∙ k.live)
+    CrewRuns crew events new → (r : Progress) × WalkOf shape n p events r × (live_by_number n new.live ≡ under_way r)
+walked shape n crew [] p new k at = (p, refl, ap (λ w. live_by_number n w.live) at ∙ k.live)
 walked shape n crew (e ∷ events) p new k (mid, step, rest) =
     let one = told shape n crew e p mid k step in
     let behind = walked shape n mid events one.progress new one.knows rest in

@@ -9,7 +9,7 @@ use Rattle.qs_task.specs.declared.need.Polled.{Polled}
 use Rattle.qs_task.specs.declared.need.Polled.TheVariants.{Ready as IsReady, Pending as IsPending}
 use Rattle.qs_task.specs.Books.{Book, RequestCall, notes, noted}
 use Rattle.qs_task.specs.Walks.{IsNextCall, WalksTo, GoOn, wait_after}
-use Rattle.qs_task.specs.Tasks.{TaskValue, IsAnswered, RunsTo, Moves, Polls}
+use Rattle.qs_task.specs.Tasks.{TaskValue, IsAnsweredTask, RunsTo, Moves, Polls}
 
 -- one call more at the end of a walk
 pub walks_more : (shape : Shape) (n : ℕ) (q : Req) (calls : List RequestCall) (t : Req) (c : RequestCall) →
@@ -161,7 +161,7 @@ polled_more need old now new before mid after so one =
     }
 
 pub polled_over : (v : Verdict) (old now new : TaskValue) (before mid after : Book) → PolledOn old now before mid →
-    Polls (IsReady v) now new mid after → RunsTo v old before after × IsAnswered old new
+    Polls (IsReady v) now new mid after → RunsTo v old before after × IsAnsweredTask old new
 polled_over v old now new before mid after so one = (
   record {
     calls = so.calls ++ one.calls;

@@ -38,9 +38,9 @@ pub data CrewEvent : Type 0 where
   Left : CrewEvent
 
 -- the live request with a number
-abbrev pub live_request : ℕ → List TaskValue → Option Req
-live_request n [] = None
-live_request n (t ∷ live) = if t.number == n then Some t.request else live_request n live
+abbrev pub live_by_number : ℕ → List TaskValue → Option Req
+live_by_number n [] = None
+live_by_number n (t ∷ live) = if t.number == n then Some t.request else live_by_number n live
 
 -- request n is q now
 abbrev pub with_request : ℕ → Req → List TaskValue → List TaskValue
@@ -64,14 +64,14 @@ pub record MayBegin (crew : CrewValue) (t : TaskValue) : Type 0 where
 -- a live request makes its next call, and is q after it
 pub record CallsNext (crew : CrewValue) (c : RequestCall) (new : CrewValue) : Type 0 where
   pub request : Req
-  pub is_live : live_request c.request crew.live ≡ Some request
+  pub is_live : live_by_number c.request crew.live ≡ Some request
   pub next : IsNextCall crew.shape c.request request c
   pub live : new ≡ record crew { live = with_request c.request (followed crew.shape.align request c.reply) crew.live }
 
 -- a live request that is ready gives its answer, and isn't live any more
 pub record AnswersNext (crew : CrewValue) (n : ℕ) (v : Verdict) (new : CrewValue) : Type 0 where
   pub request : Req
-  pub is_live : live_request n crew.live ≡ Some request
+  pub is_live : live_by_number n crew.live ≡ Some request
   pub ready : request.stage ≡ Ready v
   pub live : new ≡ record crew { live = without_request n crew.live }
 
@@ -114,16 +114,16 @@ WalkOf shape n p [] r = r ≡ p
 WalkOf shape n p (e ∷ events) r = (mid : Progress) × TellsOf shape n e p mid × WalkOf shape n mid events r
 
 -- the live requests are those that go on
-abbrev pub going : Progress → Option Req
-going (Going q) = Some q
-going _ = None
+abbrev pub under_way : Progress → Option Req
+under_way (Going q) = Some q
+under_way _ = None
 
 -- The story of request n: its calls are its walk through the request table, each once, up to its answer or to where it
 -- is now.
 pub record HasWalk (shape : Shape) (n : ℕ) (events : List CrewEvent) (crew : CrewValue) : Type 0 where
   pub progress : Progress
   pub walk : WalkOf shape n Unbegun events progress
-  pub live : live_request n crew.live ≡ going progress
+  pub live : live_by_number n crew.live ≡ under_way progress
 
 -- a poll of the task at a place of the list
 abbrev pub PollsAt : CrewPoll → ℕ → TaskValue → List TaskValue → List TaskValue → Book → Book → Type 0
@@ -134,14 +134,14 @@ PollsAt (HasAnswered ask v) at t old new before after =
     (u : TaskValue) × Polls (IsReady v) t u before after × (ask ≡ t.request.client.ask) × (new ≡ remove old at)
 
 -- all calls are of request n
-abbrev pub AreOf : ℕ → List RequestCall → Type 0
-AreOf n [] = Unit {0}
-AreOf n (c ∷ calls) = (c.request ≡ n) × AreOf n calls
+abbrev pub AreCallsOf : ℕ → List RequestCall → Type 0
+AreCallsOf n [] = Unit {0}
+AreCallsOf n (c ∷ calls) = (c.request ≡ n) × AreCallsOf n calls
 
 -- A poll of request n that ended in a wait: it made these calls, and has to wait for just this after the last one.
 pub record PollWaits (n : ℕ) (need : Need) (old new : CrewValue) (before after : Book) : Type 0 where
   pub calls : List RequestCall
-  pub numbered : AreOf n calls
+  pub numbered : AreCallsOf n calls
   pub runs : CrewRuns old (map Called calls) new
   pub booked : after ≡ noted calls before
   pub stops : StopsFor need calls
@@ -149,14 +149,14 @@ pub record PollWaits (n : ℕ) (need : Need) (old new : CrewValue) (before after
 -- a poll that answered request n: it made these calls, and had to wait after none
 pub record PollAnswers (n : ℕ) (ask : Ask) (v : Verdict) (old new : CrewValue) (before after : Book) : Type 0 where
   pub calls : List RequestCall
-  pub numbered : AreOf n calls
+  pub numbered : AreCallsOf n calls
   pub runs : CrewRuns old (map Called calls ++ Answered n v ∷ []) new
   pub booked : after ≡ noted calls before
   pub went : GoOn calls
-  pub asked : option_map (λ q. q.client.ask) (live_request n old.live) ≡ Some ask
+  pub asked : option_map (λ q. q.client.ask) (live_by_number n old.live) ≡ Some ask
 
 -- a poll of request n of a crew
 abbrev pub CrewPolls : CrewPoll → ℕ → CrewValue → CrewValue → Book → Book → Type 0
-CrewPolls NoSuch n old new before after = (live_request n old.live ≡ None) × (new ≡ old) × (after ≡ before)
+CrewPolls NoSuch n old new before after = (live_by_number n old.live ≡ None) × (new ≡ old) × (after ≡ before)
 CrewPolls (StillPending need) n old new before after = PollWaits n need old new before after
 CrewPolls (HasAnswered ask v) n old new before after = PollAnswers n ask v old new before after

@@ -18,7 +18,7 @@ pub record TaskValue : Type 0 where
   pub over : Bool
 
 -- an answered task, of which nothing more is asked
-pub record IsAnswered (old new : TaskValue) : Type 0 where
+pub record IsAnsweredTask (old new : TaskValue) : Type 0 where
   pub over : new.over ≡ true
   pub number : new.number ≡ old.number
   pub shape : new.shape ≡ old.shape
@@ -39,7 +39,7 @@ pub record TaskCalls (wait : Option Need) (old new : TaskValue) (before after : 
 -- a task gave its answer, and made no call
 pub record GivesAnswer (v : Verdict) (old new : TaskValue) (before after : Book) : Type 0 where
   pub ready : old.request.stage ≡ Ready v
-  pub answered : IsAnswered old new
+  pub answered : IsAnsweredTask old new
   pub booked : after ≡ before
 
 -- a poll ends after a call after which the request has to wait
@@ -56,7 +56,7 @@ Moves (Some (IsReady v)) old new before after = GivesAnswer v old new before aft
 -- How a poll ends, after these calls, which led to the request t: ready with the answer of t, and it had to wait after
 -- no call; or pending, and it had to wait for just this after the last call.
 abbrev pub PollEnds : Polled → List RequestCall → Req → TaskValue → TaskValue → Type 0
-PollEnds (IsReady v) calls t old new = GoOn calls × (t.stage ≡ Ready v) × IsAnswered old new
+PollEnds (IsReady v) calls t old new = GoOn calls × (t.stage ≡ Ready v) × IsAnsweredTask old new
 PollEnds (IsPending need) calls t old new = StopsFor need calls × (new ≡ record old { request = t })
 
 -- A poll of a task: its calls are the next ones of its request, in the order of the request table, and those alone

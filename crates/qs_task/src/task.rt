@@ -2,7 +2,7 @@ ghost use Rattle.std.specs.Prelude.{◌≡◌, false, true, if◌then◌else◌,
 ghost use Rattle.qs_model.specs.Requests.{abandon};
 ghost use Rattle.qs_request.specs.Table.{FitsPart, Wants};
 ghost use Rattle.qs_task.specs.Books.{IsOperation};
-ghost use Rattle.qs_task.specs.Tasks.{IsAnswered, MakesCall, Moves, Polls, RunsTo, pause};
+ghost use Rattle.qs_task.specs.Tasks.{IsAnsweredTask, MakesCall, Moves, Polls, RunsTo, pause};
 
 use crate::need::{Need, Polled, is_wait, part_of};
 use crate::station::Station;
@@ -199,7 +199,7 @@ impl RequestTask {
         requires unanswered { self.old.over ≡ false }
         ensures of { S.is_of hall.now station.new }
         ensures runs { RunsTo result self.old (S.book station.old) (S.book station.new) }
-        ensures answered { IsAnswered self.old self.new }
+        ensures answered { IsAnsweredTask self.old self.new }
         ensures later { S.follows station.old station.new }
     {
         for _ in rt.forever() {

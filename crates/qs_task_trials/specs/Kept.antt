@@ -45,8 +45,8 @@ stripe_answer (Store b k buf) = Done buf
 stripe_answer (Free b k) = Freed
 stripe_answer Sync = Synced
 
-abbrev pub answer_of : Bool → Way → Todo → PartReply
-answer_of busy way (OnTracker op) = ByTracker (tracker_answer busy op)
-answer_of busy way (OnGraph e) = ByGraph (Routed way)
-answer_of busy way (OnStripe s op) = ByStripe (stripe_answer op)
-answer_of busy way (Answer v) = ByTracker Strange
+abbrev pub part_answer : Bool → Way → Todo → PartReply
+part_answer busy way (OnTracker op) = ByTracker (tracker_answer busy op)
+part_answer busy way (OnGraph e) = ByGraph (Routed way)
+part_answer busy way (OnStripe s op) = ByStripe (stripe_answer op)
+part_answer busy way (Answer v) = ByTracker Strange

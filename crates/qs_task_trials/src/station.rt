@@ -1,6 +1,6 @@
 ghost use Rattle.std.specs.Prelude.{◌≡◌, ◌+◌, ◌≤◌, ◌++◌, ◌∷◌, []};
 ghost use Rattle.qs_task.specs.Books.{IsOperation};
-ghost use Rattle.qs_task_trials.specs.Kept.{answer_of, kept_book, stripe_answer, tracker_answer};
+ghost use Rattle.qs_task_trials.specs.Kept.{part_answer, kept_book, stripe_answer, tracker_answer};
 
 use crate::copies::{todo_copy, wait_for_ever};
 use qs_part::graph::{GraphReply, Route};
@@ -58,7 +58,7 @@ fn stripe_answer(op: StripeOp) -> StripeReply
 /// How the parts answer.
 fn answer(busy: bool, way: Route, todo: Todo) -> PartReply
     requires { IsOperation todo }
-    ensures { result ≡ answer_of busy way todo }
+    ensures { result ≡ part_answer busy way todo }
 {
     match todo {
         Todo::Tracker(op) => PartReply::Tracker(tracker_answer(busy, op)),

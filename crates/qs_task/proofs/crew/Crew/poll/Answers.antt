@@ -1,7 +1,7 @@
 use Rattle.std.proofs.Common.{ℕ, ◌≤◌, ◌==◌, List, sym, ap, subst, refl, ◌∙◌}
 use Rattle.std.specs.Prelude.{position}
 use Rattle.qs_task.specs.Tasks.{TaskValue}
-use Rattle.qs_task.specs.Crews.{CrewValue, CrewPolls, live_request}
+use Rattle.qs_task.specs.Crews.{CrewValue, CrewPolls, live_by_number}
 use Rattle.qs_task.proofs.Crewing.{found_none, polls_there, still_manned}
 use Rattle.qs_task.proofs.crew.Crew.poll.Goals as goal
 
@@ -16,7 +16,7 @@ invariant_of-self g c =
 pub returns-in-None-clause-polls : goal.returns-in-None-clause-polls
 returns-in-None-clause-polls g c =
     let place = ap (λ (ts : List TaskValue). position (λ t. t.number == c.args.number) ts) (sym c.deref.ensures.value) ∙ sym c.find.ensures ∙ c.in-None.is in (
-      ap (λ (w : CrewValue). live_request c.args.number w.live) (sym c.self.view_is) ∙ found_none c.args.number c.self.inside.tasks.items place,
+      ap (λ (w : CrewValue). live_by_number c.args.number w.live) (sym c.self.view_is) ∙ found_none c.args.number c.self.inside.tasks.items place,
       refl,
       refl,
     )
