@@ -1,0 +1,4 @@
+pub mod Walking
+pub mod Crewing
+pub mod Telling
+pub mod Waiting

@@ -1,0 +1,5 @@
+pub mod Books
+pub mod Walks
+pub mod Tasks
+pub mod Crews
+pub mod Stories
