@@ -26,7 +26,7 @@ module _ {L : Type 0} where
   -- how many of these links have this place
   abbrev pub count_at : ℕ → List (LinkAt L) → ℕ
   count_at place [] = 0
-  count_at place (x ∷ xs) = (if x.at == place then 1 else 0) + count_at place xs
+  count_at place (x ∷ xs) = (if place == x.at then 1 else 0) + count_at place xs
 
 -- a sum over all members
 abbrev pub summed : {A : Type 0} → (A → ℕ) → List A → ℕ

@@ -6,6 +6,8 @@ mod crossing;
 mod ledger;
 mod pool;
 mod rule;
+#[cfg(test)]
+mod tests;
 
 pub use crossing::cross_threads;
 pub use pool::{Pool, PoolPass, ROOM};
