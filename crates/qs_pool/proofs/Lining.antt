@@ -52,8 +52,7 @@ module _ {L : Type 0} where
       let line : List L = h.taken ++ waiting in
       let w : Ledger L = ledger (v.put ++ link_at (length line) x ∷ []) v.got in
       let longer : line ++ x ∷ [] ≡ h.taken ++ (waiting ++ x ∷ []) = append_assoc h.taken waiting (x ∷ []) in
-      let own = h.stand pass v at in
-      (
+      let own = h.stand pass v at in (
         w,
         record {
           taken = h.taken;
@@ -70,8 +69,7 @@ module _ {L : Type 0} where
       let front : List L = h.taken ++ x ∷ [] in
       let w : Ledger L = ledger v.put (v.got ++ link_at (length h.taken) x ∷ []) in
       let same : h.taken ++ (x ∷ waiting) ≡ front ++ waiting = sym (append_assoc h.taken (x ∷ []) waiting) in
-      let own = h.stand pass v at in
-      (
+      let own = h.stand pass v at in (
         w,
         record {
           taken = front;

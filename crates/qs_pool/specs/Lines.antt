@@ -2,8 +2,14 @@
 use Rattle.std.specs.Prelude.{◌≡◌, ℕ, ◌+◌, ◌<◌, ◌==◌, nat_lt, if◌then◌else◌, List, [], ◌∷◌, ◌++◌, length, ⊤}
 use mathlib.Core.Option.{some}
 use lib.ListN.{get_elem?}
+use Rattle.atomic_table.specs.Seated.{TableId}
+use Rattle.crossbeam_queue.specs.Passes.{Pass}
 use Rattle.qs_pool.specs.declared.ledger.LinkAt.{LinkAt}
 use Rattle.qs_pool.specs.declared.ledger.Ledger.{Ledger}
+
+-- it is a pass of this pool
+abbrev pub IsOfPool : {T V : Type 0} → TableId → Pass T V → Type 0
+IsOfPool pool pass = (pass.table_id ≡ pool) × (pass.me.1 ≡ [])
 
 module _ {L : Type 0} where
   abbrev pub link_at : ℕ → L → LinkAt L

@@ -1,4 +1,4 @@
-ghost use Rattle.crossbeam_queue.specs.Passes.{IsPassOf};
+ghost use Rattle.qs_pool.specs.Lines.{IsOfPool};
 
 use crate::{Pool, PoolPass, ROOM};
 use std::sync::Wait;
@@ -13,8 +13,8 @@ fn put_all<R: Wait>(
     first: u64,
     count: u64,
 ) -> PoolPass<u64>
-    requires { IsPassOf pool.now.queue pass }
-    ensures { IsPassOf pool.now.queue result }
+    requires { IsOfPool pool.now pass }
+    ensures { IsOfPool pool.now result }
 {
     let mut next = 0;
     for _ in rt.forever() {
@@ -36,8 +36,8 @@ fn take_all<R: Wait>(
     mut pass: PoolPass<u64>,
     count: u64,
 ) -> (u64, bool, PoolPass<u64>)
-    requires { IsPassOf pool.now.queue pass }
-    ensures { IsPassOf pool.now.queue result.2 }
+    requires { IsOfPool pool.now pass }
+    ensures { IsOfPool pool.now result.2 }
 {
     let (mut taken, mut sum, mut last, mut rising) = (0, 0_u64, 0, true);
     for _ in rt.forever() {
@@ -82,12 +82,12 @@ fn links_go_from_thread_to_thread(rt: HostRuntime) -> Result<(), Fail> {
     let (mut mine, (sum, rising, theirs)) = join(
         &rt,
         move || -> PoolPass<u64>
-            requires { IsPassOf shared.now.queue mine }
-            ensures { IsPassOf shared.entry.now.queue result }
+            requires { IsOfPool shared.now mine }
+            ensures { IsOfPool shared.entry.now result }
         { put_all(&rt, shared, mine, 1, 1000) },
         move || -> (u64, bool, PoolPass<u64>)
-            requires { IsPassOf shared.now.queue theirs }
-            ensures { IsPassOf shared.entry.now.queue result.2 }
+            requires { IsOfPool shared.now theirs }
+            ensures { IsOfPool shared.entry.now result.2 }
         { take_all(&rt, shared, theirs, 1000) },
     );
     pool.join(&mut mine, theirs);
@@ -106,21 +106,21 @@ fn two_workers_share_what_is_put(rt: HostRuntime) -> Result<(), Fail> {
     let (sums, _mine) = join(
         &rt,
         move || -> (u64, u64)
-            requires { IsPassOf shared.now.queue one × IsPassOf shared.now.queue two }
+            requires { IsOfPool shared.now one × IsOfPool shared.now two }
         {
             let (first, second) = join(
                 &rt,
                 move || -> (u64, bool, PoolPass<u64>)
-                    requires { IsPassOf shared.now.queue one }
+                    requires { IsOfPool shared.now one }
                 { take_all(&rt, shared, one, 500) },
                 move || -> (u64, bool, PoolPass<u64>)
-                    requires { IsPassOf shared.now.queue two }
+                    requires { IsOfPool shared.now two }
                 { take_all(&rt, shared, two, 500) },
             );
             (first.0, second.0)
         },
         move || -> PoolPass<u64>
-            requires { IsPassOf shared.now.queue mine }
+            requires { IsOfPool shared.now mine }
         { put_all(&rt, shared, mine, 1, 1000) },
     );
     assert_eq!(rt; sums.0.wrapping_add(sums.1), 500_500);
