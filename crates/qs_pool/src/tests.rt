@@ -59,16 +59,14 @@ fn take_all<R: Wait>(
 
 #[test]
 fn a_full_pool_gives_the_link_back(rt: HostRuntime) -> Result<(), Fail> {
-    let pool = Pool::new(rt.alloc())?;
+    let pool: Pool<u64> = Pool::new(rt.alloc())?;
     let mut pass = pool.pass();
     assert_eq!(rt; pool.take(&rt, &mut pass), None);
-    for link in 0..ROOM {
-        assert_eq!(rt; pool.put(&rt, &mut pass, link), Ok(()));
-    }
+    let mut pass = put_all(&rt, &pool, pass, 1, ROOM as u64);
     assert_eq!(rt; pool.put(&rt, &mut pass, 99), Err(99));
-    for link in 0..ROOM {
-        assert_eq!(rt; pool.take(&rt, &mut pass), Some(link));
-    }
+    let (sum, rising, mut pass) = take_all(&rt, &pool, pass, ROOM as u64);
+    assert_eq!(rt; sum, 64 * 65 / 2);
+    assert!(rt; rising);
     assert_eq!(rt; pool.take(&rt, &mut pass), None);
     Ok(())
 }
