@@ -1,6 +1,6 @@
 """Speed of the program beside that of the floor: requests a second and MB a second over a pipe.
 
-    python3 bench/speed.py [PROGRAM] [--align N] [--only WORK] [--seconds S] [--rounds N]
+    python3 bench/speed.py [PROGRAM] [--align N] [--only WORK] [--seconds S] [--rounds N] [--before PROGRAM]
 
 READs and WRITEs of 4 KiB and of 256 KiB at random places, one at a time and 16 in flight; a WRITE of
 4 KiB or of 1 MiB and a FLUSH behind it; a WRITE_ZEROES of 256 MiB. Each at multiples of its size and one
@@ -9,6 +9,9 @@ each case N times for S seconds, the program and the floor one after the other, 
 each as a table. `processor` is the time of a processor, in microseconds a request, that the server used,
 and behind the slash the client. A second table has the calls of the system that a request makes, counted
 by strace where it is there.
+
+With --before PROGRAM an earlier build takes turns with the program in place of the floor, and the medians of
+the ratios within each round are told: how many requests a second, and how much of a processor's time.
 """
 import argparse
 import collections
@@ -165,6 +168,20 @@ def print_speeds(client, servers, cases, seconds, rounds):
         print_row(cells + [f"{program.rate / floor.rate:.2f}"])
 
 
+def print_turns(client, servers, cases, seconds, rounds):
+    names = ["program requests/s", "processor", "before requests/s", "processor", "rate / before", "processor / before"]
+    print_head(CASE_NAMES + names, len(CASE_NAMES))
+    for case, align in cases:
+        found = [[run_case(client, server, case, seconds) for server in servers(align)] for _ in range(rounds)]
+        cells = tell_case(case, align)
+        for figures in (median(runs) for runs in zip(*found)):
+            cells.append(f"{figures.rate:,.0f}" if figures.rate >= 10 else f"{figures.rate:.2f}")
+            cells.append(f"{figures.server_micros:,.1f}")
+        cells.append(f"{statistics.median(now.rate / then.rate for now, then in found):.2f}")
+        cells.append(f"{statistics.median(now.server_micros / then.server_micros for now, then in found):.2f}")
+        print_row(cells)
+
+
 def print_calls(client, servers, cases, folder):
     print_head(CASE_NAMES + ["program's calls a request", "floor's"], len(CASE_NAMES) + 2)
     for case, align in cases:
@@ -179,6 +196,7 @@ def read_words():
     parser.add_argument("--only", choices=sorted(KINDS), help="one kind of work alone")
     parser.add_argument("--seconds", type=float, default=2.0, help="the time of one run")
     parser.add_argument("--rounds", type=int, default=3, help="runs of each case")
+    parser.add_argument("--before", metavar="PROGRAM", help="an earlier build, in place of the floor")
     words = parser.parse_args()
     if not os.path.exists(words.program):
         sys.exit(f"no program at {words.program}: build it first")
@@ -201,8 +219,21 @@ def main():
     with tempfile.TemporaryDirectory(dir=OUT) as folder:
         image = make_image(folder)
 
+        def server(program, align):
+            return [os.path.abspath(program), "--transmission", "--align", str(align), image]
+
+        if words.before:
+            print_turns(
+                client,
+                lambda align: [server(program, align) for program in (words.program, words.before)],
+                cases,
+                words.seconds,
+                words.rounds,
+            )
+            return
+
         def servers(align):
-            return [os.path.abspath(words.program), "--transmission", "--align", str(align), image], [floor, image]
+            return server(words.program, align), [floor, image]
 
         print_speeds(client, servers, cases, words.seconds, words.rounds)
         print()
