@@ -8,10 +8,16 @@ use Rattle.qs_replay.proofs.replay.do_line.Goals as goal
 
 pub returns-then-is_quiet-clause-puts : goal.returns-then-is_quiet-clause-puts
 returns-then-is_quiet-clause-puts g c =
-    let quiet : IsQuiet c.args.text.now = search rules in
-    ([], [], (record {
-      line = Nothing;
-      lost = false;
-      reads = quiet;
-      is = record { plays = refl; does = record { calls_are = refl; text_is = refl; same = refl } };
-    }, puts_none _ c.args.stream.now [] refl))
+    let quiet : IsQuiet c.args.text.now = search rules in (
+      [],
+      [],
+      (
+        record {
+          line = Nothing;
+          lost = false;
+          reads = quiet;
+          is = record { plays = refl; does = record { calls_are = refl; text_is = refl; same = refl } };
+        },
+        puts_none _ c.args.stream.now [] refl,
+      ),
+    )
