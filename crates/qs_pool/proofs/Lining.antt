@@ -1,11 +1,11 @@
 -- Each step of a pool keeps its rule.
-use Rattle.std.proofs.Common.{◌≡◌, ◌≢◌, ℕ, zero, suc, ◌+◌, ◌<◌, ◌≤◌, List, [], ◌∷◌, ◌++◌, length, set, refl, sym, ap, ◌∙◌, subst, ⊎_elim, append_assoc, arith}
+use Rattle.std.proofs.Common.{◌≡◌, ◌≢◌, ℕ, zero, suc, ◌+◌, ◌<◌, List, [], ◌∷◌, ◌++◌, length, set, refl, sym, ap, ◌∙◌, subst, ⊎_elim, append_assoc, arith}
 use Rattle.std.proofs.lemmas.List.{length-append}
 use mathlib.Core.Option.{some, some-ne-none}
 use lib.ListN.{get_elem?}
 use Rattle.crossbeam_queue.specs.Fifo.{Admits, Learns, Merges, Pops, Pushes}
 use Rattle.crossbeam_queue.proofs.Lists.{at_last, at_longer, at_set, at_snoc, set_else}
-use Rattle.qs_pool.specs.Lines.{AllBefore, InLine, IsFair, PutsLink, StandInLine, TakesLink, WaitIn, count_at, ledger, link_at, one_below, summed}
+use Rattle.qs_pool.specs.Lines.{AllBefore, InLine, IsFair, PutsLink, StandInLine, TakesLink, WaitIn, count_at, ledger, link_at, one_below}
 use Rattle.qs_pool.specs.declared.ledger.LinkAt.{LinkAt}
 use Rattle.qs_pool.specs.declared.ledger.Ledger.{Ledger}
 use Rattle.qs_pool.proofs.Sums.{counted_joined, counted_more, counted_same, one_at_most, summed_one, summed_snoc}
