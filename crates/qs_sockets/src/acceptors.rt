@@ -1,4 +1,5 @@
-ghost use Rattle.std.specs.Prelude.{None};
+ghost use Rattle.std.specs.Prelude.{◌≡◌, ◌↔◌, None, IsOk};
+ghost use Rattle.qs_outside.specs.Faults.{HasCause};
 
 use crate::bind_fault::BindFault;
 use crate::old_file::remove_dead;
@@ -12,6 +13,17 @@ use std::io;
 use std::net::{self, Net, SocketAddr, ToSocketAddrs};
 use std::os::unix::net as unix;
 use std::sync::Wait;
+
+/// The socket of a client that came. That none came is counted.
+fn socket_of<S>(answer: io::Result<S>, faults: &mut Faults) -> Result<Socket<S>, Failed>
+    ensures cause { HasCause faults.old.count faults.new.count result }
+    ensures came { IsOk result ↔ IsOk answer }
+{
+    match answer {
+        Ok(stream) => Ok(Socket::new(stream)),
+        Err(error) => Err(faults.note(error)),
+    }
+}
 
 /// Clients of a Unix socket.
 #[derive(Drop)]
@@ -46,10 +58,21 @@ impl UnixAcceptor {
 }
 
 /// The next client of a Unix socket.
-fn next_unix(listener: &unix::UnixListener) -> io::Result<UnixStream> {
+fn accept_unix(listener: &unix::UnixListener) -> io::Result<UnixStream> {
     let (stream, _address) = listener.accept()?;
     stream.set_nonblocking(true)?;
     Ok(UnixStream::from_std(stream))
+}
+
+/// The next client, also where a signal came.
+fn next_unix<R: Wait>(rt: &R, listener: &unix::UnixListener) -> io::Result<UnixStream> {
+    for _ in rt.forever() {
+        match accept_unix(listener) {
+            Err(error) if error.kind() == io::ErrorKind::Interrupted => {}
+            answer => return answer,
+        }
+    }
+    unreachable!()
 }
 
 impl Acceptor for UnixAcceptor {
@@ -60,14 +83,7 @@ impl Acceptor for UnixAcceptor {
     ghost faults = { λ a. a.faults.count };
 
     fn accept<R: Wait>(&mut self, rt: &R) -> Result<Socket<UnixStream>, Failed> {
-        for _ in rt.forever() {
-            match next_unix(&self.listener) {
-                Ok(stream) => return Ok(Socket::new(stream)),
-                Err(error) if error.kind() == io::ErrorKind::Interrupted => {}
-                Err(error) => return Err(self.faults.note(error)),
-            }
-        }
-        unreachable!()
+        socket_of(next_unix(rt, &self.listener), &mut self.faults)
     }
 }
 
@@ -80,7 +96,7 @@ pub struct TcpAcceptor {
 
 impl TcpAcceptor {
     /// Listens at this address, or at the first of several that can be had.
-    pub fn bind<R: Net<Listener = net::TcpListener>, A: ToSocketAddrs>(
+    pub fn bind<R: Net<Listener = net::TcpListener, Stream = net::TcpStream>, A: ToSocketAddrs>(
         rt: &R,
         address: A,
     ) -> Result<Self, BindFault> {
@@ -105,11 +121,22 @@ impl TcpAcceptor {
 }
 
 /// The next client of a TCP port. What is written to it goes at once, and isn't gathered.
-fn next_tcp(listener: &net::TcpListener) -> io::Result<TcpStream> {
+fn accept_tcp(listener: &net::TcpListener) -> io::Result<TcpStream> {
     let (stream, _address) = listener.accept()?;
     stream.set_nonblocking(true)?;
     stream.set_nodelay(true)?;
     Ok(TcpStream::from_std(stream))
+}
+
+/// The next client, also where a signal came.
+fn next_tcp<R: Wait>(rt: &R, listener: &net::TcpListener) -> io::Result<TcpStream> {
+    for _ in rt.forever() {
+        match accept_tcp(listener) {
+            Err(error) if error.kind() == io::ErrorKind::Interrupted => {}
+            answer => return answer,
+        }
+    }
+    unreachable!()
 }
 
 impl Acceptor for TcpAcceptor {
@@ -120,13 +147,6 @@ impl Acceptor for TcpAcceptor {
     ghost faults = { λ a. a.faults.count };
 
     fn accept<R: Wait>(&mut self, rt: &R) -> Result<Socket<TcpStream>, Failed> {
-        for _ in rt.forever() {
-            match next_tcp(&self.listener) {
-                Ok(stream) => return Ok(Socket::new(stream)),
-                Err(error) if error.kind() == io::ErrorKind::Interrupted => {}
-                Err(error) => return Err(self.faults.note(error)),
-            }
-        }
-        unreachable!()
+        socket_of(next_tcp(rt, &self.listener), &mut self.faults)
     }
 }

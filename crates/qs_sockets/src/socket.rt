@@ -106,8 +106,7 @@ impl<S: Read + Write> Wire for Socket<S> {
     fn try_write(&mut self, piece: &[u8]) -> Tried {
         match write_now(&mut self.stream, piece) {
             Ok(0) if !piece.is_empty() => {
-                self.writes
-                    .note(io::Error::from(io::ErrorKind::WriteZero));
+                self.writes.note(io::Error::from(io::ErrorKind::WriteZero));
                 Tried::Failed
             }
             Ok(count) => Tried::Did(count),

@@ -39,7 +39,7 @@ fn talk<R: Wait, C: Wire + Link + Drop, S: Wire + Link>(
     if client.try_write(b"abc") != Tried::Did(3) {
         return Err(Fail::from("nothing was written"));
     }
-    if read_ready(rt, server, &mut into) != Tried::Did(3) || into[..3] != *b"abc" {
+    if read_ready(rt, server, &mut into) != Tried::Did(3) || &into[..3] != b"abc".as_slice() {
         return Err(Fail::from("nothing was read"));
     }
     if send(server, b"de") != Ok(2) || receive(&mut client, &mut into) != Ok(2) {
@@ -74,6 +74,7 @@ fn a_port_goes_both_ways(rt: HostRuntime) -> Result<(), Fail> {
 #[test]
 fn only_a_dead_socket_file_is_replaced(rt: HostRuntime) -> Result<(), Fail> {
     let path = "replaced.sock";
+    let _left = fs::remove_file(&rt, path);
     drop(UnixListener::bind(&rt, path)?);
     let living = UnixAcceptor::bind(&rt, path)?;
     assert!(rt; matches!(&UnixAcceptor::bind(&rt, path), Err(BindFault::InUse)));
