@@ -1,4 +1,4 @@
-ghost use Rattle.std.specs.Prelude.{◌≡◌, ◌↔◌, None, IsOk};
+ghost use Rattle.std.specs.Prelude.{◌≡◌, ◌↔◌, None, IfOk, IsOk};
 ghost use Rattle.qs_outside.specs.Faults.{HasCause};
 
 use crate::bind_fault::BindFault;
@@ -35,7 +35,9 @@ pub struct UnixAcceptor {
 impl UnixAcceptor {
     /// Listens at this path. The socket file of a server that is gone is replaced; a file that is no socket is
     /// never removed (`NoSocket`), nor the socket of a server that answers (`InUse`).
-    pub fn bind<R: Files + Net>(rt: &R, path: &str) -> Result<Self, BindFault> {
+    pub fn bind<R: Files + Net>(rt: &R, path: &str) -> Result<Self, BindFault>
+        ensures faults { IfOk result (λ a. a.faults.count ≡ 0) }
+    {
         let listener = match unix::UnixListener::bind(rt, path) {
             Err(error) if error.kind() == io::ErrorKind::AddrInUse => {
                 remove_dead(rt, path)?;
@@ -99,7 +101,9 @@ impl TcpAcceptor {
     pub fn bind<R: Net<Listener = net::TcpListener, Stream = net::TcpStream>, A: ToSocketAddrs>(
         rt: &R,
         address: A,
-    ) -> Result<Self, BindFault> {
+    ) -> Result<Self, BindFault>
+        ensures faults { IfOk result (λ a. a.faults.count ≡ 0) }
+    {
         let listener = net::TcpListener::bind(rt, address)?;
         Ok(TcpAcceptor {
             listener,

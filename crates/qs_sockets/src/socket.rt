@@ -1,5 +1,9 @@
-ghost use Rattle.std.specs.Prelude.{◌≡◌, None, refl};
+ghost use Rattle.std.specs.Prelude.{◌≡◌, ◌≢◌, ◌<◌, None, length, refl, IfOk};
 ghost use Rattle.std.specs.Io.{ReadsAtMost, WritesAtMost};
+ghost use Rattle.std.specs.Io.KnownBytes.{Appends, Consumes, ReadConsumes, WriteAppends};
+ghost use Rattle.qs_outside.specs.Faults.{HasCause};
+ghost use Rattle.qs_links.specs.Tries.{CountsIf, EndsRead, MovesWithin, is_failed, is_not_ready, moved_by};
+ghost use Rattle.qs_links.specs.declared.wire.Tried.TheVariants.{Ended};
 
 use mio::event::Source as Registered;
 use mio::{Interest, Registry, Token};
@@ -52,8 +56,10 @@ impl<S> Socket<S> {
 }
 
 /// One read, tried again where a signal came.
+#[tactic(auto, using(qs_host::proofs::KnownBytes::keeps_itself, qs_host::proofs::KnownBytes::keeps_on, qs_host::proofs::KnownBytes::reads_on))]
 fn read_now<R: Read>(reader: &mut R, into: &mut [u8]) -> io::Result<usize>
-    ensures { ReadsAtMost result into.new }
+    ensures bound { ReadsAtMost result into.new }
+    ensures bytes { ReadConsumes (R.remaining reader.old) (R.remaining reader.new) result into.new }
 {
     for _ in 0..u64::MAX {
         match reader.read(into) {
@@ -65,8 +71,10 @@ fn read_now<R: Read>(reader: &mut R, into: &mut [u8]) -> io::Result<usize>
 }
 
 /// One write, tried again where a signal came.
+#[tactic(auto, using(qs_host::proofs::KnownBytes::keeps_itself, qs_host::proofs::KnownBytes::keeps_on, qs_host::proofs::KnownBytes::writes_on))]
 fn write_now<W: Write>(writer: &mut W, piece: &[u8]) -> io::Result<usize>
-    ensures { WritesAtMost result piece.now }
+    ensures bound { WritesAtMost result piece.now }
+    ensures bytes { WriteAppends (W.contents writer.old) (W.contents writer.new) result piece.now }
 {
     for _ in 0..u64::MAX {
         match writer.write(piece) {
@@ -88,7 +96,18 @@ impl<S: Read + Write> Wire for Socket<S> {
 
     ghost waits = { λ s. s.waits };
 
-    fn try_read(&mut self, into: &mut [u8]) -> Tried {
+    fn try_read(&mut self, into: &mut [u8]) -> Tried
+        ensures bound { MovesWithin (length into.new) result }
+        ensures end { EndsRead None (length into.new) result }
+        ensures cause { CountsIf (is_failed result) self.old.reads.count self.new.reads.count }
+        ensures wait { CountsIf (is_not_ready result) self.old.waits self.new.waits }
+        ensures beside_count { self.new.writes.count ≡ self.old.writes.count }
+
+        // What is told of the stream's bytes is true of the try.
+        ensures bytes { Consumes (S.remaining self.old.stream) (S.remaining self.new.stream)
+            (moved_by result into.new) }
+        ensures ended { EndsRead (S.remaining self.new.stream) (length into.new) result }
+    {
         match read_now(&mut self.stream, into) {
             Ok(0) if !into.is_empty() => Tried::Ended,
             Ok(count) => Tried::Did(count),
@@ -103,7 +122,16 @@ impl<S: Read + Write> Wire for Socket<S> {
         }
     }
 
-    fn try_write(&mut self, piece: &[u8]) -> Tried {
+    fn try_write(&mut self, piece: &[u8]) -> Tried
+        ensures bound { MovesWithin (length piece.now) result }
+        ensures endless { result ≢ Ended }
+        ensures cause { CountsIf (is_failed result) self.old.writes.count self.new.writes.count }
+        ensures wait { CountsIf (is_not_ready result) self.old.waits self.new.waits }
+        ensures beside_count { self.new.reads.count ≡ self.old.reads.count }
+
+        // What is told of the stream's bytes is true of the try.
+        ensures bytes { Appends (S.contents self.old.stream) (S.contents self.new.stream) (moved_by result piece.now) }
+    {
         match write_now(&mut self.stream, piece) {
             Ok(0) if !piece.is_empty() => {
                 self.writes.note(io::Error::from(io::ErrorKind::WriteZero));
@@ -129,7 +157,14 @@ impl<S: Read + AsRawFd> Source for Socket<S> {
 
     ghost write_beside = { λ s. s.writes.count };
 
-    fn read(&mut self, into: &mut [u8]) -> Result<usize, Failed> {
+    fn read(&mut self, into: &mut [u8]) -> Result<usize, Failed>
+        ensures bound { ReadsAtMost result into.new }
+        ensures cause { HasCause self.old.reads.count self.new.reads.count result }
+        ensures beside_count { self.new.writes.count ≡ self.old.writes.count }
+
+        // What is told of the stream's bytes is true of the read.
+        ensures bytes { ReadConsumes (S.remaining self.old.stream) (S.remaining self.new.stream) result into.new }
+    {
         match read_on(&mut self.stream, into) {
             Ok(count) => Ok(count),
             Err(error) => Err(self.reads.note(error)),
@@ -144,7 +179,15 @@ impl<S: Write + AsRawFd> Sink for Socket<S> {
 
     ghost read_beside = { λ s. s.reads.count };
 
-    fn write(&mut self, piece: &[u8]) -> Result<usize, Failed> {
+    fn write(&mut self, piece: &[u8]) -> Result<usize, Failed>
+        ensures bound { WritesAtMost result piece.now }
+        ensures some { IfOk result (λ n. 0 < length piece.now → 0 < n) }
+        ensures cause { HasCause self.old.writes.count self.new.writes.count result }
+        ensures beside_count { self.new.reads.count ≡ self.old.reads.count }
+
+        // What is told of the stream's bytes is true of the write.
+        ensures bytes { WriteAppends (S.contents self.old.stream) (S.contents self.new.stream) result piece.now }
+    {
         match write_on(&mut self.stream, piece) {
             Ok(0) if !piece.is_empty() => {
                 Err(self.writes.note(io::Error::from(io::ErrorKind::WriteZero)))
