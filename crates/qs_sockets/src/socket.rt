@@ -209,6 +209,11 @@ impl<S: Read + Write + AsRawFd> Link for Socket<S> {
 }
 
 impl<S: Registered> Registered for Socket<S> {
+    ghost use Rattle.std.specs.Prelude.{◌≡◌};
+
+    // No count changes.
+    ghost keeps = { λ a b. S.keeps a.stream b.stream × (b.reads ≡ a.reads) × (b.writes ≡ a.writes) × (b.waits ≡ a.waits) };
+
     fn register(
         &mut self,
         registry: &Registry,

@@ -1,11 +1,13 @@
 use crate::{BindFault, Socket, TcpAcceptor, UnixAcceptor};
 use mio::net::{TcpStream, UnixStream};
+use mio::{Events, Interest, Poll, Token};
 use qs_links::{Acceptor, Link, Tried, Wire};
 use qs_outside::Failed;
 use std::fs;
 use std::os::unix::net::UnixListener;
 use std::sync::Wait;
 use std::test::Fail;
+use std::time::Duration;
 
 /// Tries a read until the wire is ready.
 fn read_ready<R: Wait, W: Wire>(rt: &R, wire: &mut W, into: &mut [u8]) -> Tried {
@@ -60,6 +62,25 @@ fn a_unix_socket_goes_both_ways(rt: HostRuntime) -> Result<(), Fail> {
     fs::remove_file(&rt, "both_ways.sock")?;
     assert!(rt; acceptor.reason().is_none() && server.read_reason().is_none());
     talk(&rt, client, &mut server)
+}
+
+/// A poll tells the key of the socket that has something to read.
+#[test]
+fn a_registered_socket_is_told(rt: HostRuntime) -> Result<(), Fail> {
+    let (near, far) = UnixStream::pair(&rt)?;
+    let (mut near, mut far) = (Socket::new(near), Socket::new(far));
+    let mut poll = Poll::new(&rt)?;
+    let mut events = Events::with_capacity(rt.alloc(), 4)?;
+    poll.registry()
+        .register(&mut near, Token(7), Interest::READABLE)?;
+    assert_eq!(rt; far.try_write(b"a"), Tried::Did(1));
+    poll.poll(&mut events, Some(Duration::from_secs(20)))?;
+    assert!(rt;
+        events
+            .iter()
+            .any(|event| event.token() == Token(7) && event.is_readable())
+    );
+    Ok(())
 }
 
 #[test]
