@@ -47,18 +47,21 @@ one_below place end = if nat_lt place end then 1 else 0
 -- the line, and what it took in its front. Each place was put by one pass, once, and taken by one, once.
 pub record InLine {L : Type 0} (waiting : List L) (ledgers : List (Ledger L)) : Type 0 where
   pub taken : List L
-  pub stand : (id : ℕ) (v : Ledger L) → get_elem? ledgers id ≡ some v → StandInLine (taken ++ waiting) v.put × StandInLine taken v.got
+  pub stand : (id : ℕ) (v : Ledger L) → get_elem? ledgers id ≡ some v →
+      StandInLine (taken ++ waiting) v.put × StandInLine taken v.got
   pub put_once : (place : ℕ) → summed (λ v. count_at place v.put) ledgers ≡ one_below place (length (taken ++ waiting))
   pub got_once : (place : ℕ) → summed (λ v. count_at place v.got) ledgers ≡ one_below place (length taken)
 
 module _ {L : Type 0} where
   -- a pass put a link: at the end of the line, behind all that it knows of
   abbrev pub PutsLink : L → Ledger L → Ledger L → Type 0
-  PutsLink link old new = (place : ℕ) × (new ≡ ledger (old.put ++ link_at place link ∷ []) old.got) × AllBefore place old.put × AllBefore place old.got
+  PutsLink link old new = (place : ℕ) × (new ≡ ledger (old.put ++ link_at place link ∷ []) old.got)
+      × AllBefore place old.put × AllBefore place old.got
 
   -- a pass took a link: the first one that waited, behind all that it took before
   abbrev pub TakesLink : L → Ledger L → Ledger L → Type 0
-  TakesLink link old new = (place : ℕ) × (new ≡ ledger old.put (old.got ++ link_at place link ∷ [])) × AllBefore place old.got
+  TakesLink link old new = (place : ℕ) × (new ≡ ledger old.put (old.got ++ link_at place link ∷ []))
+      × AllBefore place old.got
 
   -- so many links wait in a line where all stands that this pass put and took
   abbrev pub WaitIn : Ledger L → List L → Type 0

@@ -212,7 +212,8 @@ impl<S: Registered> Registered for Socket<S> {
     ghost use Rattle.std.specs.Prelude.{◌≡◌};
 
     // No count changes.
-    ghost keeps = { λ a b. S.keeps a.stream b.stream × (b.reads ≡ a.reads) × (b.writes ≡ a.writes) × (b.waits ≡ a.waits) };
+    ghost keeps = { λ a b. S.keeps a.stream b.stream × (b.reads ≡ a.reads) × (b.writes ≡ a.writes)
+        × (b.waits ≡ a.waits) };
 
     fn register(
         &mut self,
