@@ -1,3 +1,3 @@
-mod KnownBytes
+pub mod KnownBytes
 mod SyncHistories
 mod UntoldRuns

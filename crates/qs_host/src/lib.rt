@@ -21,6 +21,7 @@ pub use exit::exit_of;
 pub use faults::Faults;
 pub use file_disk::{FileDisk, file_disks};
 pub use image::FileKind;
+pub use retry::{read_on, write_on};
 pub use start_fault::{StartFault, Unfit};
 pub use streams::{Reading, Writing};
 pub use sync_log::{SyncLog, SyncNeed};

@@ -1,3 +1,7 @@
+ghost use Rattle.std.specs.Prelude.{◌≡◌, ◌<◌, ◌^◌, length};
+ghost use Rattle.qs_outside.specs.Blocks.{Fixed, IsBlock};
+ghost use Rattle.qs_links.specs.Starts.{started_after};
+
 use crate::{
     Acceptor, ClosureSpawner, CountSpawner, Flag, Gate, GatedDisk, GatedLink, Link, MemAcceptor,
     MemLink, MemWire, Spawner, Tried, Wire,
@@ -5,7 +9,7 @@ use crate::{
 use qs_bytes::Bytes;
 use qs_outside::{Disk, Failed, MemSink, MemSource, QuietDisk, Sink, Source};
 use std::alloc::Global;
-use std::sync::Wait;
+use std::sync::{Arc, Wait};
 use std::test::Fail;
 use std::thread::join;
 
@@ -40,6 +44,23 @@ fn write_to<W: Wire>(wire: &mut W, piece: &[u8]) -> Tried {
 
 fn accept_from<A: Acceptor, R: Wait>(acceptor: &mut A, rt: &R) -> Result<A::L, Failed> {
     acceptor.accept(rt)
+}
+
+fn load_from<D: Disk>(disk: &mut D, b: u64, into: &mut [u8]) -> Result<(), Failed>
+    requires block { IsBlock (D.seen disk.old) b }
+    requires whole { length into.old ≡ (D.seen disk.old).align }
+    ensures { Fixed (D.seen disk.old) (D.seen disk.new) }
+{
+    disk.load(b, into)
+}
+
+fn start_on<J, S: Spawner<J>>(spawner: &mut S, job: J) -> Result<(), Failed>
+    requires ready { S.ready spawner.old }
+    requires room { S.started spawner.old < 2 ^ 63 }
+    ensures ready { S.ready spawner.new }
+    ensures started { S.started spawner.new ≡ started_after (S.started spawner.old) result }
+{
+    spawner.start(job)
 }
 
 fn is_raised<G: Gate>(gate: &G) -> bool {
@@ -85,10 +106,10 @@ fn a_load_waits_for_its_gate(rt: HostRuntime) -> Result<(), Fail> {
     let mut into = [9; 2];
     assert_eq!(rt; disk.store(1, &[5, 6]), Ok(()));
     assert!(rt; !is_raised(&begun));
-    assert_eq!(rt; disk.load(1, &mut into), Err(Failed));
+    assert_eq!(rt; load_from(&mut disk, 1, &mut into), Err(Failed));
     assert!(rt; is_raised(&begun) && !is_raised(&gate));
     gate.raise();
-    assert_eq!(rt; disk.load(1, &mut into), Ok(()));
+    assert_eq!(rt; load_from(&mut disk, 1, &mut into), Ok(()));
     assert_eq!(rt; into, [5, 6]);
     assert_eq!(rt;
         (disk.stripe(), disk.align(), disk.length(), disk.sync()),
@@ -108,6 +129,16 @@ fn a_link_raises_its_gate_behind_so_many_bytes(rt: HostRuntime) -> Result<(), Fa
     assert_eq!(rt; link.write(&[4]), Ok(1));
     assert!(rt; is_raised(&gate));
     assert_eq!(rt; link.link().sent(), [1, 2, 3, 4].as_slice());
+    Ok(())
+}
+
+#[test]
+fn a_shared_flag_is_raised_for_all(rt: HostRuntime) -> Result<(), Fail> {
+    let mine = Arc::new(rt.alloc(), Flag::new())?;
+    let theirs = Arc::try_clone(&mine)?;
+    assert!(rt; !is_raised(&theirs));
+    Gate::raise(&mine);
+    assert!(rt; is_raised(&theirs));
     Ok(())
 }
 
@@ -154,9 +185,9 @@ fn an_acceptor_gives_its_wires_in_order(rt: HostRuntime) -> Result<(), Fail> {
 #[test]
 fn spawners_count_what_they_started(rt: HostRuntime) -> Result<(), Fail> {
     let mut counter = CountSpawner::new([1].to_vec(rt.alloc())?);
-    assert_eq!(rt; counter.start(7), Ok(()));
-    assert_eq!(rt; counter.start(8), Err(Failed));
-    assert_eq!(rt; counter.start(9), Ok(()));
+    assert_eq!(rt; start_on(&mut counter, 7), Ok(()));
+    assert_eq!(rt; start_on(&mut counter, 8), Err(Failed));
+    assert_eq!(rt; start_on(&mut counter, 9), Ok(()));
     assert_eq!(rt; counter.started(), 2);
     let mut sum = 0;
     let mut spawner = ClosureSpawner::new(|job: u8| {
@@ -166,8 +197,8 @@ fn spawners_count_what_they_started(rt: HostRuntime) -> Result<(), Fail> {
         }
         fits
     });
-    assert_eq!(rt; spawner.start(7), Ok(()));
-    assert_eq!(rt; spawner.start(9), Err(Failed));
+    assert_eq!(rt; start_on(&mut spawner, 7), Ok(()));
+    assert_eq!(rt; start_on(&mut spawner, 9), Err(Failed));
     assert_eq!(rt; spawner.started(), 1);
     Ok(())
 }
