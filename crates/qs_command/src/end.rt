@@ -1,6 +1,6 @@
-use crate::table::{ExportRow, NodeRow, Table};
 use qs_bytes::Name;
 use qs_part::graph::User;
+use qs_part::table::{ExportRow, NodeRow, Table};
 
 /// Why a command was refused. Sizes are in bytes.
 #[derive(Clone, Copy, Debug, PartialEq, Eq)]

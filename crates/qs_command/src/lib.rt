@@ -4,12 +4,11 @@
 mod checked;
 mod command;
 mod end;
-mod table;
 
 pub use checked::CheckedLimits;
 pub use command::Command;
 pub use end::{JobEnd, Refusal};
-pub use table::{Driver, ExportRow, NodeRow, ROWS, Table};
+pub use qs_part::table::{Driver, ExportRow, NodeRow, ROWS, Table};
 
 #[cfg(test)]
 mod tests;

@@ -10,7 +10,7 @@ use Rattle.std.proofs.lemmas.List.Sums.{fails_before_first}
 use Rattle.std.proofs.lemmas.Slice.Eq.{bytes_eq-Decides}
 use Rattle.qs_part.specs.declared.graph.ExportInfo.{ExportInfo}
 use Rattle.qs_part.specs.declared.graph.GraphOp.{GraphOp}
-use Rattle.qs_part.specs.declared.graph.GraphOp.TheVariants.{ExportAdd, Find, Attach, Detach, Route}
+use Rattle.qs_part.specs.declared.graph.GraphOp.TheVariants.{AddRaw, AddThrottle, Del, ReopenRaw, ReopenThrottle, GroupAdd, GroupDel, ExportAdd, ExportDel, Find, Attach, Detach, Route, ListNodes, ListExports}
 use Rattle.qs_part.specs.declared.graph.GraphReply.{GraphReply}
 use Rattle.qs_part.specs.declared.graph.GraphReply.TheVariants.{Added, Attached, Detached}
 use Rattle.qs_graph.specs.declared.export.Export.{Export}
@@ -188,6 +188,16 @@ pub added_counts : (v : GraphValue) (op : GraphOp) (e d : ℕ) → May v op (Add
 added_counts v (ExportAdd id name node writable share) e d may =
     at_set (λ (p : Option Export). clients_of p ≡ clients_of (export_at v.places d)) v.places e _ d refl
     (λ same. sym (ap clients_of (ap (export_at v.places) same ∙ (shared_fresh v (new_export id name writable share) node e may.0 may.1).free)))
+added_counts v (AddRaw name child offset size read_only) e d may = absurd may
+added_counts v (AddThrottle name child group read_only) e d may = absurd may
+added_counts v (Del name) e d may = absurd may
+added_counts v (ReopenRaw name child offset size) e d may = absurd may
+added_counts v (ReopenThrottle name child group) e d may = absurd may
+added_counts v (GroupAdd id) e d may = absurd may
+added_counts v (GroupDel id) e d may = absurd may
+added_counts v (ExportDel id hard) e d may = absurd may
+added_counts v (ListNodes table) e d may = absurd may
+added_counts v (ListExports table) e d may = absurd may
 added_counts v (Find name) e d may = absurd may
 added_counts v (Attach name) e d may = absurd may
 added_counts v (Detach k) e d may = absurd may

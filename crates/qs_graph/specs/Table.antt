@@ -23,9 +23,14 @@ pub record GraphValue : Type 0 where
 abbrev pub fresh : ℕ → List ℕ → Bool → GraphValue
 fresh size file read_only = record { size = size; file = file; read_only = read_only; places = replicate 64 None }
 
--- every operation fits
+-- the operations that it does; it has no nodes but the file node, and lists nothing
 abbrev pub Fits : ℕ → GraphOp → Type 0
-Fits size op = Unit {0}
+Fits size (ExportAdd id name node writable share_write) = Unit {0}
+Fits size (Find name) = Unit {0}
+Fits size (Attach name) = Unit {0}
+Fits size (Detach e) = Unit {0}
+Fits size (Route e) = Unit {0}
+Fits size _ = ⊥
 
 -- the way from an export to the image: the whole image, and no throttle group
 abbrev pub route_of : ℕ → Export → Way

@@ -213,8 +213,15 @@ impl Part for Graph {
         self.size
     }
 
-    fn fits(_size: &u64, _op: &GraphOp) -> bool {
-        true
+    fn fits(_size: &u64, op: &GraphOp) -> bool {
+        matches!(
+            op,
+            GraphOp::ExportAdd { .. }
+                | GraphOp::Find { .. }
+                | GraphOp::Attach { .. }
+                | GraphOp::Detach { .. }
+                | GraphOp::Route { .. }
+        )
     }
 
     fn step(&mut self, op: GraphOp) -> GraphReply {
@@ -230,6 +237,7 @@ impl Part for Graph {
             GraphOp::Attach { name } => self.attach(name),
             GraphOp::Detach { e } => self.detach(e),
             GraphOp::Route { e } => self.route(e),
+            _ => unreachable!(),
         }
     }
 }

@@ -1,7 +1,7 @@
 -- Over a read-only file node no export is writable, so no request's way is, and nothing is stored.
 use Rattle.std.proofs.Common.{◌≡◌, ℕ, ◌<◌, inl, inr, Bool, true, false, ◌&&◌, ◌==◌, List, [], ◌∷◌, Option, Some, None, refl, sym, ap, ◌∙◌, subst, true≢false}
 use Rattle.qs_part.specs.declared.graph.GraphOp.{GraphOp}
-use Rattle.qs_part.specs.declared.graph.GraphOp.TheVariants.{ExportAdd, Find, Attach, Detach, Route}
+use Rattle.qs_part.specs.declared.graph.GraphOp.TheVariants.{AddRaw, AddThrottle, Del, ReopenRaw, ReopenThrottle, GroupAdd, GroupDel, ExportAdd, ExportDel, Find, Attach, Detach, Route, ListNodes, ListExports}
 use Rattle.qs_part.specs.declared.graph.GraphReply.TheVariants.{Added}
 use Rattle.qs_graph.specs.declared.export.Export.{Export}
 use Rattle.qs_graph.specs.Exports.{clients_counted, export_at, new_export}
@@ -55,6 +55,16 @@ added_barred v (ExportAdd id name node writable share) e may h =
     closed true true e f = absurd (true≢false e)
     closed true false e f = absurd (true≢false (sym f))
     closed false b e f = refl
+added_barred v (AddRaw name child offset size read_only) e may h = absurd may
+added_barred v (AddThrottle name child group read_only) e may h = absurd may
+added_barred v (Del name) e may h = absurd may
+added_barred v (ReopenRaw name child offset size) e may h = absurd may
+added_barred v (ReopenThrottle name child group) e may h = absurd may
+added_barred v (GroupAdd id) e may h = absurd may
+added_barred v (GroupDel id) e may h = absurd may
+added_barred v (ExportDel id hard) e may h = absurd may
+added_barred v (ListNodes table) e may h = absurd may
+added_barred v (ListExports table) e may h = absurd may
 added_barred v (Find name) e may h = absurd may
 added_barred v (Attach name) e may h = absurd may
 added_barred v (Detach d) e may h = absurd may

@@ -9,4 +9,5 @@ pub mod limits;
 pub mod part;
 pub mod runs;
 pub mod stripe;
+pub mod table;
 pub mod tracker;

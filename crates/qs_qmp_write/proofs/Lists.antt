@@ -5,8 +5,8 @@ use Rattle.serde_json.specs.Data.{Data, array}
 use Rattle.serde_json.specs.View.{view, items_of, items_view}
 use Rattle.serde_json.specs.Written.{has_float, items_have_float}
 use Rattle.serde_json.specs.declared.value.Value.{Value}
-use Rattle.qs_command.specs.declared.table.NodeRow.{NodeRow}
-use Rattle.qs_command.specs.declared.table.ExportRow.{ExportRow}
+use Rattle.qs_part.specs.declared.table.NodeRow.{NodeRow}
+use Rattle.qs_part.specs.declared.table.ExportRow.{ExportRow}
 use Rattle.qs_qmp_write.specs.Texts.{node, nodes, export_data, exports}
 
 nodes_whole : (rows : List NodeRow) → items_have_float (items_of (map node rows)) ≡ false

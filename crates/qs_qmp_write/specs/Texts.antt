@@ -9,10 +9,10 @@ use Rattle.qs_command.specs.declared.end.JobEnd.{JobEnd}
 use Rattle.qs_command.specs.declared.end.JobEnd.TheVariants as ends
 use Rattle.qs_command.specs.declared.end.Refusal.{Refusal}
 use Rattle.qs_command.specs.declared.end.Refusal.TheVariants as refusals
-use Rattle.qs_command.specs.declared.table.Driver.{Driver}
-use Rattle.qs_command.specs.declared.table.Driver.TheVariants.{File, Raw, Throttle}
-use Rattle.qs_command.specs.declared.table.NodeRow.{NodeRow}
-use Rattle.qs_command.specs.declared.table.ExportRow.{ExportRow}
+use Rattle.qs_part.specs.declared.table.Driver.{Driver}
+use Rattle.qs_part.specs.declared.table.Driver.TheVariants.{File, Raw, Throttle}
+use Rattle.qs_part.specs.declared.table.NodeRow.{NodeRow}
+use Rattle.qs_part.specs.declared.table.ExportRow.{ExportRow}
 use Rattle.qs_qmp.specs.declared.fault.Class.{Class}
 use Rattle.qs_qmp.specs.declared.fault.Class.TheVariants.{GenericError, CommandNotFound}
 use Rattle.qs_qmp.specs.declared.fault.QmpFault.{QmpFault}

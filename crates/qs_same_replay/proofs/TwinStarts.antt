@@ -4,7 +4,7 @@ use Rattle.std.specs.Prelude.{Some, IsTrue, position}
 use Rattle.std.proofs.lemmas.List.{length-map}
 use Rattle.qs_outside.specs.Blocks.{Seen}
 use Rattle.qs_part.specs.declared.graph.GraphOp.{GraphOp}
-use Rattle.qs_part.specs.declared.graph.GraphOp.TheVariants.{ExportAdd, Find, Attach, Detach, Route}
+use Rattle.qs_part.specs.declared.graph.GraphOp.TheVariants.{AddRaw, AddThrottle, Del, ReopenRaw, ReopenThrottle, GroupAdd, GroupDel, ExportAdd, ExportDel, Find, Attach, Detach, Route, ListNodes, ListExports}
 use Rattle.qs_part.specs.declared.graph.GraphReply.TheVariants.{Added}
 use Rattle.qs_image.specs.Image.{AllTell, align_of, disk}
 use Rattle.qs_graph.specs.Exports.{is_vacant}
@@ -36,6 +36,16 @@ place_one v (ExportAdd id name node writable share) place other a b =
     let here : position is_vacant v.places ≡ Some place = a.1 in
     let there : position is_vacant v.places ≡ Some other = b.1 in
     cc
+place_one v (AddRaw name child offset size read_only) place other a b = absurd a
+place_one v (AddThrottle name child group read_only) place other a b = absurd a
+place_one v (Del name) place other a b = absurd a
+place_one v (ReopenRaw name child offset size) place other a b = absurd a
+place_one v (ReopenThrottle name child group) place other a b = absurd a
+place_one v (GroupAdd id) place other a b = absurd a
+place_one v (GroupDel id) place other a b = absurd a
+place_one v (ExportDel id hard) place other a b = absurd a
+place_one v (ListNodes table) place other a b = absurd a
+place_one v (ListExports table) place other a b = absurd a
 place_one v (Find name) place other a b = absurd a
 place_one v (Attach name) place other a b = absurd a
 place_one v (Detach e) place other a b = absurd a

@@ -30,11 +30,21 @@ fn way(size: u64, writable: bool) -> GraphReply {
     })
 }
 
-fn run(rt: &impl Abort, graph: &mut Graph, script: &[(GraphOp, GraphReply)]) {
-    for (op, reply) in script.iter() {
-        assert!(rt; Graph::fits(&graph.fixed(), op));
-        assert_eq!(rt; graph.step(*op), *reply);
+fn show(alloc: Global, reply: &GraphReply) -> Result<String, Fail> {
+    Ok(format!(in alloc; "{reply:?}")?)
+}
+
+fn run(
+    rt: &impl Abort,
+    alloc: Global,
+    graph: &mut Graph,
+    script: Vec<(GraphOp, GraphReply)>,
+) -> Result<(), Fail> {
+    for (op, reply) in script {
+        assert!(rt; Graph::fits(&graph.fixed(), &op));
+        assert_eq!(rt; show(alloc, &graph.step(op))?, show(alloc, &reply)?);
     }
+    Ok(())
 }
 
 /// The answer to a client that comes to the export at place 1.
@@ -60,7 +70,12 @@ fn exports_are_added_and_refused(rt: HostRuntime) -> Result<(), Fail> {
         (add(y, a, file, true, true), GraphReply::Duplicate(0)),
         (add(y, z, file, true, true), GraphReply::Duplicate(1)),
     ];
-    run(&rt, &mut graph, &script);
+    run(
+        &rt,
+        rt.alloc(),
+        &mut graph,
+        Vec::from_array(rt.alloc(), script)?,
+    )?;
     Ok(())
 }
 
@@ -75,7 +90,12 @@ fn read_only_file_has_no_writable_export(rt: HostRuntime) -> Result<(), Fail> {
         (add(y, y, file, false, true), GraphReply::Added(1)),
         (GraphOp::Route { e: 1 }, way(512, false)),
     ];
-    run(&rt, &mut graph, &script);
+    run(
+        &rt,
+        rt.alloc(),
+        &mut graph,
+        Vec::from_array(rt.alloc(), script)?,
+    )?;
     let mut graph = Graph::new(rt.alloc(), 512, file, false)?;
     let script = [
         (add(x, x, file, false, false), GraphReply::Added(0)),
@@ -84,7 +104,12 @@ fn read_only_file_has_no_writable_export(rt: HostRuntime) -> Result<(), Fail> {
             GraphReply::Conflict(User::Export(x), User::Export(y)),
         ),
     ];
-    run(&rt, &mut graph, &script);
+    run(
+        &rt,
+        rt.alloc(),
+        &mut graph,
+        Vec::from_array(rt.alloc(), script)?,
+    )?;
     Ok(())
 }
 
@@ -114,29 +139,44 @@ fn clients_come_and_go(rt: HostRuntime) -> Result<(), Fail> {
         (GraphOp::Route { e: 2 }, GraphReply::Shutting),
         (GraphOp::Route { e: 255 }, GraphReply::Shutting),
     ];
-    run(&rt, &mut graph, &script);
-    crowd(&rt, &mut graph, b);
+    run(
+        &rt,
+        rt.alloc(),
+        &mut graph,
+        Vec::from_array(rt.alloc(), script)?,
+    )?;
+    crowd(&rt, rt.alloc(), &mut graph, b)?;
     graph.reset();
     let script = [
         (GraphOp::Find { name: b }, GraphReply::NoExport),
         (GraphOp::Detach { e: 1 }, GraphReply::NotAttached),
         (GraphOp::Route { e: 0 }, GraphReply::Shutting),
     ];
-    run(&rt, &mut graph, &script);
+    run(
+        &rt,
+        rt.alloc(),
+        &mut graph,
+        Vec::from_array(rt.alloc(), script)?,
+    )?;
     Ok(())
 }
 
 /// The export of that name at place 1 gets as many clients as it may have.
-fn crowd(rt: &impl Abort, graph: &mut Graph, name: Name) {
+fn crowd(rt: &impl Abort, alloc: Global, graph: &mut Graph, name: Name) -> Result<(), Fail> {
     for _ in 0..1024 {
-        assert_eq!(rt; graph.step(GraphOp::Attach { name }), attached());
+        run(
+            rt,
+            alloc,
+            graph,
+            Vec::from_array(alloc, [(GraphOp::Attach { name }, attached())])?,
+        )?;
     }
     let script = [
         (GraphOp::Attach { name }, GraphReply::Crowded),
         (GraphOp::Detach { e: 1 }, GraphReply::Detached),
         (GraphOp::Attach { name }, attached()),
     ];
-    run(rt, graph, &script);
+    run(rt, alloc, graph, Vec::from_array(alloc, script)?)
 }
 
 #[test]
@@ -145,16 +185,26 @@ fn export_65_finds_no_place(rt: HostRuntime) -> Result<(), Fail> {
     let mut graph = Graph::new(rt.alloc(), 4096, file, false)?;
     for e in 0..64 {
         let x = name(&[b'0' + e])?;
-        assert_eq!(rt;
-            graph.step(add(x, x, file, true, true)),
-            GraphReply::Added(e)
-        );
+        run(
+            &rt,
+            rt.alloc(),
+            &mut graph,
+            Vec::from_array(
+                rt.alloc(),
+                [(add(x, x, file, true, true), GraphReply::Added(e))],
+            )?,
+        )?;
     }
     let y = name(b"y")?;
     let script = [
         (add(y, y, file, true, true), GraphReply::Full),
         (add(y, y, y, true, true), GraphReply::NoNode(y)),
     ];
-    run(&rt, &mut graph, &script);
+    run(
+        &rt,
+        rt.alloc(),
+        &mut graph,
+        Vec::from_array(rt.alloc(), script)?,
+    )?;
     Ok(())
 }

@@ -18,7 +18,7 @@ pub enum Driver {
     Throttle,
 }
 
-/// A node as a query shows it.
+/// A node as a query shows it (QMP's query-named-block-nodes).
 #[derive(Clone, Copy, Debug, PartialEq, Eq)]
 pub struct NodeRow {
     pub name: Name,
