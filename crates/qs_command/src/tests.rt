@@ -1,5 +1,4 @@
-use crate::{CheckedLimits, Driver, NodeRow, ROWS, Table};
-use qs_bytes::Name;
+use crate::CheckedLimits;
 use qs_part::limits::{Dim, Limit, Limits, Rule};
 use std::test::Fail;
 
@@ -29,29 +28,5 @@ fn limits_are_checked(rt: HostRuntime) -> Result<(), Fail> {
         CheckedLimits::of(bad).err(),
         Some(Rule::MaxBelowAvg(Dim::IopsTotal))
     );
-    Ok(())
-}
-
-#[test]
-fn a_table_has_64_rows(rt: HostRuntime) -> Result<(), Fail> {
-    let Some(name) = Name::of(b"file0") else {
-        assert!(rt; false);
-        return Ok(());
-    };
-    let row = NodeRow {
-        name,
-        driver: Driver::File,
-        read_only: true,
-    };
-    let mut table = Table::new(rt.alloc())?;
-    for _ in 0..ROWS {
-        if table.rows().len() < ROWS {
-            table.push(row);
-        }
-    }
-    assert_eq!(rt; table.rows().len(), 64);
-    assert_eq!(rt; table.rows()[63], row);
-    table.clear();
-    assert!(rt; table.rows().is_empty());
     Ok(())
 }

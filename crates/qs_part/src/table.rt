@@ -86,3 +86,6 @@ impl<R: Copy> Table<R> {
         self.rows.clear();
     }
 }
+
+#[cfg(test)]
+mod tests;
