@@ -120,10 +120,10 @@ impl<D: Disk + Drop> Core<D> {
         match self.graph.step(GraphOp::Attach { name }) {
             GraphReply::Attached(info) => {
                 self.seat(session, info.e);
-                Outcome::Attached(info)
+                return Outcome::Attached(info);
             }
-            GraphReply::NoExport => Outcome::NoExport,
-            _ => Outcome::Crowded,
+            GraphReply::NoExport => return Outcome::NoExport,
+            _ => return Outcome::Crowded,
         }
     }
 
@@ -164,9 +164,9 @@ impl<D: Disk + Drop> Core<D> {
         match reply {
             GraphReply::Detached => {
                 self.sessions.remove(at);
-                Outcome::Moved(note)
+                return Outcome::Moved(note);
             }
-            _ => Outcome::Moved(note),
+            _ => return Outcome::Moved(note),
         }
     }
 
@@ -186,8 +186,8 @@ impl<D: Disk + Drop> Core<D> {
             share_write: true,
         };
         match self.graph.step(op) {
-            GraphReply::Added(_) => Ok(()),
-            _ => Err(Memory),
+            GraphReply::Added(_) => return Ok(()),
+            _ => return Err(Memory),
         }
     }
 
