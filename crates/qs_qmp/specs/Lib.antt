@@ -1,5 +1,1 @@
-pub mod Problems
-pub mod Kinds
-pub mod Arguments
-pub mod Limiting
 pub mod Reading

@@ -1,198 +1,43 @@
--- What a QMP message asks for, and the first refusal that applies (QMP specification; QAPI, "block-core",
--- "block-export").
-use Rattle.std.specs.Prelude.{◌≡◌, ℕ, Bool, true, false, if◌then◌else◌, List, ◌++◌, codes, Option, Some, None, is_some, option_map, option_and_then, unwrap_or, Result, Ok, Err, ⊤, string_bytes}
+-- What a QMP message asks for, and the first refusal that applies (QMP specification).
+use Rattle.std.specs.Prelude.{◌≡◌, ℕ, Bool, true, false, if◌then◌else◌, List, ◌++◌, codes, Option, Some, None, option_map, option_and_then, Result, Ok, Err, ⊤, string_bytes}
 use Rattle.std.specs.Str.{bytes_eq}
 use Rattle.serde_json.specs.Data.{Data}
-use Rattle.serde_json.specs.Find.{get, as_object, as_str}
+use Rattle.serde_json.specs.Find.{get, as_str}
 use Rattle.serde_json.specs.View.{view}
 use Rattle.serde_json.specs.Written.{has_float}
-use Rattle.qs_command.specs.declared.command.Command.{Command}
-use Rattle.qs_command.specs.declared.command.Command.TheVariants.{AddRaw, AddThrottle, Del, ReopenRaw, ReopenThrottle, GroupAdd, GroupDel, ExportAdd, ExportDel, ListExports, ListNodes, Quit}
+use Rattle.qs_qmp_arguments.specs.declared.command_name.CommandName.{CommandName}
+use Rattle.qs_qmp_arguments.specs.declared.fault.Class.TheVariants.{CommandNotFound}
+use Rattle.qs_qmp_arguments.specs.declared.keys.ArgumentKeys.TheVariants as keys
+use Rattle.qs_qmp_arguments.specs.Problems.{Problem, ◌>>=◌, generic, invalid}
+use Rattle.qs_qmp_arguments.specs.Kinds.{is_empty_list}
+use Rattle.qs_qmp_arguments.specs.Arguments.{are_arguments, argument, first_not, is_key, keys_in, none_but}
+use Rattle.qs_qmp_arguments.specs.Commands.{command_named, command_with}
 use Rattle.qs_qmp.specs.declared.asked.QmpAsked.{QmpAsked}
 use Rattle.qs_qmp.specs.declared.asked.QmpCommand.{QmpCommand}
 use Rattle.qs_qmp.specs.declared.asked.QmpCommand.TheVariants.{Capabilities, Job}
 use Rattle.qs_qmp.specs.declared.fault.QmpFault.{QmpFault}
 use Rattle.qs_qmp.specs.declared.fault.QmpFault.TheVariants as faults
-use Rattle.qs_qmp.specs.declared.keys.Keys.TheVariants as keys
-use Rattle.qs_qmp.specs.declared.node.Node.{Node}
-use Rattle.qs_qmp.specs.declared.node.Node.TheVariants as nodes
-use Rattle.qs_qmp.specs.declared.verb.Verb.{Verb}
-use Rattle.qs_qmp.specs.declared.verb.Verb.TheVariants as verbs
-use Rattle.qs_qmp.specs.Problems.{Problem, ◌>>=◌, generic, invalid, not_found, not_negotiated}
-use Rattle.qs_qmp.specs.Kinds.{only_object, is_empty_list}
-use Rattle.qs_qmp.specs.Arguments.{first_not, is_key, keys_in, argument, needs, none_but, or_missing, id_at, name_at, whole_at, truth_at, choice_at, is_word_at}
-use Rattle.qs_qmp.specs.Limiting.{limits_at, limits_checked}
 
--- ---- nodes
+abbrev pub not_found : List ℕ → Problem
+not_found name = record { class = CommandNotFound; desc = codes "The command " ++ name ++ codes " has not been found" }
 
--- whether the driver is `raw`, else it is `throttle`
-unfoldable pub is_raw : Option Data → Result Bool Problem
-is_raw args = do
-  raw ← choice_at (codes "driver") (codes "raw") (codes "throttle") args
-  or_missing (codes "driver") raw
-
-unfoldable pub raw_of : Bool → Option Data → Result Node Problem
-raw_of again args = do
-  _ ← needs (codes "node-name") args
-  _ ← needs (codes "file") args
-  _ ← none_but (keys.Raw again) args
-  child ← id_at (codes "file") args
-  name ← id_at (codes "node-name") args
-  offset ← whole_at (codes "offset") args
-  read_only ← truth_at (codes "read-only") args
-  size ← whole_at (codes "size") args
-  Ok (nodes.Raw name child (unwrap_or offset 0) size (unwrap_or read_only false))
-
-unfoldable pub throttle_of : Bool → Option Data → Result Node Problem
-throttle_of again args = do
-  _ ← needs (codes "node-name") args
-  _ ← needs (codes "file") args
-  _ ← needs (codes "throttle-group") args
-  _ ← none_but (keys.Throttle again) args
-  child ← id_at (codes "file") args
-  name ← id_at (codes "node-name") args
-  read_only ← truth_at (codes "read-only") args
-  group ← id_at (codes "throttle-group") args
-  Ok (nodes.Throttle name child group (unwrap_or read_only false))
-
-unfoldable pub node_of : Bool → Option Data → Result Node Problem
-node_of again args = do
-  raw ← is_raw args
-  if raw then raw_of again args else throttle_of again args
-
-abbrev pub adding : Node → Command
-adding (nodes.Raw name child offset size read_only) = AddRaw name child offset size read_only
-adding (nodes.Throttle name child group read_only) = AddThrottle name child group read_only
-
-abbrev pub reopened : Node → Command
-reopened (nodes.Raw name child offset size read_only) = ReopenRaw name child offset size
-reopened (nodes.Throttle name child group read_only) = ReopenThrottle name child group
-
-unfoldable pub blockdev_add : Option Data → Result Command Problem
-blockdev_add args = do
-  node ← node_of false args
-  Ok (adding node)
-
-unfoldable pub blockdev_del : Option Data → Result Command Problem
-blockdev_del args = do
-  _ ← needs (codes "node-name") args
-  _ ← none_but keys.Node args
-  name ← id_at (codes "node-name") args
-  Ok (Del name)
-
--- any fault of reading within an argument is one of that argument
-abbrev pub within : {A : Type 0} → List ℕ → Result A Problem → Result A Problem
-within name (Ok x) = Ok x
-within name (Err problem) = Err (invalid name)
-
-abbrev pub options_of : Option Data → Result Node Problem
-options_of None = Err (invalid (codes "options"))
-options_of (Some d) = within (codes "options") (node_of true (Some d))
-
-unfoldable pub blockdev_reopen : Option Data → Result Command Problem
-blockdev_reopen args = do
-  _ ← needs (codes "options") args
-  _ ← none_but keys.Reopen args
-  node ← options_of (option_and_then only_object (argument (codes "options") args))
-  Ok (reopened node)
-
--- ---- groups and exports
-
-unfoldable pub object_add : Option Data → Result Command Problem
-object_add args = do
-  _ ← needs (codes "qom-type") args
-  _ ← needs (codes "id") args
-  _ ← none_but keys.ObjectAdd args
-  id ← id_at (codes "id") args
-  limits ← limits_at args
-  _ ← is_word_at (codes "qom-type") (codes "throttle-group") args
-  limits ← limits_checked limits
-  Ok (GroupAdd id limits)
-
-unfoldable pub object_del : Option Data → Result Command Problem
-object_del args = do
-  _ ← needs (codes "id") args
-  _ ← none_but keys.Object args
-  id ← id_at (codes "id") args
-  Ok (GroupDel id)
-
-unfoldable pub export_add : Option Data → Result Command Problem
-export_add args = do
-  _ ← needs (codes "type") args
-  _ ← needs (codes "id") args
-  _ ← needs (codes "node-name") args
-  _ ← none_but keys.ExportAdd args
-  id ← id_at (codes "id") args
-  name ← name_at (codes "name") args
-  node ← id_at (codes "node-name") args
-  _ ← is_word_at (codes "type") (codes "nbd") args
-  writable ← truth_at (codes "writable") args
-  share_write ← choice_at (codes "x-share") (codes "all") (codes "read") args
-  Ok (ExportAdd id (unwrap_or name node) node (unwrap_or writable false) (unwrap_or share_write true))
-
-unfoldable pub export_del : Option Data → Result Command Problem
-export_del args = do
-  _ ← needs (codes "id") args
-  _ ← none_but keys.ExportDel args
-  id ← id_at (codes "id") args
-  hard ← choice_at (codes "mode") (codes "hard") (codes "safe") args
-  Ok (ExportDel id (unwrap_or hard false))
-
--- a command without arguments
-unfoldable pub plain : Command → Option Data → Result Command Problem
-plain command args = do
-  _ ← none_but keys.Nothing args
-  Ok command
-
--- ---- messages
-
--- the commands after the negotiation
-abbrev pub verb_named : List ℕ → Option Verb
-verb_named name =
-    if bytes_eq name (codes "blockdev-add") then Some verbs.BlockdevAdd
-    else if bytes_eq name (codes "blockdev-del") then Some verbs.BlockdevDel
-    else if bytes_eq name (codes "blockdev-reopen") then Some verbs.BlockdevReopen
-    else if bytes_eq name (codes "object-add") then Some verbs.ObjectAdd
-    else if bytes_eq name (codes "object-del") then Some verbs.ObjectDel
-    else if bytes_eq name (codes "block-export-add") then Some verbs.BlockExportAdd
-    else if bytes_eq name (codes "block-export-del") then Some verbs.BlockExportDel
-    else if bytes_eq name (codes "query-block-exports") then Some verbs.QueryBlockExports
-    else if bytes_eq name (codes "query-named-block-nodes") then Some verbs.QueryNamedBlockNodes
-    else if bytes_eq name (codes "quit") then Some verbs.Quit
-    else None
-
-abbrev pub or_not_found : List ℕ → Option Verb → Result Verb Problem
+abbrev pub or_not_found : List ℕ → Option CommandName → Result CommandName Problem
 or_not_found name None = Err (not_found name)
-or_not_found name (Some verb) = Ok verb
-
-abbrev pub job : Verb → Option Data → Result Command Problem
-job verbs.BlockdevAdd args = blockdev_add args
-job verbs.BlockdevDel args = blockdev_del args
-job verbs.BlockdevReopen args = blockdev_reopen args
-job verbs.ObjectAdd args = object_add args
-job verbs.ObjectDel args = object_del args
-job verbs.BlockExportAdd args = export_add args
-job verbs.BlockExportDel args = export_del args
-job verbs.QueryBlockExports args = plain ListExports args
-job verbs.QueryNamedBlockNodes args = plain ListNodes args
-job verbs.Quit args = plain Quit args
-
--- arguments are an object, where they are there
-abbrev pub are_arguments : Option Data → Result ⊤ Problem
-are_arguments None = Ok tt
-are_arguments (Some d) = if is_some (as_object d) then Ok tt else Err (invalid (codes "arguments"))
+or_not_found name (Some command) = Ok command
 
 unfoldable pub job_named : List ℕ → Option Data → Result QmpCommand Problem
 job_named name args = do
-  verb ← or_not_found name (verb_named name)
-  _ ← are_arguments args
-  command ← job verb args
+  named ← or_not_found name (command_named name)
+  command ← command_with named args
   Ok (Job command)
 
 -- nothing is enabled
 abbrev pub enables_none : Option Data → Result ⊤ Problem
 enables_none None = Ok tt
 enables_none (Some d) = if is_empty_list d then Ok tt else Err (invalid (codes "enable"))
+
+abbrev pub not_negotiated : Problem
+not_negotiated = record { class = CommandNotFound; desc = codes "Expecting capabilities negotiation" }
 
 abbrev pub is_negotiation : List ℕ → Result ⊤ Problem
 is_negotiation name = if bytes_eq name (codes "qmp_capabilities") then Ok tt else Err not_negotiated

@@ -3,23 +3,24 @@ ghost use Rattle.std.specs.Str.{IsUtf8};
 ghost use Rattle.serde_json.specs.Find.{as_str, get};
 ghost use Rattle.serde_json.specs.Read.{read};
 ghost use Rattle.serde_json.specs.View.{view};
-ghost use Rattle.qs_qmp.specs.Arguments.{first_not, is_key, keys_in, seen_data};
-ghost use Rattle.qs_qmp.specs.Problems.{Gives, Problem};
+ghost use Rattle.qs_qmp_arguments.specs.Arguments.{first_not, is_key, keys_in, seen_data};
+ghost use Rattle.qs_qmp_arguments.specs.Commands.{command_named};
+ghost use Rattle.qs_qmp_arguments.specs.Problems.{Gives, Problem};
 ghost use Rattle.qs_qmp.specs.declared.asked.QmpCommand.{QmpCommand};
-ghost use Rattle.qs_qmp.specs.Reading.{Answers, HasFitId, are_arguments, asked_of, asked_by, command_of, enables_none, is_fit, is_member, is_negotiation, job_named, negotiation, or_no_command, or_not_found, verb_named, asked_with_id, without_id};
+ghost use Rattle.qs_qmp.specs.Reading.{Answers, HasFitId, asked_of, asked_by, command_of, enables_none, is_fit, is_member, is_negotiation, job_named, negotiation, or_no_command, or_not_found, asked_with_id, without_id};
 
-use crate::arguments::{argument, none_but};
 use crate::asked::{QmpAsked, QmpCommand};
-use crate::fault::{Class, QmpFault, Wrong, invalid, refusal};
+use crate::fault::QmpFault;
 use crate::floats::has_float;
-use crate::keys::Keys;
-use crate::kinds::is_empty_list;
-use crate::verb::Verb;
+use qs_qmp_arguments::{
+    ArgumentFault, ArgumentKeys, Class, CommandName, are_arguments, argument, invalid,
+    is_empty_list, none_but, refusal,
+};
 use serde_json::Value;
 use std::alloc::{AllocError, Global};
 
 /// The text of the member `execute`.
-fn execute_of(alloc: Global, message: &Value) -> Result<&str, Wrong>
+fn execute_of(alloc: Global, message: &Value) -> Result<&str, ArgumentFault>
     ensures { Gives (λ x. x.now) result
         (or_no_command (option_and_then as_str (get (codes "execute") (view message.now)))) }
 {
@@ -45,11 +46,11 @@ fn text_of(value: Option<&Value>) -> Option<&str>
 }
 
 /// Refuses a member that no message has.
-fn no_other_member(alloc: Global, message: &Value) -> Result<(), Wrong>
+fn no_other_member(alloc: Global, message: &Value) -> Result<(), ArgumentFault>
     ensures { Gives (λ x. x) result
-        (is_member (first_not (λ k. is_key Keys.Message k) (keys_in (Some (view message.now))))) }
+        (is_member (first_not (λ k. is_key ArgumentKeys.Message k) (keys_in (Some (view message.now))))) }
 {
-    match Keys::Message.first_other(Some(message)) {
+    match ArgumentKeys::Message.first_other(Some(message)) {
         None => Ok(()),
         Some(key) => Err(refusal(
             alloc,
@@ -61,11 +62,11 @@ fn no_other_member(alloc: Global, message: &Value) -> Result<(), Wrong>
     }
 }
 
-fn verb_of(alloc: Global, name: &str) -> Result<Verb, Wrong>
-    ensures { Gives (λ x. x) result (or_not_found name.now (verb_named name.now)) }
+fn command_name_of(alloc: Global, name: &str) -> Result<CommandName, ArgumentFault>
+    ensures { Gives (λ x. x) result (or_not_found name.now (command_named name.now)) }
 {
-    match Verb::named(name) {
-        Some(verb) => Ok(verb),
+    match CommandName::named(name) {
+        Some(named) => Ok(named),
         None => Err(refusal(
             alloc,
             Class::CommandNotFound,
@@ -76,33 +77,20 @@ fn verb_of(alloc: Global, name: &str) -> Result<Verb, Wrong>
     }
 }
 
-/// Refuses arguments that are no object.
-fn are_arguments(alloc: Global, arguments: Option<&Value>) -> Result<(), Wrong>
-    ensures { Gives (λ x. x) result (are_arguments (seen_data arguments.entry)) }
-{
-    match arguments {
-        None => Ok(()),
-        Some(value) => {
-            if value.is_object() {
-                Ok(())
-            } else {
-                Err(invalid(alloc, "arguments"))
-            }
-        }
-    }
-}
-
 #[tactic(auto, unfolding(crate::specs::Reading::job_named))]
-fn job_named(alloc: Global, name: &str, arguments: Option<&Value>) -> Result<QmpCommand, Wrong>
+fn job_named(
+    alloc: Global,
+    name: &str,
+    arguments: Option<&Value>,
+) -> Result<QmpCommand, ArgumentFault>
     ensures { Gives (λ x. x) result (job_named name.now (seen_data arguments.entry)) }
 {
-    let verb = verb_of(alloc, name)?;
-    are_arguments(alloc, arguments)?;
-    let command = verb.job(alloc, arguments)?;
+    let named = command_name_of(alloc, name)?;
+    let command = named.read(alloc, arguments)?;
     Ok(QmpCommand::Job(command))
 }
 
-fn is_negotiation(alloc: Global, name: &str) -> Result<(), Wrong>
+fn is_negotiation(alloc: Global, name: &str) -> Result<(), ArgumentFault>
     ensures { Gives (λ x. x) result (is_negotiation name.now) }
 {
     if name == "qmp_capabilities" {
@@ -118,7 +106,7 @@ fn is_negotiation(alloc: Global, name: &str) -> Result<(), Wrong>
     }
 }
 
-fn enables_none(alloc: Global, enable: Option<&Value>) -> Result<(), Wrong>
+fn enables_none(alloc: Global, enable: Option<&Value>) -> Result<(), ArgumentFault>
     ensures { Gives (λ x. x) result (enables_none (seen_data enable.entry)) }
 {
     match enable {
@@ -134,18 +122,22 @@ fn enables_none(alloc: Global, enable: Option<&Value>) -> Result<(), Wrong>
 }
 
 #[tactic(auto, unfolding(crate::specs::Reading::negotiation))]
-fn negotiation(alloc: Global, name: &str, arguments: Option<&Value>) -> Result<QmpCommand, Wrong>
+fn negotiation(
+    alloc: Global,
+    name: &str,
+    arguments: Option<&Value>,
+) -> Result<QmpCommand, ArgumentFault>
     ensures { Gives (λ x. x) result (negotiation name.now (seen_data arguments.entry)) }
 {
     is_negotiation(alloc, name)?;
     are_arguments(alloc, arguments)?;
-    none_but(alloc, arguments, Keys::Capabilities)?;
+    none_but(alloc, arguments, ArgumentKeys::Capabilities)?;
     enables_none(alloc, argument(arguments, "enable"))?;
     Ok(QmpCommand::Capabilities)
 }
 
 #[tactic(auto, unfolding(crate::specs::Reading::command_of))]
-fn command_of(alloc: Global, message: &Value, negotiated: bool) -> Result<QmpCommand, Wrong>
+fn command_of(alloc: Global, message: &Value, negotiated: bool) -> Result<QmpCommand, ArgumentFault>
     ensures { Gives (λ x. x) result (command_of negotiated (view message.now)) }
 {
     let name = execute_of(alloc, message)?;
@@ -178,7 +170,10 @@ fn copied(id: Option<&Value>) -> Result<Option<Value>, AllocError>
 }
 
 /// What was read, with the message's id.
-fn with_id(command: Result<QmpCommand, Wrong>, id: Option<Value>) -> Result<QmpAsked, QmpFault>
+fn with_id(
+    command: Result<QmpCommand, ArgumentFault>,
+    id: Option<Value>,
+) -> Result<QmpAsked, QmpFault>
     requires { is_fit (option_map view id) ≡ true }
     ensures answers { (read : Result QmpCommand Problem) → Gives (λ x. x) command read
         → Answers result (asked_with_id (option_map view id) read) }
@@ -186,8 +181,8 @@ fn with_id(command: Result<QmpCommand, Wrong>, id: Option<Value>) -> Result<QmpA
 {
     match command {
         Ok(command) => Ok(QmpAsked { command, id }),
-        Err(Wrong::Memory) => Err(QmpFault::Memory),
-        Err(Wrong::Refused { class, desc }) => Err(QmpFault::Refused { class, desc, id }),
+        Err(ArgumentFault::Memory) => Err(QmpFault::Memory),
+        Err(ArgumentFault::Refused { class, desc }) => Err(QmpFault::Refused { class, desc, id }),
     }
 }
 

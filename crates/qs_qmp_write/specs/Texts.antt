@@ -13,8 +13,8 @@ use Rattle.qs_part.specs.declared.table.Driver.{Driver}
 use Rattle.qs_part.specs.declared.table.Driver.TheVariants.{File, Raw, Throttle}
 use Rattle.qs_part.specs.declared.table.NodeRow.{NodeRow}
 use Rattle.qs_part.specs.declared.table.ExportRow.{ExportRow}
-use Rattle.qs_qmp.specs.declared.fault.Class.{Class}
-use Rattle.qs_qmp.specs.declared.fault.Class.TheVariants.{GenericError, CommandNotFound}
+use Rattle.qs_qmp_arguments.specs.declared.fault.Class.{Class}
+use Rattle.qs_qmp_arguments.specs.declared.fault.Class.TheVariants.{GenericError, CommandNotFound}
 use Rattle.qs_qmp.specs.declared.fault.QmpFault.{QmpFault}
 use Rattle.qs_qmp.specs.declared.fault.QmpFault.TheVariants as faults
 use Rattle.qs_qmp.specs.Reading.{is_fit}

@@ -1,5 +1,5 @@
 ghost use Rattle.std.specs.Prelude.{◌≡◌, true};
-ghost use Rattle.qs_qmp.specs.Arguments.{seen_data};
+ghost use Rattle.qs_qmp_arguments.specs.Arguments.{seen_data};
 ghost use Rattle.qs_qmp.specs.Reading.{is_fit};
 ghost use Rattle.qs_qmp_write.specs.Texts.{CanTellFault};
 

@@ -2,7 +2,7 @@ ghost use Rattle.std.specs.Prelude.{◌≡◌, ◌++◌, false, true, string_byt
 ghost use Rattle.serde_json.specs.Data.{array, member, no_members, object};
 ghost use Rattle.serde_json.specs.View.{items_view, members_view, view};
 ghost use Rattle.serde_json.specs.Written.{has_float};
-ghost use Rattle.qs_qmp.specs.Arguments.{seen_data};
+ghost use Rattle.qs_qmp_arguments.specs.Arguments.{seen_data};
 ghost use Rattle.qs_qmp.specs.Reading.{is_fit};
 ghost use Rattle.qs_qmp_write.specs.Texts.{CanTellFault, answer_data, deletion, end_text, error, export_data, exports, failed, fault_text, message, named_data, node, nodes, quit_text, returned, timestamp, with_id};
 

@@ -85,7 +85,7 @@ same_head n x y xs ys number request rest = go (same_or y.number n)
     go (inl e) = request_here n x xs (number ∙ e) ∙ ap Some request ∙ sym (request_here n y ys e)
     go (inr o) = request_past n x xs (λ e. o (sym number ∙ e)) ∙ rest ∙ sym (request_past n y ys o)
 
-with_other : (n k : ℕ) (q : Req) (live : List TaskValue) → k ≢ n → live_by_number n (with_request k q live) ≡ live_by_number n live
+pub with_other : (n k : ℕ) (q : Req) (live : List TaskValue) → k ≢ n → live_by_number n (with_request k q live) ≡ live_by_number n live
 with_other n k q [] other = refl
 with_other n k q (t ∷ live) other = go (same_or t.number k) (with_other n k q live other)
   where
@@ -96,7 +96,7 @@ with_other n k q (t ∷ live) other = go (same_or t.number k) (with_other n k q 
         ap (live_by_number n) (with_here k q t live e) ∙ request_past n (record t { request = q }) live past ∙ sym (request_past n t live past)
     go (inr o) rest = ap (live_by_number n) (with_past k q t live o) ∙ same_head n t t (with_request k q live) live refl refl rest
 
-without_other : (n k : ℕ) (live : List TaskValue) → k ≢ n → live_by_number n (without_request k live) ≡ live_by_number n live
+pub without_other : (n k : ℕ) (live : List TaskValue) → k ≢ n → live_by_number n (without_request k live) ≡ live_by_number n live
 without_other n k [] other = refl
 without_other n k (t ∷ live) other = go (same_or t.number k) (without_other n k live other)
   where

@@ -1,5 +1,5 @@
 -- A crew of live requests: what becomes of it, event by event, and what the events tell of one request.
-use Rattle.std.specs.Prelude.{◌≡◌, ◌≢◌, ℕ, ◌<◌, ◌⊎◌, ◌==◌, false, if◌then◌else◌, List, [], ◌∷◌, ◌++◌, length, map, Option, Some, None}
+use Rattle.std.specs.Prelude.{◌≡◌, ◌≢◌, ℕ, ◌<◌, ◌⊎◌, ◌==◌, false, if◌then◌else◌, List, [], ◌∷◌, ◌++◌, length, map, nat_le, Option, Some, None, IsSome}
 use Rattle.std.specs.List.{slice_set, remove}
 use Rattle.std.specs.Option.{option_map}
 use Rattle.qs_bytes.specs.declared.ask.Ask.{Ask}
@@ -41,6 +41,17 @@ pub data CrewEvent : Type 0 where
 abbrev pub live_by_number : ℕ → List TaskValue → Option Req
 live_by_number n [] = None
 live_by_number n (t ∷ live) = if t.number == n then Some t.request else live_by_number n live
+
+-- The least number above `low` that a live request has. Without one, none has a number above it.
+abbrev pub NextAbove : ℕ → List TaskValue → Option ℕ → Type 0
+NextAbove low live None = (m : ℕ) → low < m → live_by_number m live ≡ None
+NextAbove low live (Some n) =
+    (low < n) × IsSome (live_by_number n live) × ((m : ℕ) → low < m → m < n → live_by_number m live ≡ None)
+
+-- the lesser of two numbers, of which the second counts only where it is above `low`
+abbrev pub lesser_above : ℕ → Option ℕ → ℕ → Option ℕ
+lesser_above low None n = if nat_le n low then None else Some n
+lesser_above low (Some m) n = if nat_le n low then Some m else (if nat_le m n then Some m else Some n)
 
 -- request n is q now
 abbrev pub with_request : ℕ → Req → List TaskValue → List TaskValue

@@ -1,7 +1,7 @@
 ghost use Rattle.std.specs.Prelude.{◌≡◌, ◌<◌, ◌≤◌, ◌==◌, ◌++◌, ◌∷◌, [], false, length, map, position, slice_get, Some, IfOk, MatchResult};
 ghost use Rattle.std.specs.List.{AllByRecursion};
 ghost use Rattle.std.specs.Vec.{vec_capacity};
-ghost use Rattle.qs_task.specs.Crews.{Began, IsManned, Left, CrewPolls, CrewStep, PollsAt, abandoned_task, no_crew};
+ghost use Rattle.qs_task.specs.Crews.{Began, IsManned, Left, CrewPolls, CrewStep, NextAbove, PollsAt, abandoned_task, lesser_above, no_crew};
 ghost use Rattle.qs_task.specs.Tasks.{TaskValue};
 
 use crate::need::{Need, Polled};
@@ -34,6 +34,8 @@ pub struct Crew {
     tasks: Vec<RequestTask>,
     shape: Shape,
     newest: u64,
+    /// The request that was answered last, with its memory.
+    answered: Option<Req>,
 }
 
 impl Model for Crew {
@@ -56,12 +58,37 @@ fn find(tasks: &[RequestTask], number: u64) -> Option<usize>
     tasks.iter().position(|task| task.number() == number)
 }
 
+/// The lesser of two numbers, of which the second counts only where it is above `low`.
+fn lesser_above(low: u64, least: Option<u64>, number: u64) -> Option<u64>
+    ensures { result ≡ lesser_above low least number }
+{
+    if number <= low {
+        return least;
+    }
+    match least {
+        Some(other) if other <= number => Some(other),
+        _ => Some(number),
+    }
+}
+
+/// The least number above `low` that one of the tasks has.
+fn least_above(tasks: &[RequestTask], low: u64) -> Option<u64>
+    ensures { NextAbove low tasks.now result }
+{
+    let mut least = None;
+    for task in tasks {
+        least = lesser_above(low, least, task.number());
+    }
+    least
+}
+
 /// Polls the task at a place, and takes it out where it is answered.
 fn poll_at<S: Station, R: Wait>(
     rt: &R,
     hall: &S::Hall,
     station: &mut S,
     tasks: &mut Vec<RequestTask>,
+    answered: &mut Option<Req>,
     at: usize,
     now: u64,
 ) -> CrewPoll
@@ -78,7 +105,8 @@ fn poll_at<S: Station, R: Wait>(
     match tasks[at].poll(rt, hall, station, now) {
         Polled::Pending(need) => CrewPoll::Pending(need),
         Polled::Ready(verdict) => {
-            tasks.remove(at);
+            let task = tasks.remove(at);
+            *answered = Some(task.into_request());
             CrewPoll::Answered(ask, verdict)
         }
     }
@@ -113,6 +141,7 @@ impl Crew {
             tasks: Vec::with_capacity(alloc, MOST)?,
             shape,
             newest: 0,
+            answered: None,
         })
     }
 
@@ -128,6 +157,20 @@ impl Crew {
         ensures { result ≡ self.now.newest }
     {
         self.newest
+    }
+
+    /// The least number above this one that a live request has.
+    pub fn next_above(&self, number: u64) -> Option<u64>
+        ensures { NextAbove number self.now.live result }
+    {
+        least_above(&self.tasks, number)
+    }
+
+    /// The request that was answered last, for its memory. It is given once.
+    pub fn take_answered(&mut self) -> Option<Req>
+        ensures { self.new ≡ self.old }
+    {
+        self.answered.take()
     }
 
     /// How many requests are live.
@@ -175,7 +218,15 @@ impl Crew {
         ensures later { S.follows station.old station.new }
     {
         match find(&self.tasks, number) {
-            Some(at) => poll_at(rt, hall, station, &mut self.tasks, at, now),
+            Some(at) => poll_at(
+                rt,
+                hall,
+                station,
+                &mut self.tasks,
+                &mut self.answered,
+                at,
+                now,
+            ),
             None => return CrewPoll::NoSuch,
         }
     }

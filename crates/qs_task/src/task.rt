@@ -126,6 +126,11 @@ impl RequestTask {
         self.request.ask()
     }
 
+    /// The request itself, which nothing more is asked of.
+    pub fn into_request(self) -> Req {
+        self.request
+    }
+
     /// The session has left: a request that hasn't entered is dropped at once, one without a span ends, also a
     /// FLUSH that syncs, and another runs on. Its verdict is Dropped.
     pub fn abandon(&mut self)

@@ -56,7 +56,7 @@ fn stripe_answer(op: StripeOp) -> StripeReply
 }
 
 /// How the parts answer.
-fn answer(busy: bool, way: Route, todo: Todo) -> PartReply
+pub fn answer(busy: bool, way: Route, todo: Todo) -> PartReply
     requires { IsOperation todo }
     ensures { result ≡ part_answer busy way todo }
 {

@@ -32,6 +32,25 @@ pub fn open_next<P: Part>(
     Ok(())
 }
 
+/// Splits a pass off the first pass of each turn, into an empty vector that has room for them.
+pub fn split_into<P: Part>(
+    turns: &[Turn<P>],
+    passes: &mut Vec<Pass<P>>,
+    mut given: Vec<Pass<P>>,
+) -> Vec<Pass<P>>
+    requires turns { Pairs IsPassOf turns.now passes.old.items }
+    requires first { Each IsFirst passes.old.items }
+    requires room { (given.items ≡ []) × (length turns.now ≤ vec_capacity given) }
+    ensures turns { Pairs IsPassOf turns.now passes.new.items × Pairs IsPassOf turns.now result.items }
+    ensures forked { Triples Forked passes.old.items passes.new.items result.items }
+    ensures first { Each IsFirst passes.new.items × Each IsOther result.items }
+{
+    for i in 0..turns.len() {
+        given.push_reserved(turns[i].split(&mut passes[i]));
+    }
+    given
+}
+
 /// Splits a pass off the first pass of each turn.
 ///
 /// The memory for the new row is taken first: where it is refused, nothing is split.
@@ -48,11 +67,8 @@ pub fn split_all<P: Part>(
     ensures forked { IfOk result (λ given. Triples Forked passes.old.items passes.new.items given.items) }
     ensures first { IfOk result (λ given. Each IsFirst passes.new.items × Each IsOther given.items) }
 {
-    let mut given = Vec::with_capacity(alloc, turns.len())?;
-    for i in 0..turns.len() {
-        given.push_reserved(turns[i].split(&mut passes[i]));
-    }
-    Ok(given)
+    let given = Vec::with_capacity(alloc, turns.len())?;
+    Ok(split_into(turns, passes, given))
 }
 
 /// Makes one call of the turn at a place, with the pass there.

@@ -1,3 +1,4 @@
+pub mod Patience
 pub mod Pending
 pub mod Currents
 pub mod Runs

@@ -4,10 +4,12 @@
 
 mod gathered;
 pub mod laws;
+mod patient;
 mod stream;
 mod window;
 
 pub use gathered::Sending;
+pub use patient::PatientLink;
 pub use stream::WireStream;
 
 #[cfg(test)]

@@ -1,7 +1,9 @@
 ghost use Rattle.std.specs.Prelude.{◌≡◌, ◌≤◌, ◌+◌, ◌++◌, ◌==◌, [], length, drop, MatchResult};
+ghost use Rattle.qs_wire_stream.specs.Patience.{with_leave};
 ghost use Rattle.qs_wire_stream.specs.Currents.{TriesRead, TriesWrite, current, fresh_stream};
 
 use crate::gathered::{Gathered, Sending};
+use crate::patient::PatientLink;
 use crate::window::Window;
 use qs_bytes::Memory;
 use qs_links::{Tried, Wire};
@@ -92,6 +94,15 @@ impl<W> WireStream<W> {
         ensures room { self.old.room ≤ self.new.room + length bytes.now }
     {
         self.gathered.push(bytes);
+    }
+}
+
+impl<L> WireStream<PatientLink<L>> {
+    /// Gives the wire leave for one read.
+    pub fn allow_read(&mut self)
+        ensures { self.new ≡ record self.old { wire = with_leave self.old.wire } }
+    {
+        self.wire.give_leave();
     }
 }
 

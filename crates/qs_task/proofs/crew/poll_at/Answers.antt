@@ -14,5 +14,5 @@ returns-in-Ready-clause-polls g c = λ t stands.
       subst (λ (x : TaskValue). Polls (IsReady c.in-Ready.verdict) x c.poll.new.self (g.S.Station.book c.args.station.now) (g.S.Station.book c.poll.new.station)) polled
           c.in-Ready.ensures.polls,
       c.ask-ask.ensures ∙ ap (λ (x : TaskValue). x.request.client.ask) asked,
-      c.remove.ensures.items ∙ remove_set c.args.tasks.now.items c.args.at c.poll.new.self,
+      c.remove-task.ensures.items ∙ remove_set c.args.tasks.now.items c.args.at c.poll.new.self,
     )

@@ -1,0 +1,4 @@
+pub mod Running
+pub mod Fitting
+pub mod Crewed
+pub mod Storied
