@@ -1,7 +1,0 @@
-use Rattle.std.proofs.lemmas.Bool.Decides.{same_from_decides}
-use Rattle.qs_qmp.specs.Kinds.{is_id}
-use Rattle.qs_qmp.proofs.Deciding.{id_decides}
-use Rattle.qs_qmp.proofs.kinds.is_id.Goals as goal
-
-pub returns : goal.returns
-returns c = same_from_decides c.is_id.result (is_id c.args.name.now) c.is_id.ensures (id_decides c.args.name.now)

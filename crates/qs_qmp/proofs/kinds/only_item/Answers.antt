@@ -1,6 +1,0 @@
-use Rattle.std.proofs.Common.{sym}
-use Rattle.qs_qmp.proofs.Lists.{more_items}
-use Rattle.qs_qmp.proofs.kinds.only_item.Goals as goal
-
-pub returns-in-len2-up : goal.returns-in-len2-up
-returns-in-len2-up c = sym (more_items c.args.items.now c.in-len2-up.len_at_least)
