@@ -79,7 +79,7 @@ fn export<R: Wait>(
     rt: &R,
     shared: &Shared<MemDisk>,
     first: &mut SessionPass<MemDisk>,
-) -> Result<GraphReply, Fail>
+) -> Result<(), Fail>
     requires { IsSessionPass journal_seen shared.now first.old }
     ensures of { IsSessionPass journal_seen shared.now first.new }
     ensures later { FollowsAll first.old first.new }
@@ -92,7 +92,10 @@ fn export<R: Wait>(
         writable: true,
         share_write: true,
     };
-    Ok(shared.call_graph(rt, first, 0, add))
+    match shared.call_graph(rt, first, 0, add) {
+        GraphReply::Added(_) => Ok(()),
+        _ => Err(Fail::new("it wasn't exported")),
+    }
 }
 
 /// A request of so many bytes, each of which is `byte`, to the export at place 0.
