@@ -1,4 +1,4 @@
 pub mod Running
 pub mod Fitting
 pub mod Crewed
-pub mod Storied
+pub mod Streams

@@ -123,13 +123,13 @@ stop_ends v (WireBroke ∷ es) new is runs = stop_ends runs.0 es new is runs.2
 stop_ends v (CalledDetach e reply ∷ es) new is runs = stop_ends runs.0 es new is runs.2
 
 -- all was taken, and nothing more
-all_first : (left : Option (List ℕ)) (waiting first second : List ℕ) → TakesAll left waiting first → second ≡ [] →
+pub all_first : (left : Option (List ℕ)) (waiting first second : List ℕ) → TakesAll left waiting first → second ≡ [] →
     TakesAll left waiting (first ++ second)
 all_first left waiting first second all none =
     subst (λ (xs : List ℕ). TakesAll left waiting xs) (sym (append-nil first) ∙ ap (λ (ys : List ℕ). first ++ ys) (sym none)) all
 
 -- some was taken, and then all that there was
-all_second : (left left' : Option (List ℕ)) (waiting waiting' first second : List ℕ) → Takes left waiting first left' waiting' →
+pub all_second : (left left' : Option (List ℕ)) (waiting waiting' first second : List ℕ) → Takes left waiting first left' waiting' →
     TakesAll left' waiting' second → TakesAll left waiting (first ++ second)
 all_second None left' waiting waiting' first second takes all = tt
 all_second (Some xs) None waiting waiting' first second takes all = absurd takes.read
@@ -140,13 +140,13 @@ all_second (Some xs) (Some ys) waiting waiting' first second takes all =
     ∙ append_assoc first waiting' ys
     ∙ ap (λ (zs : List ℕ). first ++ zs) all
 
-fault_first : (a b c : Current) (taken given : List ℕ) → FaultRose a b → Advanced taken given b c → FaultRose a c
+pub fault_first : (a b c : Current) (taken given : List ℕ) → FaultRose a b → Advanced taken given b c → FaultRose a c
 fault_first a b c taken given rose on = elim rose [
   | inl read ↦ inl (omega (arith, read, on.reads))
   | inr write ↦ inr (omega (arith, write, on.writes))
 ]
 
-fault_second : (a b c : Current) (taken given : List ℕ) → Advanced taken given a b → FaultRose b c → FaultRose a c
+pub fault_second : (a b c : Current) (taken given : List ℕ) → Advanced taken given a b → FaultRose b c → FaultRose a c
 fault_second a b c taken given on rose = elim rose [
   | inl read ↦ inl (omega (arith, read, on.reads))
   | inr write ↦ inr (omega (arith, write, on.writes))

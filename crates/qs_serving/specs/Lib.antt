@@ -6,4 +6,3 @@ pub mod Events
 pub mod Steps
 pub mod Scenes
 pub mod Turns
-pub mod Stories

@@ -1,0 +1,5 @@
+pub mod Running
+pub mod Telling
+pub mod Hearing
+pub mod Turning
+pub mod Wishing

@@ -1,0 +1,5 @@
+pub mod Tellings
+pub mod Greetings
+pub mod Scenes
+pub mod Turns
+pub mod Asks
