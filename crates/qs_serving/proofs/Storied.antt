@@ -1,9 +1,8 @@
 -- The story of a transmission phase, event by event.
-use Rattle.std.proofs.Common.{◌≡◌, ◌≢◌, ℕ, ◌+◌, ◌<◌, ◌≤◌, ◌⊎◌, inl, inr, Bool, true, false, true≢false, List, [], ◌∷◌, ◌++◌, length, map, refl, sym, ap, ◌∙◌, subst, arith, append_assoc, append-nil, cond}
+use Rattle.std.proofs.Common.{◌≡◌, ℕ, ◌+◌, Bool, true, false, true≢false, List, [], ◌∷◌, ◌++◌, map, refl, sym, ap, ◌∙◌, subst, arith, append-nil, cond}
 use Rattle.std.specs.Prelude.{Option, Some, None, IsSome}
 use Rattle.std.specs.List.{flat_map}
 use Rattle.qs_bytes.specs.declared.ask.Ask.{Ask}
-use Rattle.qs_bytes.specs.declared.ask.Verdict.{Verdict}
 use Rattle.qs_nbd_transmission.proofs.Histories.{reads_sessions}
 use Rattle.qs_nbd_transmission.proofs.Reading.{asks_room}
 use Rattle.qs_nbd_transmission.specs.Heads.{has_data}
@@ -18,12 +17,12 @@ use Rattle.qs_status.specs.declared.status.SessionEnd.TheVariants.{LinkFault, Me
 use Rattle.qs_model.specs.Requests.{Req}
 use Rattle.qs_task.proofs.Telling.{merged}
 use Rattle.qs_task.specs.Tasks.{TaskValue}
-use Rattle.qs_task.specs.Crews.{CrewEvent, CrewRuns, CrewValue, Left, live_by_number, no_crew}
+use Rattle.qs_task.specs.Crews.{CrewEvent, CrewRuns, CrewValue, live_by_number}
 use Rattle.qs_serving.proofs.Running.{ended_stays, some_none}
 use Rattle.qs_serving.specs.Answers.{answer_bytes, end_for_memory, is_fault}
 use Rattle.qs_serving.specs.Events.{ServingEvent, AnswerGiven, AnswerLost, BeganTask, CallMade, CalledDetach, GaveRoom, InputStopped, TookBytes, WireBroke, given_out, taken_in}
 use Rattle.qs_serving.specs.Steps.{Announced, Entire, MayRead, NoneYet, ServingRuns, ServingStep, ServingValue, Upcoming, closed_as, left_if, next_after, told_value}
-use Rattle.qs_serving.specs.Stories.{DetachesLast, IsNumbered, ServingStory, ServingTells, asks_ahead, begun_by, crew_events, has_detach, heads_told, left_events, reader_calls, replies_put}
+use Rattle.qs_serving.specs.Stories.{DetachesLast, IsNumbered, ServingTells, asks_ahead, begun_by, crew_events, has_detach, heads_told, left_events, reader_calls, replies_put}
 
 -- ---- the live requests
 crew_append : (a b c : CrewValue) (es fs : List CrewEvent) → CrewRuns a es b → CrewRuns b fs c → CrewRuns a (es ++ fs) c
@@ -66,7 +65,7 @@ crew_goes v (AnswerGiven n ask verdict reply ∷ es) new runs = (runs.0.crew, ru
 crew_goes v (AnswerLost n ask verdict ∷ es) new runs =
     let left : runs.0.crew ≡ left_if true runs.1.crew =
     ap (λ (w : ServingValue). w.crew) runs.1.is ∙ ap (λ (b : Bool). left_if b runs.1.crew) (memory_fault v.ended) in
-    (runs.1.crew, runs.1.step, runs.0.crew, left, crew_goes runs.0 es new runs.2)
+    (runs.1.crew, runs.1.step, (runs.0.crew, left, crew_goes runs.0 es new runs.2))
 crew_goes v (InputStopped end ∷ es) new runs =
     crew_append v.crew (left_if (is_fault end) v.crew) new.crew (left_events (is_fault end)) (crew_events es) (left_runs (is_fault end) v.crew)
     (from_crew (left_if (is_fault end) v.crew) runs.0.crew new.crew (crew_events es) (ap (λ (w : ServingValue). w.crew) runs.1.is) (crew_goes runs.0 es new runs.2))
@@ -97,9 +96,11 @@ reader_more a b c call calls is one goes =
     record {
       leads = (
         one.0,
-        one.1,
-        subst (λ (p : Phase). CallsLead a.structured p calls c.phase) one.2
-            (subst (λ (s : Bool). CallsLead s b.phase calls c.phase) same goes.leads),
+        (
+          one.1.0,
+          subst (λ (p : Phase). CallsLead a.structured p calls c.phase) one.1.1
+              (subst (λ (s : Bool). CallsLead s b.phase calls c.phase) same goes.leads),
+        ),
       );
       same = goes.same ∙ same;
     }
@@ -109,12 +110,12 @@ reader_goes v [] new runs = record { leads = ap (λ (w : ServingValue). w.reader
 reader_goes v (TookBytes bytes told ∷ es) new runs =
     let is : runs.0.reader ≡ record v.reader { phase = runs.0.reader.phase } =
     ap (λ (w : ServingValue). w.reader) runs.1.is ∙ told_reader told runs.0.reader.phase v in
-    reader_more v.reader runs.0.reader new.reader (Took bytes told) (reader_calls es) is (runs.0.reader.phase, runs.1.reaches, refl) (reader_goes runs.0 es new runs.2)
+    reader_more v.reader runs.0.reader new.reader (Took bytes told) (reader_calls es) is (runs.0.reader.phase, (runs.1.reaches, refl)) (reader_goes runs.0 es new runs.2)
 reader_goes v (GaveRoom room ∷ es) new runs =
     let is : runs.0.reader ≡ record v.reader { phase = runs.0.reader.phase } =
     ap (λ (w : ServingValue). w.reader) runs.1.is ∙ ap (λ (p : Phase). record v.reader { phase = p }) (sym (ap (λ (w : ServingValue). w.reader.phase) runs.1.is)) in
     reader_more v.reader runs.0.reader new.reader (Gave room) (reader_calls es) is
-    (runs.0.reader.phase, (runs.1.can, ap (λ (w : ServingValue). w.reader.phase) runs.1.is), refl) (reader_goes runs.0 es new runs.2)
+    (runs.0.reader.phase, ((runs.1.can, ap (λ (w : ServingValue). w.reader.phase) runs.1.is), refl)) (reader_goes runs.0 es new runs.2)
 reader_goes v (BeganTask t ∷ es) new runs =
     reader_from v.reader runs.0.reader new.reader (reader_calls es) (ap (λ (w : ServingValue). w.reader) runs.1.is) (reader_goes runs.0 es new runs.2)
 reader_goes v (CallMade c ∷ es) new runs =
@@ -203,7 +204,7 @@ numbered_from first v (CalledDetach e reply ∷ es) new next runs =
 
 -- ---- heads
 -- what is ahead, by where the reader is
-NextFits : Phase → Upcoming → Type 0
+abbrev pub NextFits : Phase → Upcoming → Type 0
 NextFits (InHead held) NoneYet = Unit {0}
 NextFits (InHead held) (Announced ask) = ⊥
 NextFits (InHead held) (Entire ask body) = Unit {0}
@@ -360,24 +361,25 @@ pub record NothingComes (v : ServingValue) (es : List ServingEvent) (new : Servi
   pub begun : begun_by es ≡ []
   pub next : new.next ≡ v.next
 
-comes_on : (v mid : ServingValue) (es : List ServingEvent) (new : ServingValue) → mid.next ≡ v.next → NothingComes mid es new → NothingComes v es new
-comes_on v mid es new same rest = record { heads = rest.heads; begun = rest.begun; next = rest.next ∙ same }
+comes_on : (v mid : ServingValue) (e : ServingEvent) (es : List ServingEvent) (new : ServingValue) → heads_told (e ∷ es) ≡ heads_told es →
+    begun_by (e ∷ es) ≡ begun_by es → mid.next ≡ v.next → NothingComes mid es new → NothingComes v (e ∷ es) new
+comes_on v mid e es new heads begun same rest = record { heads = heads ∙ rest.heads; begun = begun ∙ rest.begun; next = rest.next ∙ same }
 
 pub ended_comes : (v : ServingValue) (es : List ServingEvent) (new : ServingValue) → IsSome v.ended → ServingRuns v es new → NothingComes v es new
 ended_comes v [] new some runs = record { heads = refl; begun = refl; next = ap (λ (w : ServingValue). w.next) runs }
 ended_comes v (TookBytes bytes told ∷ es) new some runs = absurd (some_none v.ended runs.1.going some)
 ended_comes v (GaveRoom room ∷ es) new some runs = absurd (some_none v.ended runs.1.going some)
 ended_comes v (BeganTask t ∷ es) new some runs = absurd (some_none v.ended runs.1.going some)
-ended_comes v (CallMade c ∷ es) new some runs = comes_on v runs.0 es new (ap (λ (w : ServingValue). w.next) runs.1.is)
+ended_comes v (CallMade c ∷ es) new some runs = comes_on v runs.0 (CallMade c) es new refl refl (ap (λ (w : ServingValue). w.next) runs.1.is)
     (ended_comes runs.0 es new (ended_stays v (CallMade c) runs.0 some runs.1) runs.2)
-ended_comes v (AnswerGiven n ask verdict reply ∷ es) new some runs = comes_on v runs.0 es new (ap (λ (w : ServingValue). w.next) runs.1.is)
+ended_comes v (AnswerGiven n ask verdict reply ∷ es) new some runs = comes_on v runs.0 (AnswerGiven n ask verdict reply) es new refl refl (ap (λ (w : ServingValue). w.next) runs.1.is)
     (ended_comes runs.0 es new (ended_stays v (AnswerGiven n ask verdict reply) runs.0 some runs.1) runs.2)
-ended_comes v (AnswerLost n ask verdict ∷ es) new some runs = comes_on v runs.0 es new (ap (λ (w : ServingValue). w.next) runs.1.is)
+ended_comes v (AnswerLost n ask verdict ∷ es) new some runs = comes_on v runs.0 (AnswerLost n ask verdict) es new refl refl (ap (λ (w : ServingValue). w.next) runs.1.is)
     (ended_comes runs.0 es new (ended_stays v (AnswerLost n ask verdict) runs.0 some runs.1) runs.2)
 ended_comes v (InputStopped end ∷ es) new some runs = absurd (some_none v.ended runs.1.going some)
-ended_comes v (WireBroke ∷ es) new some runs = comes_on v runs.0 es new (ap (λ (w : ServingValue). w.next) runs.1.is)
+ended_comes v (WireBroke ∷ es) new some runs = comes_on v runs.0 WireBroke es new refl refl (ap (λ (w : ServingValue). w.next) runs.1.is)
     (ended_comes runs.0 es new (ended_stays v WireBroke runs.0 some runs.1) runs.2)
-ended_comes v (CalledDetach e reply ∷ es) new some runs = comes_on v runs.0 es new (ap (λ (w : ServingValue). w.next) runs.1.is)
+ended_comes v (CalledDetach e reply ∷ es) new some runs = comes_on v runs.0 (CalledDetach e reply) es new refl refl (ap (λ (w : ServingValue). w.next) runs.1.is)
     (ended_comes runs.0 es new (ended_stays v (CalledDetach e reply) runs.0 some runs.1) runs.2)
 
 ahead_ended : (v mid : ServingValue) (es : List ServingEvent) (new : ServingValue) → mid.next ≡ v.next → NothingComes mid es new → Ahead v es new
