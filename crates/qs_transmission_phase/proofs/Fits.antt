@@ -1,8 +1,8 @@
 -- Live requests, each of whose answers has a reply.
-use Rattle.std.proofs.Common.{◌≡◌, ℕ, ◌+◌, ◌<◌, ◌≤◌, ◌⊎◌, inl, inr, List, [], ◌∷◌, ◌++◌, refl, sym, ap, subst, arith}
+use Rattle.std.proofs.Common.{ℕ, ◌<◌, inl, inr, List, sym, subst, arith}
 use Rattle.std.specs.Prelude.{Option}
 use Rattle.qs_bytes.specs.declared.ask.Ask.{Ask}
-use Rattle.qs_model.specs.Requests.{Req, new_request}
+use Rattle.qs_model.specs.Requests.{Req}
 use Rattle.qs_request.specs.Value.{client_for}
 use Rattle.qs_request_state.specs.Shapes.{IsShape}
 use Rattle.qs_request_state.specs.declared.shape.Shape.{Shape}

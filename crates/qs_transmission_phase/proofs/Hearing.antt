@@ -1,5 +1,5 @@
 -- What the reader tells, and what comes of it.
-use Rattle.std.proofs.Common.{◌≡◌, ◌≢◌, ℕ, ◌<◌, ◌≤◌, Bool, true, false, true≢false, List, [], ◌∷◌, ◌++◌, length, refl, sym, ap, ◌∙◌, subst, arith, append-nil, cond}
+use Rattle.std.proofs.Common.{◌≡◌, ◌≢◌, ℕ, Bool, true, false, true≢false, List, [], ◌∷◌, ◌++◌, refl, sym, ap, ◌∙◌, subst, arith, append-nil, cond}
 use Rattle.std.specs.Prelude.{Option, Some, None}
 use Rattle.qs_bytes.specs.declared.ask.Ask.{Ask}
 use Rattle.qs_nbd_transmission.proofs.Reading.{asks_room}
@@ -11,11 +11,9 @@ use Rattle.qs_nbd_transmission.specs.declared.event.WireEvent.{WireEvent}
 use Rattle.qs_nbd_transmission.specs.declared.event.WireEvent.TheVariants.{Head, Body, Disc, Bad}
 use Rattle.qs_nbd_wire.specs.declared.request.RequestHead.{RequestHead}
 use Rattle.qs_status.specs.declared.status.SessionEnd.{SessionEnd}
-use Rattle.qs_status.specs.declared.status.SessionEnd.TheVariants.{Done}
 use Rattle.qs_stream.proofs.Bytes.{gives_none, takes_split}
 use Rattle.qs_task.specs.Books.{Book}
 use Rattle.qs_task.specs.Crews.{CrewValue}
-use Rattle.qs_task.specs.Tasks.{TaskValue}
 use Rattle.qs_wire_stream.specs.Currents.{Advanced, Current, current}
 use Rattle.qs_wire_stream.specs.Pending.{WireBuffers}
 use Rattle.qs_serving.proofs.Running.{advanced_as, serves_none, serves_on}

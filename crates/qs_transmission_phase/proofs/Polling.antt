@@ -1,5 +1,5 @@
 -- What polls of live requests do.
-use Rattle.std.proofs.Common.{◌≡◌, ◌≢◌, ℕ, ◌<◌, ◌≤◌, ◌⊎◌, inl, inr, Bool, true, false, true≢false, List, [], ◌∷◌, ◌++◌, length, map, refl, sym, ap, ◌∙◌, subst, arith, cond, append-nil, eq-eqb, ne_eqb}
+use Rattle.std.proofs.Common.{◌≡◌, ◌≢◌, ℕ, ◌<◌, ◌≤◌, ◌⊎◌, inl, inr, Bool, true, false, true≢false, List, [], ◌∷◌, ◌++◌, map, refl, sym, ap, ◌∙◌, subst, arith, cond, append-nil, eq-eqb, ne_eqb}
 use Rattle.std.specs.Prelude.{Option, Some, None, IsSome, is_some, ◌==◌, if◌then◌else◌, nat_le}
 use Rattle.std.proofs.lemmas.Bool.Decides.{nat_tests}
 use Rattle.std.specs.Option.{option_map}
@@ -12,9 +12,9 @@ use Rattle.qs_stream.proofs.Bytes.{gives_behind, takes_none}
 use Rattle.qs_task.proofs.Crewing.{request_here, request_past, without_here, without_past}
 use Rattle.qs_task.proofs.Telling.{without_other}
 use Rattle.qs_task.specs.Books.{Book, RequestCall, noted}
-use Rattle.qs_task.specs.Crews.{AnswersNext, Answered, Called, CrewRuns, CrewValue, PollAnswers, PollWaits, AreCallsOf, NextAbove, abandoned_task, live_by_number, without_request}
+use Rattle.qs_task.specs.Crews.{AnswersNext, Called, CrewRuns, CrewValue, PollAnswers, PollWaits, AreCallsOf, NextAbove, abandoned_task, live_by_number, without_request}
 use Rattle.qs_task.specs.Tasks.{TaskValue}
-use Rattle.qs_task.specs.Walks.{GoOn, StopsFor, wait_after}
+use Rattle.qs_task.specs.Walks.{StopsFor, wait_after}
 use Rattle.qs_task.specs.declared.need.Need.{Need}
 use Rattle.qs_wire_stream.specs.Currents.{Advanced, Current, current}
 use Rattle.qs_wire_stream.specs.Pending.{WireBuffers}

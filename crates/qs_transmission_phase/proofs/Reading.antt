@@ -1,5 +1,5 @@
 -- What a read brings, and what the reader tells.
-use Rattle.std.proofs.Common.{◌≡◌, ◌≢◌, ℕ, ◌≤◌, ◌⊎◌, inl, inr, Bool, true, false, true≢false, List, [], ◌∷◌, ◌++◌, refl, sym, ap, ◌∙◌, subst, arith, append_assoc, append-nil}
+use Rattle.std.proofs.Common.{◌≡◌, ◌≢◌, ℕ, inl, true, false, true≢false, List, [], ◌∷◌, ◌++◌, refl, sym, ap, ◌∙◌, subst, append-nil}
 use Rattle.std.specs.Prelude.{Option, Some, None}
 use Rattle.std.specs.Io.KnownBytes.{IsAtEnd}
 use Rattle.qs_links.specs.declared.wire.Tried.TheVariants.{Ended, Failed}
@@ -12,8 +12,8 @@ use Rattle.qs_task.specs.Crews.{CrewValue}
 use Rattle.qs_wire_stream.specs.Currents.{Current, TriesRead}
 use Rattle.qs_serving.proofs.Running.{serves_none, serves_on}
 use Rattle.qs_serving.specs.Answers.{is_fault}
-use Rattle.qs_serving.specs.Events.{ServingEvent, InputStopped, WireBroke}
-use Rattle.qs_serving.specs.Scenes.{ServesOn, ServingScene, TakesAll}
+use Rattle.qs_serving.specs.Events.{InputStopped, WireBroke}
+use Rattle.qs_serving.specs.Scenes.{ServingScene, TakesAll}
 use Rattle.qs_serving.specs.Steps.{ServingValue, closed_as, left_if}
 use Rattle.qs_transmission_phase.specs.Inside.{PhaseValue}
 use Rattle.qs_transmission_phase.specs.Serves.{IsInPlace, ServesSome, phase_scene}

@@ -1,7 +1,6 @@
 -- How rounds and turns end.
-use Rattle.std.proofs.Common.{◌≡◌, ◌≢◌, ℕ, ◌<◌, ◌≤◌, ◌⊎◌, inl, inr, Bool, true, false, true≢false, List, [], ◌∷◌, ◌++◌, refl, sym, ap, ◌∙◌, subst, arith, append-nil}
+use Rattle.std.proofs.Common.{◌≡◌, ◌≢◌, ℕ, ◌≤◌, ◌⊎◌, inl, inr, Bool, true, false, true≢false, List, [], ◌∷◌, ◌++◌, refl, sym, ap, ◌∙◌, subst, arith, append-nil}
 use Rattle.std.specs.Prelude.{Option, Some, None, IsSome, is_some, MatchOption}
-use Rattle.qs_model.specs.Requests.{Req}
 use Rattle.qs_outside.specs.Faults.{Rose}
 use Rattle.qs_status.specs.declared.status.SessionEnd.{SessionEnd}
 use Rattle.qs_status.specs.declared.status.SessionEnd.TheVariants.{LinkFault}
@@ -9,20 +8,20 @@ use Rattle.qs_task.specs.Books.{Book}
 use Rattle.qs_task.specs.Crews.{CrewValue, live_by_number}
 use Rattle.qs_task.specs.declared.need.Need.{Need}
 use Rattle.qs_wire_stream.specs.Currents.{Current, TriesWrite}
+use Rattle.qs_wire_stream.specs.declared.gathered.Sending.{Sending}
 use Rattle.qs_wire_stream.specs.declared.gathered.Sending.TheVariants.{Failed}
-use Rattle.qs_serving.proofs.Running.{serves_none, serves_on, stopped_append}
-use Rattle.qs_serving.specs.Answers.{is_fault}
+use Rattle.qs_serving.proofs.Running.{serves_on, stopped_append}
 use Rattle.qs_serving.specs.Events.{ServingEvent, WireBroke}
 use Rattle.qs_serving.specs.Scenes.{ServesOn, ServingScene}
-use Rattle.qs_serving.specs.Steps.{ServingValue, closed_as, left_if}
-use Rattle.qs_serving.specs.Turns.{IsSettled, IsUndue, LeavesAs, SeatTurn, TellsWait, TurnLeaves, WaitsFor, stopped_at}
+use Rattle.qs_serving.specs.Steps.{ServingValue, left_if}
+use Rattle.qs_serving.specs.Turns.{IsSettled, IsUndue, SeatTurn, TellsWait, WaitsFor, stopped_at}
 use Rattle.qs_serving.specs.declared.turned.Awaited.{Awaited}
 use Rattle.qs_serving.specs.declared.turned.Awaited.TheVariants.{Wire, Part}
 use Rattle.qs_serving.specs.declared.turned.SessionTurn.{SessionTurn}
 use Rattle.qs_serving.specs.declared.turned.SessionTurn.TheVariants.{Pending, Ended}
 use Rattle.qs_transmission_phase.proofs.Polling.{still_stopped, stopped_any}
 use Rattle.qs_transmission_phase.proofs.Reading.{closed_is, some_on}
-use Rattle.qs_transmission_phase.specs.Serves.{AwaitsAs, PollsEach, Rounds, ServesSome, ServesToEnd, Settles, WaitsSome}
+use Rattle.qs_transmission_phase.specs.Serves.{AwaitsAs, PollsEach, Rounds, ServesSome, ServesToEnd, Settles, WaitsSome, WritesAs}
 
 pub write_breaks : (v : ServingValue) (a c : Current) (book : Book) (ended : Option SessionEnd) (crew : CrewValue) →
     v.ended ≢ Some LinkFault → v.detached ≡ false → TriesWrite Failed a c → ended ≡ Some LinkFault → crew ≡ left_if true v.crew →
@@ -38,6 +37,9 @@ write_breaks v a c book ended crew whole there writes is left = record {
     booked = refl;
   };
 }
+
+pub writes_failed : (sending : Sending) (a b : ServingScene) → sending ≡ Failed → ServesSome a b → WritesAs sending a b
+writes_failed sending a b is serves = subst (λ (s : Sending). WritesAs s a b) (sym is) serves
 
 -- a turn that waits, or another round where it isn't told for what
 pub settles_wait : (starved : Bool) (wait : Option Need) (result : Option SessionTurn) (awaited : Option Awaited) (a b : ServingScene) →

@@ -1,7 +1,7 @@
 -- The phase with its stream, and what its fields keep.
 use Rattle.std.specs.Prelude.{◌≡◌, Option, Some, None}
 use Rattle.qs_bytes.specs.declared.ask.Ask.{Ask}
-use Rattle.qs_nbd_transmission.specs.Phases.{Phase, InHead, Wants, Fills, Skips, Over, Stuck}
+use Rattle.qs_nbd_transmission.specs.Phases.{Phase, InHead, Fills, Skips}
 use Rattle.qs_status.specs.declared.status.SessionEnd.{SessionEnd}
 use Rattle.qs_wire_stream.specs.Pending.{WireBuffers}
 use Rattle.qs_serving.specs.Steps.{Announced, NoneYet, ServingValue, Upcoming}

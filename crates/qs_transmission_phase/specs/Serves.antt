@@ -1,5 +1,5 @@
 -- What the parts of a turn do.
-use Rattle.std.specs.Prelude.{◌≡◌, ◌≢◌, ℕ, ◌<◌, ◌≤◌, ◌⊎◌, Bool, true, false, List, [], ◌∷◌, ◌++◌, Option, Some, None, IsSome, IfNone}
+use Rattle.std.specs.Prelude.{◌≡◌, ◌≢◌, ℕ, ◌<◌, ◌≤◌, ◌⊎◌, Bool, true, List, [], ◌∷◌, ◌++◌, Option, Some, None, IsSome}
 use Rattle.qs_bytes.specs.declared.ask.Ask.{Ask}
 use Rattle.qs_bytes.specs.declared.ask.Verdict.{Verdict}
 use Rattle.qs_model.specs.Requests.{Req}
@@ -10,7 +10,7 @@ use Rattle.qs_status.specs.declared.status.SessionEnd.{SessionEnd}
 use Rattle.qs_task.specs.Books.{Book}
 use Rattle.qs_task.specs.Crews.{CrewValue, live_by_number}
 use Rattle.qs_task.specs.declared.need.Need.{Need}
-use Rattle.qs_wire_stream.specs.Currents.{Current, current}
+use Rattle.qs_wire_stream.specs.Currents.{current}
 use Rattle.qs_wire_stream.specs.Patience.{PatientValue}
 use Rattle.qs_wire_stream.specs.Pending.{WireBuffers}
 use Rattle.qs_wire_stream.specs.declared.gathered.Sending.{Sending}

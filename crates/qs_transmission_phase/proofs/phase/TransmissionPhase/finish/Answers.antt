@@ -1,5 +1,5 @@
 -- The session waits, or goes on.
-use Rattle.std.proofs.Common.{inl, inr, refl}
+use Rattle.std.proofs.Common.{inr, refl}
 use Rattle.qs_serving.proofs.Running.{serves_none}
 use Rattle.qs_transmission_phase.proofs.Reading.{some_none}
 use Rattle.qs_transmission_phase.proofs.Turning.{settles_wait}

@@ -1,7 +1,6 @@
 -- What the reader told.
 use Rattle.std.proofs.Common.{◌≡◌, true, false, refl, sym, ap, ◌∙◌, subst}
 use Rattle.std.specs.Prelude.{Option, Some, None}
-use Rattle.qs_bytes.specs.declared.ask.Ask.{Ask}
 use Rattle.qs_nbd_transmission.specs.Heads.{has_data}
 use Rattle.qs_nbd_transmission.specs.declared.event.WireEvent.{WireEvent}
 use Rattle.qs_nbd_transmission.specs.declared.event.WireEvent.TheVariants.{Head, Body, Disc, Bad}

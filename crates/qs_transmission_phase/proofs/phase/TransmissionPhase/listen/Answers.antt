@@ -1,5 +1,5 @@
 -- More was read, or begun.
-use Rattle.std.proofs.Common.{◌≡◌, refl, arith, ◌∙◌}
+use Rattle.std.proofs.Common.{arith}
 use Rattle.qs_transmission_phase.proofs.Reading.{place_none, place_on, some_none, some_on}
 use Rattle.qs_transmission_phase.proofs.phase.TransmissionPhase.listen.Goals as goal
 

@@ -1,5 +1,5 @@
 -- One request more was polled.
-use Rattle.std.specs.Prelude.{Some, None}
+use Rattle.std.specs.Prelude.{Some}
 use Rattle.qs_transmission_phase.proofs.Polling.{above_from, up_to_answer, up_to_none, up_to_wait}
 use Rattle.qs_transmission_phase.proofs.Reading.{place_none, place_on}
 use Rattle.qs_transmission_phase.proofs.phase.TransmissionPhase.poll_each.Goals as goal

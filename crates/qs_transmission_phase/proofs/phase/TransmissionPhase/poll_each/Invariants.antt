@@ -1,5 +1,4 @@
 -- The requests up to a number were polled.
-use Rattle.std.proofs.Common.{◌≡◌}
 use Rattle.qs_transmission_phase.specs.Serves.{IsInPlace, PollsUpTo, phase_scene}
 use Rattle.qs_transmission_phase.proofs.phase.TransmissionPhase.poll_each.Given as goal
 

@@ -1,6 +1,4 @@
 -- A poll of one request.
-use Rattle.std.proofs.Common.{◌≡◌, sym, ap, ◌∙◌, subst}
-use Rattle.qs_task.specs.Crews.{CrewValue}
 use Rattle.qs_serving.specs.Steps.{ServingValue}
 use Rattle.qs_transmission_phase.proofs.Hearing.{value_by}
 use Rattle.qs_transmission_phase.proofs.Polling.{live_from, number_from, poll_answers, poll_waits, replies_as}

@@ -16,11 +16,11 @@ loop-init g c = record {
 pub loop-preserved : goal.loop-preserved
 loop-preserved g c = record {
   of = c.round.ensures.of;
-  serves = turn_goes _ _ _ c.loop.invariant.serves c.in-None.ensures.rounds;
+  serves = turn_goes _ _ _ c.loop.invariant.serves c.in-None-round.ensures.rounds;
   shape = c.round.ensures.shape ∙ c.loop.invariant.shape;
-  there = c.in-None.ensures.there refl;
+  there = c.in-None-round.ensures.there refl;
   later = g.met.S.Station.follows_on _ _ _ c.loop.invariant.later c.round.ensures.later;
 }
 
-pub returns-in-Some-clause-turns : goal.returns-in-Some-clause-turns
-returns-in-Some-clause-turns g c = turn_ends _ _ _ c.in-Some-round.turned c.loop.invariant.serves c.in-Some-round.ensures.rounds
+pub returns-in-Some-round-clause-turns : goal.returns-in-Some-round-clause-turns
+returns-in-Some-round-clause-turns g c = turn_ends _ _ _ c.in-Some-round.turned c.loop.invariant.serves c.in-Some-round.ensures.rounds

@@ -1,7 +1,7 @@
 -- The turns so far.
 use Rattle.std.proofs.Common.{◌≡◌, false}
 use Rattle.qs_transmission_phase.specs.Serves.{ServesSome, link_scene}
-use Rattle.qs_transmission_phase.proofs.phase.TransmissionPhase.serve.Given as goal
+use Rattle.qs_transmission_phase.proofs.serve.TransmissionPhase+PatientLink+L.serve.Given as goal
 
 abbrev pub invariant-loop : goal.invariant-loop
 invariant-loop g l = record {
@@ -9,7 +9,7 @@ invariant-loop g l = record {
   serves : ServesSome
       (link_scene g.L.Source.left g.L.Sink.sent g.L.Source.read_faults g.L.Sink.write_faults (g.S.Station.book l.fn.station) l.fn.self)
       (link_scene g.L.Source.left g.L.Sink.sent g.L.Source.read_faults g.L.Sink.write_faults (g.S.Station.book l.station) l.self);
-  shape : l.self.value.crew.shape ≡ l.fn.self.value.crew.shape;
+  shape : l.self.value.crew.shape ≡ g.S.Station.shape l.hall;
   there : l.self.value.detached ≡ false;
   later : g.S.Station.follows l.fn.station l.station;
 }
