@@ -40,9 +40,10 @@ fn keep<R: Wait>(rt: &R, kept: &mut Vec<TrialCall>, call: TrialCall)
     }
 }
 
-fn session_reply(op: GraphOp) -> GraphReply
-    requires { IsSessionOp op }
-    ensures { result ≡ session_reply op }
+/// What the graph answers a session with.
+fn session_reply(op: &GraphOp) -> GraphReply
+    requires { IsSessionOp op.now }
+    ensures { result ≡ session_reply op.now }
 {
     match op {
         GraphOp::Detach { .. } => GraphReply::Detached,
@@ -91,7 +92,8 @@ impl Station for TrialStation {
 impl SessionStation for TrialStation {
     #[tactic(auto, using(crate::proofs::Trialled::session_more, crate::proofs::Trialled::session_may))]
     fn session_call<R: Wait>(&mut self, rt: &R, _hall: &Shape, op: GraphOp) -> GraphReply {
+        let reply = session_reply(&op);
         keep(rt, &mut self.kept, TrialCall::ForSession(op));
-        session_reply(op)
+        reply
     }
 }

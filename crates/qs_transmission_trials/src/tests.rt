@@ -121,13 +121,15 @@ fn four_requests(alloc: Global) -> Result<Vec<u8>, AllocError> {
     Ok(input)
 }
 
-/// Their replies.
-fn three_replies(alloc: Global) -> Result<Vec<u8>, AllocError> {
+/// The replies to these of them, in this order: the image is all zeroes.
+fn replies_to(alloc: Global, cookies: &[u64]) -> Result<Vec<u8>, AllocError> {
     let mut output = Vec::new(alloc);
-    push_fine(&mut output, 11)?;
-    output.extend_from_slice(&[0; 512])?;
-    push_fine(&mut output, 12)?;
-    push_fine(&mut output, 13)?;
+    for cookie in cookies {
+        push_fine(&mut output, *cookie)?;
+        if *cookie == 11 {
+            output.extend_from_slice(&[0; 512])?;
+        }
+    }
     Ok(output)
 }
 
@@ -149,93 +151,203 @@ fn left_last(kept: &[TrialCall]) -> bool {
     count == 1 && is_last
 }
 
-/// One session over a wire, to its end.
-fn serve<R: Abort + Wait>(
-    rt: &R,
-    alloc: Global,
-    link: MemLink,
-    unready: &[u64],
+/// A session of which the client sends so many bytes of its four requests. Its reads are cut so; these tries find the
+/// wire not ready; these reads and these writes fail; and so many of the first tries to start have to wait. It ends so,
+/// and the client has the replies to these requests.
+#[derive(Clone, Copy, Drop)]
+struct Trial {
+    name: &'static str,
+    count: usize,
+    cuts: &'static [usize],
+    unready: &'static [u64],
+    bad_reads: &'static [u64],
+    bad_writes: &'static [u64],
     busy: u64,
     end: SessionEnd,
-    sent: &[u8],
-) -> Result<(), Fail> {
-    let wire = MemWire::new(link, unready.to_vec(alloc)?);
+    replies: &'static [u64],
+}
+
+/// A head, a head and its data, and two heads.
+const PIECES: &[usize] = &[28, 28, 512, 28, 28];
+
+const WHOLE: Trial = Trial {
+    name: "whole",
+    count: 624,
+    cuts: &[],
+    unready: &[],
+    bad_reads: &[],
+    bad_writes: &[],
+    busy: 0,
+    end: SessionEnd::Done,
+    replies: &[11, 12, 13],
+};
+
+/// One session over a wire, to its end.
+fn serve<R: Abort + Wait>(rt: &R, alloc: Global, input: &[u8], trial: &Trial) -> Result<(), Fail> {
+    let name = trial.name;
+    let sent = input.get(..trial.count).unwrap_or(input);
+    let link = link_of(alloc, sent, trial.cuts, trial.bad_reads, trial.bad_writes)?;
+    let wire = MemWire::new(link, trial.unready.to_vec(alloc)?);
     let mut phase = phase_of(rt, alloc, wire);
-    let mut at = station(alloc, busy);
+    let mut at = station(alloc, trial.busy);
     let clock = MemClock::new(0);
-    assert_eq!(rt; drive(rt, &IMAGE, &mut at, &clock, &mut phase), end);
+    let end = drive(rt, &IMAGE, &mut at, &clock, &mut phase);
+    assert_eq!(rt; end, trial.end, "{name}");
     let wire: TestWire = phase.into_stream().into_wire();
-    assert_eq!(rt; wire.link().sent(), sent, "{end:?}");
-    assert!(rt; left_last(at.kept.as_slice()), "{end:?}");
+    let replies = replies_to(alloc, trial.replies)?;
+    assert_eq!(rt; wire.link().sent(), replies.as_slice(), "{name}");
+    assert!(rt; left_last(at.kept.as_slice()), "{name}");
     Ok(())
 }
 
 #[test]
-fn replies_come_however_the_wire_goes(rt: HostRuntime) -> Result<(), Fail> {
+fn sessions_end_as_they_should(rt: HostRuntime) -> Result<(), Fail> {
     let alloc = rt.alloc();
     let input = four_requests(alloc)?;
-    let output = three_replies(alloc)?;
-    let cases: [(&[usize], &[u64], u64); 5] = [
-        (&[], &[], 0),
-        (&[20, 30, 1, 13, 500], &[0, 1, 3], 0),
-        (&[1, 1, 1, 27, 28, 511, 2], &[0, 2, 4, 6, 8, 10], 2),
-        (&[28, 28, 512, 28, 28], &[1, 2, 3, 5, 7], 1),
-        (&[], &[1], 40),
+    let trials = [
+        WHOLE,
+        Trial {
+            name: "cut in pieces",
+            cuts: &[1, 1, 1, 27, 28, 511, 2],
+            ..WHOLE
+        },
+        Trial {
+            name: "not ready at tries 0, 1 and 3",
+            cuts: &[20, 30, 1, 13, 500],
+            unready: &[0, 1, 3],
+            ..WHOLE
+        },
+        Trial {
+            name: "not ready for a read, and then for a write",
+            cuts: &[28],
+            unready: &[1, 2],
+            ..WHOLE
+        },
+        Trial {
+            name: "read 0 fails",
+            cuts: PIECES,
+            bad_reads: &[0],
+            end: SessionEnd::LinkFault,
+            replies: &[],
+            ..WHOLE
+        },
+        Trial {
+            name: "read 1 fails",
+            cuts: PIECES,
+            bad_reads: &[1],
+            end: SessionEnd::LinkFault,
+            replies: &[],
+            ..WHOLE
+        },
+        Trial {
+            name: "read 2 fails",
+            cuts: PIECES,
+            bad_reads: &[2],
+            end: SessionEnd::LinkFault,
+            replies: &[],
+            ..WHOLE
+        },
+        Trial {
+            name: "read 3 fails",
+            cuts: PIECES,
+            bad_reads: &[3],
+            end: SessionEnd::LinkFault,
+            replies: &[],
+            ..WHOLE
+        },
+        Trial {
+            name: "read 4 fails",
+            cuts: PIECES,
+            bad_reads: &[4],
+            end: SessionEnd::LinkFault,
+            replies: &[],
+            ..WHOLE
+        },
+        Trial {
+            name: "a read fails behind a reply",
+            cuts: PIECES,
+            unready: &[1],
+            bad_reads: &[1],
+            end: SessionEnd::LinkFault,
+            replies: &[11],
+            ..WHOLE
+        },
+        Trial {
+            name: "write 0 fails",
+            cuts: PIECES,
+            unready: &[1],
+            bad_writes: &[0],
+            end: SessionEnd::LinkFault,
+            replies: &[],
+            ..WHOLE
+        },
+        Trial {
+            name: "write 1 fails",
+            cuts: PIECES,
+            unready: &[1],
+            bad_writes: &[1],
+            end: SessionEnd::LinkFault,
+            replies: &[11],
+            ..WHOLE
+        },
+        Trial {
+            name: "nothing comes",
+            count: 0,
+            replies: &[],
+            ..WHOLE
+        },
+        Trial {
+            name: "the client leaves within a head",
+            count: 27,
+            end: SessionEnd::Truncated,
+            replies: &[],
+            ..WHOLE
+        },
+        Trial {
+            name: "the client leaves within the data of a WRITE",
+            count: 300,
+            end: SessionEnd::Truncated,
+            replies: &[],
+            ..WHOLE
+        },
+        Trial {
+            name: "the client leaves so behind a reply",
+            count: 300,
+            cuts: &[28],
+            unready: &[1],
+            end: SessionEnd::Truncated,
+            replies: &[11],
+            ..WHOLE
+        },
+        Trial {
+            name: "the client leaves between requests",
+            count: 568,
+            replies: &[11, 12],
+            ..WHOLE
+        },
+        Trial {
+            name: "requests are live at the DISC",
+            busy: 2,
+            replies: &[13, 11, 12],
+            ..WHOLE
+        },
     ];
-    for (cuts, unready, busy) in cases {
-        let link = link_of(alloc, input.as_slice(), cuts, &[], &[])?;
-        serve(
-            &rt,
-            alloc,
-            link,
-            unready,
-            busy,
-            SessionEnd::Done,
-            output.as_slice(),
-        )?;
+    for trial in &trials {
+        serve(&rt, alloc, input.as_slice(), trial)?;
     }
     Ok(())
 }
 
+/// What is no request is refused, and the session leaves its export.
 #[test]
-fn faults_end_the_session(rt: HostRuntime) -> Result<(), Fail> {
-    let alloc = rt.alloc();
-    let input = four_requests(alloc)?;
-    let cases: [(&[u64], &[u64]); 3] = [(&[0], &[]), (&[1], &[]), (&[], &[0])];
-    for (bad_reads, bad_writes) in cases {
-        let link = link_of(
-            alloc,
-            &input[..input.len().min(56)],
-            &[28],
-            bad_reads,
-            bad_writes,
-        )?;
-        let end = if bad_writes.is_empty() {
-            SessionEnd::LinkFault
-        } else {
-            SessionEnd::Truncated
-        };
-        serve(&rt, alloc, link, &[], 0, end, &[])?;
-        let link = link_of(alloc, input.as_slice(), &[28], bad_reads, bad_writes)?;
-        serve(&rt, alloc, link, &[], 0, SessionEnd::LinkFault, &[])?;
-    }
-    Ok(())
-}
-
-/// A client that leaves within a message, or sends what is none.
-#[test]
-fn what_is_no_request_is_not_served(rt: HostRuntime) -> Result<(), Fail> {
-    let alloc = rt.alloc();
-    let input = four_requests(alloc)?;
-    for count in [1, 27, 29, 56, 300, 567] {
-        let link = link_of(alloc, &input[..input.len().min(count)], &[], &[], &[])?;
-        serve(&rt, alloc, link, &[], 0, SessionEnd::Truncated, &[])?;
-    }
-    let magic = SessionEnd::BadMagic(0x25609514);
-    let link = link_of(alloc, b"\x25\x60\x95\x14\0", &[], &[], &[])?;
-    serve(&rt, alloc, link, &[], 0, magic, &[])?;
-    let link = link_of(alloc, &[], &[], &[], &[])?;
-    serve(&rt, alloc, link, &[], 0, SessionEnd::Done, &[])
+fn another_magic_is_refused(rt: HostRuntime) -> Result<(), Fail> {
+    let trial = Trial {
+        name: "another magic",
+        end: SessionEnd::BadMagic(0x25609514),
+        replies: &[],
+        ..WHOLE
+    };
+    serve(&rt, rt.alloc(), b"\x25\x60\x95\x14\0", &trial)
 }
 
 /// Sixteen are live while each waits for an earlier one, and the seventeenth is read once one is answered.
@@ -257,6 +369,13 @@ fn sixteen_requests_are_live(rt: HostRuntime) -> Result<(), Fail> {
     let waits = SessionTurn::Pending(Awaited::Part(Need::Tracker));
     assert_eq!(rt; phase.turn(&rt, &IMAGE, &mut at, &clock), waits);
     assert_eq!(rt; phase.live(), 16);
+    assert_eq!(rt;
+        drive(&rt, &IMAGE, &mut at, &clock, &mut phase),
+        SessionEnd::Done
+    );
+    let wire: TestWire = phase.into_stream().into_wire();
+    assert_eq!(rt; wire.link().sent(), output.as_slice());
+    assert!(rt; left_last(at.kept.as_slice()));
     Ok(())
 }
 
@@ -270,7 +389,10 @@ fn a_link_that_waits_is_served(rt: HostRuntime) -> Result<(), Fail> {
     let clock = MemClock::new(0);
     assert_eq!(rt; phase.serve(&rt, &IMAGE, &mut at, &clock), SessionEnd::Done);
     let wire = phase.into_stream().into_wire();
-    assert_eq!(rt; wire.link().sent(), three_replies(alloc)?.as_slice());
+    assert_eq!(rt;
+        wire.link().sent(),
+        replies_to(alloc, &[11, 12, 13])?.as_slice()
+    );
     assert!(rt; left_last(at.kept.as_slice()));
     Ok(())
 }
