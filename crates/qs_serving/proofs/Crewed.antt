@@ -1,27 +1,27 @@
 -- What the events of a crew leave of its live requests.
-use Rattle.std.proofs.Common.{◌≡◌, ◌≢◌, ℕ, ◌+◌, ◌<◌, ◌≤◌, ◌⊎◌, inl, inr, Bool, true, false, true≢false, List, [], ◌∷◌, ◌++◌, length, map, refl, sym, ap, ◌∙◌, subst, arith}
-use Rattle.std.specs.Prelude.{Option, Some, None, IsSome, is_some}
+use Rattle.std.proofs.Common.{◌≡◌, ℕ, ◌<◌, inl, inr, List, [], ◌∷◌, ◌++◌, map, refl, sym, ap, ◌∙◌, subst}
+use Rattle.std.specs.Prelude.{Some, None}
 use Rattle.std.specs.Option.{option_map}
 use Rattle.qs_bytes.specs.declared.ask.Ask.{Ask}
 use Rattle.qs_bytes.specs.declared.ask.Verdict.{Verdict}
 use Rattle.qs_part.specs.declared.graph.GraphReply.{GraphReply}
 use Rattle.qs_part.specs.declared.graph.GraphReply.TheVariants.{Shutting, Routed}
 use Rattle.qs_model.proofs.Basics.{same_or}
-use Rattle.qs_model.specs.Requests.{Req, Stage, ToRoute, In, Ready, abandon}
+use Rattle.qs_model.specs.Requests.{Req, Stage, ToRoute, In, Ready}
 use Rattle.qs_request.proofs.Wanted.{may_reply}
-use Rattle.qs_request.specs.Table.{MayReply, after_graph, followed}
+use Rattle.qs_request.specs.Table.{after_graph, followed}
 use Rattle.qs_request.specs.declared.todo.PartReply.{PartReply}
 use Rattle.qs_request.specs.declared.todo.PartReply.TheVariants.{Tracker as ByTracker, Graph as ByGraph, Stripe as ByStripe}
 use Rattle.qs_task.proofs.Crewing.{request_here, request_past, with_here, with_past, with_is, without_here, without_past}
-use Rattle.qs_task.proofs.Telling.{with_other, without_other}
+use Rattle.qs_task.proofs.Telling.{with_other}
 use Rattle.qs_task.specs.Books.{Book, RequestCall}
-use Rattle.qs_task.specs.Crews.{AnswersNext, Answered, Called, CallsNext, CrewEvent, CrewPolls, CrewRuns, CrewStep, CrewValue, PollAnswers, PollWaits, abandoned_task, live_by_number, with_request, without_request}
+use Rattle.qs_task.specs.Crews.{AnswersNext, Answered, Called, CallsNext, CrewPolls, CrewRuns, CrewValue, abandoned_task, live_by_number, with_request, without_request}
 use Rattle.qs_task.specs.Tasks.{TaskValue}
 use Rattle.qs_task.specs.declared.crew.CrewPoll.{CrewPoll}
 use Rattle.qs_task.specs.declared.crew.CrewPoll.TheVariants.{NoSuch, Pending as StillPending, Answered as HasAnswered}
 use Rattle.qs_serving.proofs.Fitting.{abandon_fits, answer_fits, followed_fits}
 use Rattle.qs_serving.specs.Crewed.{HasReply}
-use Rattle.qs_serving.specs.Fitting.{AllFit, IsAnswerTo, RequestFits, StageFits, TaskFits}
+use Rattle.qs_serving.specs.Fitting.{AllFit, IsAnswerTo, RequestFits, StageFits}
 
 pub fit_live : (A n : ℕ) (live : List TaskValue) (q : Req) → AllFit A live → live_by_number n live ≡ Some q → RequestFits A q
 fit_live A n [] q all is = absurd (nothing is)

@@ -1,26 +1,23 @@
 -- The answer of each request has a reply.
-use Rattle.std.proofs.Common.{◌≡◌, ◌≢◌, ℕ, ◌+◌, ◌*◌, ◌<◌, ◌≤◌, Bool, true, false, true≢false, not, ◌&&◌, ◌||◌, ◌==◌, nat_lt, List, [], ◌∷◌, ◌++◌, length, refl, sym, ap, ◌∙◌, subst, arith, inl, inr, cond, get_or}
-use Rattle.std.specs.Prelude.{Option, Some, None}
+use Rattle.std.proofs.Common.{◌≡◌, ◌≢◌, ℕ, ◌+◌, ◌*◌, ◌<◌, ◌≤◌, Bool, true, false, true≢false, not, ◌&&◌, ◌||◌, ◌==◌, nat_lt, List, [], length, refl, sym, ◌∙◌, arith, inl, inr}
 use Rattle.qs_bytes.specs.Payloads.{max_payload}
-use Rattle.qs_bytes.specs.declared.ask.Errno.TheVariants.{Inval, NoMem, Perm}
+use Rattle.qs_bytes.specs.declared.ask.Errno.TheVariants.{Inval, NoMem}
 use Rattle.qs_bytes.specs.declared.ask.Kind.{Kind}
 use Rattle.qs_bytes.specs.declared.ask.Kind.TheVariants.{Read, Write, Zero, Trim, Flush, Unknown}
-use Rattle.qs_bytes.specs.declared.ask.Ask.{Ask}
 use Rattle.qs_bytes.specs.declared.ask.Verdict.{Verdict}
 use Rattle.qs_bytes.specs.declared.ask.Verdict.TheVariants.{Got, Fine, Refused, Dropped}
 use Rattle.qs_part.specs.declared.graph.GraphReply.{GraphReply}
 use Rattle.qs_part.specs.declared.graph.GraphReply.TheVariants.{Shutting, Routed}
-use Rattle.qs_part.specs.declared.graph.Route.{Route}
 use Rattle.qs_part.specs.declared.stripe.Side.{Side}
 use Rattle.qs_part.specs.declared.stripe.Side.TheVariants.{Head, Tail}
 use Rattle.qs_part.specs.declared.stripe.StripeReply.{StripeReply}
-use Rattle.qs_part.specs.declared.stripe.StripeReply.TheVariants.{Filled, Fault, HeldBy, Taken, Done, Freed, NotHeld, Clean, Synced}
+use Rattle.qs_part.specs.declared.stripe.StripeReply.TheVariants.{Filled, Fault, Done, Freed, Clean, Synced}
 use Rattle.qs_part.specs.declared.tracker.TrackerReply.{TrackerReply}
 use Rattle.qs_part.specs.declared.tracker.TrackerReply.TheVariants.{Entered, Listed, Started, Ended}
-use Rattle.qs_model.specs.Requests.{Client, Req, Stage, Step, ToRoute, ToList, ToStart, ToLoad, ToHold, ToStore, ToSync, ToFree, ToEnd, Ready, Entering, In, abandon, abandoned, abandoned_step, edge, form_error, has, held, hold_failed, is_flush, is_read, is_trim, loaded, new_request, reads, routed, span_of, started, store_failed, stored, stores_bytes, success, synced, verdict, wants_writable, writes}
+use Rattle.qs_model.specs.Requests.{Client, Req, Stage, Step, ToRoute, ToList, ToStart, ToLoad, ToHold, ToStore, ToSync, ToFree, ToEnd, Ready, Entering, In, abandon, abandoned, edge, form_error, has, held, hold_failed, is_flush, is_read, is_trim, loaded, new_request, reads, routed, span_of, started, store_failed, stored, stores_bytes, synced, wants_writable}
 use Rattle.qs_model.proofs.Basics.{choose, either}
 use Rattle.qs_model.proofs.Facts.{Loading}
-use Rattle.qs_model.proofs.Geometry.{Reaches, head_low, head_high, reaches_edge, same_eqb}
+use Rattle.qs_model.proofs.Geometry.{Reaches, head_low, reaches_edge, same_eqb}
 use Rattle.qs_model.proofs.Machine.{loaded_so_far, loaded_whole, next_reach, other_block}
 use Rattle.qs_model.proofs.RequestKinds.{neither, other_one, trim_no_read}
 use Rattle.qs_model.proofs.Syncing.{stored_is, synced_is}

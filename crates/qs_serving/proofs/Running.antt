@@ -1,12 +1,9 @@
 -- Runs of events, one behind the other.
-use Rattle.std.proofs.Common.{◌≡◌, ◌≢◌, ℕ, ◌≤◌, ◌⊎◌, inl, inr, Bool, true, false, true≢false, List, [], ◌∷◌, ◌++◌, refl, sym, ap, ◌∙◌, subst, arith, append_assoc, append-nil}
+use Rattle.std.proofs.Common.{◌≡◌, ℕ, ◌⊎◌, inl, inr, true, true≢false, List, [], ◌∷◌, ◌++◌, refl, sym, ap, ◌∙◌, subst, arith, append_assoc, append-nil}
 use Rattle.std.specs.Prelude.{Option, Some, None, IsSome, ◌==◌, if◌then◌else◌}
-use Rattle.std.specs.Io.KnownBytes.{Consumes}
-use Rattle.qs_bytes.specs.declared.ask.Errno.{Errno}
 use Rattle.qs_bytes.specs.declared.ask.Errno.TheVariants.{Shutdown}
 use Rattle.qs_bytes.specs.declared.ask.Verdict.{Verdict}
 use Rattle.qs_bytes.specs.declared.ask.Verdict.TheVariants.{Refused}
-use Rattle.qs_outside.specs.Faults.{Rose}
 use Rattle.qs_status.specs.declared.status.SessionEnd.{SessionEnd}
 use Rattle.qs_status.specs.declared.status.SessionEnd.TheVariants.{Done}
 use Rattle.qs_stream.specs.Bytes.{Takes}

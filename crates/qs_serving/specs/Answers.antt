@@ -1,10 +1,10 @@
 -- What is sent for a verdict, and what a verdict means for its session.
-use Rattle.std.specs.Prelude.{◌≡◌, ℕ, ◌+◌, ◌≤◌, Bool, true, false, ◌&&◌, nat_le, if◌then◌else◌, List, [], ◌∷◌, Option, Some, None, not, ◌||◌}
+use Rattle.std.specs.Prelude.{ℕ, Bool, true, false, if◌then◌else◌, List, [], Option, Some, None}
 use Rattle.qs_bytes.specs.declared.ask.Ask.{Ask}
 use Rattle.qs_bytes.specs.declared.ask.Errno.TheVariants.{Shutdown}
 use Rattle.qs_bytes.specs.declared.ask.Verdict.{Verdict}
 use Rattle.qs_bytes.specs.declared.ask.Verdict.TheVariants.{Got, Fine, Refused, Dropped}
-use Rattle.qs_nbd_transmission.specs.Replies.{CanReply, reply_of}
+use Rattle.qs_nbd_transmission.specs.Replies.{reply_of}
 use Rattle.qs_status.specs.declared.status.SessionEnd.{SessionEnd}
 use Rattle.qs_status.specs.declared.status.SessionEnd.TheVariants.{Done, Truncated, BadMagic, BadFlags, TooLong, Shutting, LinkFault, Memory}
 

@@ -5,7 +5,7 @@ use Rattle.qs_bytes.specs.declared.ask.Ask.{Ask}
 use Rattle.qs_bytes.specs.declared.ask.Verdict.{Verdict}
 use Rattle.qs_bytes.specs.declared.ask.Verdict.TheVariants.{Dropped}
 use Rattle.qs_bytes.specs.Payloads.{max_payload}
-use Rattle.qs_model.specs.Requests.{Client, Req, Stage, Step, ToRoute, ToList, ToStart, ToLoad, ToHold, ToStore, ToSync, ToFree, ToEnd, Ready, Entering, In, edge, is_read, span_of}
+use Rattle.qs_model.specs.Requests.{Client, Req, Stage, Step, ToRoute, ToList, ToStart, ToLoad, ToEnd, Ready, Entering, In, edge, is_read, span_of}
 use Rattle.qs_part.specs.declared.stripe.Side.TheVariants.{Head, Tail}
 use Rattle.qs_nbd_transmission.specs.Replies.{CanReply}
 use Rattle.qs_task.specs.Tasks.{TaskValue}

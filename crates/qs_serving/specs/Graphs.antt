@@ -1,5 +1,5 @@
 -- A session's own calls of the graph.
-use Rattle.std.specs.Prelude.{List, [], ◌∷◌, ◌++◌}
+use Rattle.std.specs.Prelude.{[], ◌∷◌, ◌++◌}
 use Rattle.qs_part.specs.declared.graph.GraphOp.{GraphOp}
 use Rattle.qs_part.specs.declared.graph.GraphOp.TheVariants.{Find, Attach, Detach, ListExports}
 use Rattle.qs_part.specs.declared.graph.GraphReply.{GraphReply}

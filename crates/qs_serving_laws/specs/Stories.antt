@@ -1,9 +1,8 @@
 -- What the events of a transmission phase tell of its requests, its bytes and its end.
-use Rattle.std.specs.Prelude.{◌≡◌, ℕ, ◌+◌, Bool, true, false, List, [], ◌∷◌, ◌++◌, map, Option, Some}
+use Rattle.std.specs.Prelude.{◌≡◌, ℕ, ◌+◌, Bool, true, false, List, [], ◌∷◌, ◌++◌, map, Some}
 use Rattle.std.specs.List.{flat_map}
 use Rattle.qs_bytes.specs.declared.ask.Ask.{Ask}
-use Rattle.qs_bytes.specs.declared.ask.Verdict.{Verdict}
-use Rattle.qs_nbd_transmission.specs.Phases.{InHead, Reader}
+use Rattle.qs_nbd_transmission.specs.Phases.{InHead}
 use Rattle.qs_nbd_transmission.specs.Sessions.{Gave, ReaderCall, TellsEvents, Took, told_by}
 use Rattle.qs_nbd_transmission.specs.declared.event.WireEvent.TheVariants.{Head, Bad}
 use Rattle.qs_part.specs.declared.graph.GraphReply.{GraphReply}

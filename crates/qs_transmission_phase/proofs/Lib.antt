@@ -1,0 +1,5 @@
+pub mod Fits
+pub mod Reading
+pub mod Hearing
+pub mod Polling
+pub mod Turning
