@@ -11,12 +11,12 @@ use Rattle.qs_nbd_transmission.specs.declared.event.WireEvent.{WireEvent}
 use Rattle.qs_nbd_transmission.specs.declared.event.WireEvent.TheVariants.{Head, Body, Disc, Bad}
 use Rattle.qs_nbd_wire.specs.declared.request.RequestHead.{RequestHead}
 use Rattle.qs_status.specs.declared.status.SessionEnd.{SessionEnd}
-use Rattle.qs_stream.proofs.Bytes.{gives_none, takes_split}
 use Rattle.qs_task.specs.Books.{Book}
 use Rattle.qs_task.specs.Crews.{CrewValue}
-use Rattle.qs_wire_stream.specs.Currents.{Advanced, Current, current}
+use Rattle.qs_wire_stream.specs.Currents.{Current, current}
 use Rattle.qs_wire_stream.specs.Pending.{WireBuffers}
-use Rattle.qs_serving.proofs.Running.{advanced_as, serves_none, serves_on}
+use Rattle.qs_serving.proofs.Running.{serves_none, serves_on}
+use Rattle.qs_serving.proofs.Streams.{fed_current}
 use Rattle.qs_serving.specs.Answers.{is_fault}
 use Rattle.qs_serving.specs.Events.{ServingEvent, BeganTask, GaveRoom, TookBytes}
 use Rattle.qs_serving.specs.Scenes.{ServesOn, ServingScene}
@@ -27,17 +27,6 @@ use Rattle.qs_transmission_phase.specs.Serves.{FeedsReader, ServesSome}
 
 abbrev pub scene_of : ServingValue → Current → Book → ServingScene
 scene_of v a book = record { value = v; current = a; book = book }
-
-fed_current : (a : Current) (bytes waiting : List ℕ) → a.waiting ≡ bytes ++ waiting → Advanced (bytes ++ []) [] a (record a { waiting = waiting })
-fed_current a bytes waiting is =
-    let goes : Advanced bytes [] a (record a { waiting = waiting }) = record {
-      takes = takes_split a.left a.waiting bytes waiting is;
-      gives = gives_none a.sent a.held;
-      reads = omega arith;
-      writes = omega arith;
-      waits = omega arith;
-    } in
-    advanced_as bytes (bytes ++ []) [] [] a (record a { waiting = waiting }) (sym (append-nil bytes)) refl goes
 
 -- the reader took bytes
 told_serves : (v : ServingValue) (a : Current) (book : Book) (bytes : List ℕ) (told : Option WireEvent) (phase : Phase) (waiting : List ℕ) →

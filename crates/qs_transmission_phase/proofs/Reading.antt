@@ -1,16 +1,15 @@
 -- What a read brings, and what the reader tells.
 use Rattle.std.proofs.Common.{◌≡◌, ◌≢◌, ℕ, inl, true, false, true≢false, List, [], ◌∷◌, ◌++◌, refl, sym, ap, ◌∙◌, subst, append-nil}
 use Rattle.std.specs.Prelude.{Option, Some, None}
-use Rattle.std.specs.Io.KnownBytes.{IsAtEnd}
 use Rattle.qs_links.specs.declared.wire.Tried.TheVariants.{Ended, Failed}
 use Rattle.qs_nbd_transmission.specs.Phases.{end_at}
 use Rattle.qs_status.specs.declared.status.SessionEnd.{SessionEnd}
 use Rattle.qs_status.specs.declared.status.SessionEnd.TheVariants.{LinkFault}
-use Rattle.qs_stream.specs.Bytes.{Takes}
 use Rattle.qs_task.specs.Books.{Book}
 use Rattle.qs_task.specs.Crews.{CrewValue}
 use Rattle.qs_wire_stream.specs.Currents.{Current, TriesRead}
 use Rattle.qs_serving.proofs.Running.{serves_none, serves_on}
+use Rattle.qs_serving.proofs.Streams.{all_ended}
 use Rattle.qs_serving.specs.Answers.{is_fault}
 use Rattle.qs_serving.specs.Events.{InputStopped, WireBroke}
 use Rattle.qs_serving.specs.Scenes.{ServingScene, TakesAll}
@@ -20,14 +19,6 @@ use Rattle.qs_transmission_phase.specs.Serves.{IsInPlace, ServesSome, phase_scen
 
 pub not_broken : (o : Option SessionEnd) → o ≡ None → o ≢ Some LinkFault
 not_broken o is broken = let e : None ≡ Some LinkFault = sym is ∙ broken in (cc)
-
-all_ended : (left left' : Option (List ℕ)) (waiting waiting' : List ℕ) → Takes left waiting [] left' waiting' → waiting' ≡ [] →
-    IsAtEnd left' → TakesAll left waiting []
-all_ended None left' waiting waiting' takes empty over = tt
-all_ended (Some xs) None waiting waiting' takes empty over = absurd takes.read
-all_ended (Some xs) (Some ys) waiting waiting' takes empty over =
-    ap (λ (zs : List ℕ). waiting ++ zs) (takes.read ∙ ap (λ (zs : List ℕ). takes.more ++ zs) over ∙ append-nil takes.more)
-    ∙ takes.joined ∙ empty
 
 -- the session closes so
 pub closed_is : (v : ServingValue) (end : SessionEnd) (ended : Option SessionEnd) (crew : CrewValue) → ended ≡ Some end →
