@@ -1,11 +1,11 @@
 ghost use Rattle.std.specs.Prelude.{◌≡◌, ◌+◌, ◌≤◌, false, IfOk};
 
 use crate::drive::drive;
-use crate::station::{TrialCall, TrialStation};
+use crate::station::{OwnCall, TrialCall, TrialStation};
 use qs_bytes::{Bytes, Mode};
 use qs_links::{MemLink, MemWire};
 use qs_outside::{MemClock, MemSink, MemSource};
-use qs_part::graph::{GraphOp, Route};
+use qs_part::graph::Route;
 use qs_request_state::Shape;
 use qs_serving::{Awaited, SessionTurn};
 use qs_status::SessionEnd;
@@ -83,6 +83,7 @@ fn station(alloc: Global, busy: u64) -> TrialStation
 {
     TrialStation {
         alloc,
+        stands: None,
         way: WAY,
         busy,
         kept: Vec::new(alloc),
@@ -138,7 +139,7 @@ fn left_last(kept: &[TrialCall]) -> bool {
     let mut count = 0_usize;
     for call in kept {
         match call {
-            TrialCall::ForSession(GraphOp::Detach { e: EXPORT }) => {
+            TrialCall::ForSession(OwnCall::Detach(EXPORT)) => {
                 count = count.saturating_add(1);
             }
             _ => {}

@@ -1,5 +1,5 @@
 use Rattle.std.proofs.Common.{◌≡◌, false}
-use Rattle.qs_transmission_trials.proofs.drive.drive.Given as goal
+use Rattle.qs_session_trials.proofs.drive.drive.Given as goal
 
 abbrev pub invariant-loop : goal.invariant-loop
 invariant-loop g l = record {
