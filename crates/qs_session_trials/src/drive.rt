@@ -1,5 +1,6 @@
 ghost use Rattle.std.specs.Prelude.{◌≡◌, false, true};
 
+use qs_handshake_phase::{HandshakeEnd, HandshakePhase};
 use qs_links::Wire;
 use qs_outside::Clock;
 use qs_serving::{SessionStation, SessionTurn};
@@ -25,6 +26,25 @@ pub fn drive<W: Wire, S: SessionStation, C: Clock, R: Wait>(
         match phase.turn(rt, hall, station, clock) {
             SessionTurn::Ended(end) => return end,
             SessionTurn::Pending(_) => {}
+        }
+    }
+    unreachable!()
+}
+
+/// Turns until the handshake has ended.
+pub fn greet<W: Wire, S: SessionStation, R: Wait>(
+    rt: &R,
+    hall: &S::Hall,
+    station: &mut S,
+    phase: &mut HandshakePhase<W>,
+) -> HandshakeEnd
+    requires of { S.is_of hall.now station.old }
+    ensures of { S.is_of hall.now station.new }
+{
+    for _ in rt.forever() {
+        match phase.turn(rt, hall, station) {
+            Some(end) => return end,
+            None => {}
         }
     }
     unreachable!()

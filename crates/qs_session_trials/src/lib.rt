@@ -2,6 +2,8 @@
 #![tactic(auto)]
 
 pub mod drive;
+#[cfg(test)]
+mod handshake_tests;
 pub mod station;
 #[cfg(test)]
 mod tests;
