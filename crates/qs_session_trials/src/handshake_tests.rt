@@ -1,3 +1,5 @@
+ghost use Rattle.std.specs.Prelude.{◌+◌, ◌≤◌};
+
 use crate::drive::greet;
 use crate::station::{OwnCall, TrialCall, TrialStation};
 use qs_bytes::{Bytes, Mode, Name};
