@@ -97,8 +97,11 @@ reader_more a b c call calls is one goes =
     record {
       leads = (
         one.0,
-        (one.1.0, subst (λ (p : Phase). CallsLead a.structured p calls c.phase) one.1.1
-            (subst (λ (s : Bool). CallsLead s b.phase calls c.phase) same goes.leads)),
+        (
+          one.1.0,
+          subst (λ (p : Phase). CallsLead a.structured p calls c.phase) one.1.1
+              (subst (λ (s : Bool). CallsLead s b.phase calls c.phase) same goes.leads),
+        ),
       );
       same = goes.same ∙ same;
     }
